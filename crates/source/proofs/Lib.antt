@@ -1,0 +1,7 @@
+-- What the functions' proofs share, and what other crates cite.
+pub mod Rows
+pub mod Shifts
+pub mod Facts
+pub mod Answers
+pub mod Kept
+pub mod Packets

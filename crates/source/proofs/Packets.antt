@@ -1,0 +1,159 @@
+-- The records of a block, one after the other: what is left of them at a place. Assumes nothing.
+use mathlib.Core.Path.{_≡_, refl, sym, ap, ap₂, _∙_}
+use mathlib.Core.Bool.{true, false, _&&_}
+use mathlib.Core.List.{List, [], _∷_}
+use Prim.Native.Nat.{ℕ, zero, suc, _+_, _-_, _*_, _/_, _%_, _≤_, _<_}
+use native.Mathlib.Nat.{suc-mul, div-add-mod'}
+use native.Mathlib.Omega.{arith}
+use borrow.Author.Tests.{le-leb, lt-leb, leb-true}
+use lib.Dec.{eqb, leb}
+use lib.ListN.{length, getD, drop}
+use lib.Seq.{getD-drop, drop-drop}
+use Rattle.words.specs.BigEndian.{word}
+use Rattle.words.proofs.BigEndian.{word-two, word-drop}
+use Rattle.words.specs.Refusals.{numberOf}
+use Rattle.words.proofs.Conditions.{and-left, and-right}
+use Rattle.source.specs.declared.Source.{Source}
+use Rattle.source.specs.declared.Arrival.{Arrival}
+use Rattle.source.specs.declared.Arrival.the-variants.{Accepted, Refused}
+use Rattle.source.specs.declared.BlockCount.the-variants.{Counted}
+use Rattle.source.specs.Record.{sound}
+use Rattle.source.specs.Arrivals.{arrival, after}
+use Rattle.source.specs.Blocks.{Packet, packets, marksFit, jump, counting}
+use Rattle.source.proofs.Rows.{bit-le}
+
+-- the record of `width` bytes at a place
+abbrev pub packet : ℕ → List ℕ → ℕ → Packet
+packet width s at = record { wire = record { 0 = word 2 s (at + (width - 4)) }; mark = getD s (at + (width - 2)) 0 }
+
+-- as a loop reads it
+pub packet-is : (width : ℕ) (s : List ℕ) (at : ℕ) → 4 ≤ width → {n m : ℕ} → n ≡ word 2 (getD s (at + width - 4) 0 ∷ getD s (at + width - 4 + 1) 0 ∷ []) 0
+    → m ≡ getD s (at + width - 4 + 2) 0 → _≡_ {A = Packet} (record { wire = record { 0 = n }; mark = m }) (packet width s at)
+packet-is width s at h en em =
+    let first : at + width - 4 ≡ at + (width - 4) = omega arith in
+    let third : at + width - 4 + 2 ≡ at + (width - 2) = omega arith in
+    let number = en ∙ word-two (getD s (at + width - 4) 0 ∷ getD s (at + width - 4 + 1) 0 ∷ []) 0 ∙ sym (word-two s (at + width - 4)) ∙ ap (word 2 s) first in
+    let mark = em ∙ ap (λ (i : ℕ). getD s i 0) third in
+    λ i. record { wire = record { 0 = number i }; mark = mark i }
+
+pub jump-le : (a : Arrival) → jump a ≤ 1
+jump-le (Accepted s) = omega arith
+jump-le (Refused refusal s) = bit-le (eqb (numberOf refusal) 7)
+
+-- k records are left at a place
+module _ (width : ℕ) (s : List ℕ) where
+  pub record Left (at : ℕ) : Type 0 where
+    pub k : ℕ
+    pub whole : at + k * width ≡ length s
+
+  abbrev pub rest : (at : ℕ) → Left at → List Packet
+  rest at l = packets width (l .k) (drop at s)
+
+  pub all-left : length s % width ≡ 0 → Left 0
+  all-left e = record { k = length s / width; whole = let d = div-add-mod' (length s) width in omega arith }
+
+  -- at the end there are none
+  pub none-left : (at : ℕ) (l : Left at) → 1 ≤ width → length s ≤ at → rest at l ≡ []
+  unfolding packets
+  none-left at l w h = go (l .k) (l .whole)
+    where
+      go : (k : ℕ) → at + k * width ≡ length s → packets width k (drop at s) ≡ []
+      go zero e = refl
+      go (suc k) e = absurd (omega (arith, suc-mul k width))
+
+  -- before it there is one, and the others
+  pub record Next (at : ℕ) (l : Left at) : Type 0 where
+    pub after : Left (at + width)
+    pub one-less : l .k ≡ suc (after .k)
+    pub is : rest at l ≡ packet width s at ∷ rest (at + width) after
+
+  pub one-left : (at : ℕ) (l : Left at) → at < length s → Next at l
+  unfolding packets
+  one-left at l h = go l (l .k) refl
+    where
+      go : (l : Left at) (k : ℕ) → l .k ≡ k → Next at l
+      go l zero e = absurd (omega (arith, l .whole, ap (λ (i : ℕ). i * width) e))
+      go l (suc k) e = record {
+        after = record { k = k; whole = omega (arith, l .whole, ap (λ (i : ℕ). i * width) e, suc-mul k width) };
+        one-less = e;
+        is = rw (e, word-drop 2 at s (width - 4), getD-drop at s (width - 2) 0, drop-drop width at s);
+      }
+
+  -- and it is whole
+  pub room-left : (at : ℕ) (l : Left at) → at < length s → at + width ≤ length s
+  room-left at l h = omega (arith, one-left at l h .after .whole)
+
+-- ---- the loops over a block
+
+-- the marks that are left decide
+module _ (width : ℕ) (s : List ℕ) (at : ℕ) where
+  pub record MarksLeft : Type 0 where
+    pub left : Left width s at
+    pub same : marksFit (rest width s at left) ≡ marksFit (packets width (length s / width) s)
+
+module _ (width : ℕ) (s : List ℕ) where
+  pub marks-start : length s % width ≡ 0 → MarksLeft width s 0
+  unfolding all-left
+  marks-start e = record { left = all-left width s e; same = refl }
+
+  module _ (at : ℕ) (m : MarksLeft width s at) where
+    pub marks-end : 1 ≤ width → length s ≤ at → true ≡ marksFit (packets width (length s / width) s)
+    marks-end w h = ap marksFit (sym (none-left width s at (m .left) w h)) ∙ m .same
+
+    module _ (h : at < length s) where
+      here : marksFit (packets width (length s / width) s) ≡ (leb (getD s (at + (width - 2)) 0) 3 && marksFit (rest width s (at + width) (one-left width s at (m .left) h .after)))
+      here = sym (m .same) ∙ ap marksFit (one-left width s at (m .left) h .is)
+
+      pub marks-fail : 3 < getD s (at + (width - 2)) 0 → false ≡ marksFit (packets width (length s / width) s)
+      marks-fail g = sym (here ∙ rw (lt-leb (getD s (at + (width - 2)) 0) 3 g))
+
+      pub marks-next : getD s (at + (width - 2)) 0 ≤ 3 → MarksLeft width s (at + width)
+      marks-next g = record {
+        left = one-left width s at (m .left) h .after;
+        same = sym (here ∙ rw (le-leb (getD s (at + (width - 2)) 0) 3 g));
+      }
+
+-- the count of the records that are left is the count of all
+module _ (width : ℕ) (s : List ℕ) (start : Source) where
+  pub record CountLeft (at : ℕ) (state : Source) (jumps : ℕ) : Type 0 where
+    pub left : Left width s at
+    pub fit : marksFit (rest width s at left) ≡ true
+    pub few : jumps + left .k ≤ 62
+    pub good : sound state ≡ true
+    pub same : counting (rest width s at left) state jumps ≡ counting (packets width (length s / width) s) start 0
+
+  pub count-start : length s % width ≡ 0 → length s / width ≤ 62 → marksFit (packets width (length s / width) s) ≡ true → sound start ≡ true → CountLeft 0 start 0
+  unfolding all-left
+  count-start e l m g = record { left = all-left width s e; fit = m; few = omega arith; good = g; same = refl }
+
+  module _ (at : ℕ) (state : Source) (jumps : ℕ) (c : CountLeft at state jumps) where
+    pub count-end : 1 ≤ width → length s ≤ at → Counted state jumps ≡ counting (packets width (length s / width) s) start 0
+    unfolding counting
+    count-end w h = ap (λ (ps : List Packet). counting ps state jumps) (sym (none-left width s at (c .left) w h)) ∙ c .same
+
+    module _ (h : at < length s) where
+      next : Next width s at (c .left)
+      next = one-left width s at (c .left) h
+
+      fits : (leb (packet width s at .mark) 3 && marksFit (rest width s (at + width) (next .after))) ≡ true
+      fits = sym (ap marksFit (next .is)) ∙ c .fit
+
+      pub mark-here : packet width s at .mark ≤ 3
+      mark-here = leb-true (packet width s at .mark) 3 (and-left (leb (packet width s at .mark) 3) _ fits)
+
+      pub few-here : jumps < 62
+      few-here = omega (arith, c .few, next .one-less)
+
+      pub count-next : (state′ : Source) (jumps′ : ℕ) → sound state′ ≡ true → jumps′ ≤ jumps + 1
+          → state′ ≡ after (arrival state (packet width s at .wire) (packet width s at .mark))
+          → jumps′ ≡ jumps + jump (arrival state (packet width s at .wire) (packet width s at .mark))
+          → CountLeft (at + width) state′ jumps′
+      unfolding counting
+      count-next state′ jumps′ g l es ej = record {
+        left = next .after;
+        fit = and-right (leb (packet width s at .mark) 3) _ fits;
+        few = omega (arith, c .few, next .one-less, l);
+        good = g;
+        same = ap₂ (λ (t : Source) (n : ℕ). counting (rest width s (at + width) (next .after)) t n) es ej
+            ∙ ap (λ (ps : List Packet). counting ps state jumps) (sym (next .is)) ∙ c .same;
+      }

@@ -1,0 +1,35 @@
+-- `source::Source::count_block` meets its contract. Assumes nothing.
+use borrow.Author.Needs.{needs}
+use Rattle.words.proofs.Conditions.{was-false, was-true}
+use Rattle.source.specs.Blocks.{blockCount}
+use Rattle.source.proofs.Source.count_block.Statement.{statement}
+use Rattle.source.proofs.Source.count_block.Tie as tie
+
+is-sound-requires : tie.Need-is-sound-requires
+is-sound-requires c κs = search needs
+
+returns : tie.Need-returns
+unfolding blockCount
+returns c = rw (was-false (c .before .is-sound .ensures) (c .if1 .taken))
+
+in-limits-requires : tie.Need-in-limits-requires
+in-limits-requires c κs = search needs
+
+returns-2 : tie.Need-returns-2
+unfolding blockCount
+returns-2 c =
+    rw (was-true (c .before .before .before .is-sound .ensures) (c .before .before .if1 .left), was-false (c .before .in-limits .ensures) (c .if2 .taken))
+
+count-requires : tie.Need-count-requires
+count-requires c κs =
+    (was-true (c .before .before .before .is-sound .ensures) (c .before .before .if1 .left), was-true (c .before .in-limits .ensures) (c .if2 .left))
+
+returns-3 : tie.Need-returns-3
+unfolding blockCount
+returns-3 c =
+    rw (was-true (c .before .before .before .before .is-sound .ensures) (c .before .before .before .if1 .left), was-true (c .before .before .in-limits .ensures) (c .before .if2 .left)) (c .count .ensures)
+
+pub count-block-spec : {M : Type 1} → statement M
+count-block-spec =
+    tie.close
+    (tie.spec is-sound-requires returns in-limits-requires returns-2 count-requires returns-3)

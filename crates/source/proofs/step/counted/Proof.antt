@@ -1,0 +1,36 @@
+-- `source::step::counted` meets its contract. Assumes nothing.
+use borrow.Author.Needs.{needs}
+use Rattle.source.specs.Arrivals.{counted}
+use Rattle.source.proofs.step.counted.Statement.{statement}
+use Rattle.source.proofs.step.counted.Tie as tie
+
+raised-requires : tie.Need-raised-requires
+raised-requires c κs = search needs
+
+raised-requires-2 : tie.Need-raised-requires-2
+raised-requires-2 c κs = search needs
+
+raised-requires-3 : tie.Need-raised-requires-3
+raised-requires-3 c κs = search needs
+
+raised-requires-4 : tie.Need-raised-requires-4
+raised-requires-4 c κs = search needs
+
+returns : tie.Need-returns
+unfolding counted
+returns c =
+    λ i. record {
+      base = c .before .before .before .before .args .base;
+      highest = c .before .before .before .before .args .highest;
+      notect = c .before .before .before .raised .ensures i;
+      ect1 = c .before .before .raised2 .ensures i;
+      ect0 = c .before .raised3 .ensures i;
+      ce = c .raised4 .ensures i;
+      duplicates = c .before .before .before .before .args .duplicates;
+      history = c .before .before .before .before .args .history;
+    }
+
+pub counted-spec : {M : Type 1} → statement M
+counted-spec =
+    tie.close
+    (tie.spec raised-requires raised-requires-2 raised-requires-3 raised-requires-4 returns)

@@ -1,0 +1,29 @@
+-- `source::step::first` meets its contract. Assumes nothing.
+use borrow.Author.Needs.{needs}
+use mathlib.Core.Path.{ap, ap₂, _∙_}
+use Prim.Native.Nat.{_-_}
+use mir.Syntax.{w64}
+use mir.ValLaws.{toZ-pos}
+use native.Mathlib.Omega.{arith}
+use Rattle.source.specs.Arrivals.{counted, first, extended}
+use Rattle.source.specs.declared.History.{History}
+use Rattle.source.specs.declared.Extended.{Extended}
+use Rattle.source.proofs.Shifts.{first-history}
+use Rattle.source.proofs.step.first.Statement.{statement}
+use Rattle.source.proofs.step.first.Tie as tie
+
+cast-t6 : tie.Need-cast-t6
+cast-t6 c = search needs
+
+counted-requires : tie.Need-counted-requires
+counted-requires c κs = search needs
+
+returns : tie.Need-returns
+unfolding first
+returns c =
+    let a = c .before .before .args in
+    c .counted .ensures
+    ∙ ap₂ (λ (e : Extended) (h : History). counted (a .s) (a .mark) e e 0 h) (ap extended (toZ-pos w64 (a .wire .0) (omega arith))) first-history
+
+pub first-spec : {M : Type 1} → statement M
+first-spec = tie.close (tie.spec cast-t6 counted-requires returns)

@@ -1,0 +1,75 @@
+-- `source::step::step` meets its contract. Assumes nothing.
+use borrow.Author.Needs.{needs}
+use mathlib.Core.Path.{_≡_, sym, ap, _∙_}
+use native.Mathlib.Omega.{arith}
+use Prim.Native.Nat.{ℕ, _-_, _≤_}
+use borrow.Author.Tests.{ne-eqb}
+use mathlib.Core.Bool.{true}
+use lib.IntN.{pos, _-ℤ_}
+use Rattle.source.specs.Arrivals.{first, later, distance}
+use Rattle.source.specs.declared.Arrival.the-variants.{Accepted}
+use Rattle.source.proofs.Answers.{arrival-full, arrival-first, arrival-later}
+use Rattle.source.proofs.Facts.{facts, highest-fits, sound-most, sound-counting, fresh-is}
+use Rattle.words.proofs.Integers.{modulo-lt}
+use Rattle.source.specs.Record.{arrivals, counting, sound}
+use Rattle.source.specs.declared.Source.{Source}
+use Rattle.source.proofs.step.step.Statement.{statement}
+use Rattle.source.proofs.step.step.Tie as tie
+
+-- a sound record with an arrival has counted
+counted-some : (s : Source) → sound s ≡ true → 1 ≤ arrivals s → counting s ≡ true
+counted-some s e h = sound-counting s e (fresh-is s e ∙ ne-eqb (arrivals s) 0 (λ z. omega arith))
+
+add-n : tie.Need-add-n
+add-n c = omega (arith, sound-most (c .before .args .s) (c .before .pre .0))
+
+add-n-2 : tie.Need-add-n-2
+add-n-2 c = omega (arith, sound-most (c .before .before .args .s) (c .before .before .pre .0))
+
+add-n-3 : tie.Need-add-n-3
+add-n-3 c = omega (arith, sound-most (c .before .before .before .args .s) (c .before .before .before .pre .0))
+
+returns : tie.Need-returns
+returns c =
+    let p = c .before .before .before .before in
+    sym (arrival-full (p .args .s) (p .args .wire) (p .args .mark) (p .pre .0) (p .pre .1) (c .if1 .taken))
+
+first-requires : tie.Need-first-requires
+first-requires c κs = search needs
+
+returns-2 : tie.Need-returns-2
+returns-2 c =
+    let p = c .before .before .before .before .before .before in
+    ap Accepted (c .first .ensures) ∙ sym (arrival-first (p .args .s) (p .args .wire) (p .args .mark) (p .pre .0) (p .pre .1) (c .before .if2 .taken))
+
+distance-requires : tie.Need-distance-requires
+distance-requires c κs =
+    let s = c .before .before .before .before .before .before .args .s in
+    highest-fits s (facts s (counted-some s (c .before .before .before .before .before .before .pre .0) (omega arith))) .0
+
+later-requires : tie.Need-later-requires
+unfolding distance
+later-requires c κs =
+    let p = c .before .before .before .before .before .before .before in
+    (counted-some (p .args .s) (p .pre .0) (omega arith), omega arith, rw (c .distance .ensures) (modulo-lt 65536 (omega arith) (pos (p .args .wire .0) -ℤ p .args .s .highest .0)))
+
+returns-3 : tie.Need-returns-3
+returns-3 c =
+    let p = c .before .before .before .before .before .before .before .before in
+    c .later .ensures
+    ∙ ap (λ (d : ℕ). later (p .args .s) d (p .args .mark)) (c .before .distance .ensures)
+    ∙ sym (arrival-later (p .args .s) (p .args .wire) (p .args .mark) (p .pre .0) (p .pre .1) (omega arith) (omega arith))
+
+pub step-spec : {M : Type 1} → statement M
+step-spec =
+    tie.close
+    (tie.spec
+    add-n
+    add-n-2
+    add-n-3
+    returns
+    first-requires
+    returns-2
+    distance-requires
+    later-requires
+    returns-3)

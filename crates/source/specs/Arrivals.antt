@@ -1,0 +1,70 @@
+-- What one arrival does to a record (document 01, "Counting arrivals"). Marks: 0 not-ECT, 1 ECT(1), 2 ECT(0), 3 CE (RFC 3168).
+use Prim.Native.Nat.{ℕ, _+_, _-_, _%_, _^_}
+use mathlib.Core.Bool.{cond, not, _&&_, _||_}
+use lib.Dec.{eqb, leb, ltb}
+use lib.IntN.{ℤ, pos, _+ℤ_, _-ℤ_}
+use Rattle.words.specs.Integers.{modulo}
+use Rattle.words.specs.declared.Refusal.the-variants.{Jump, Full, Malformed, Limits}
+use Rattle.source.specs.declared.Wire.{Wire}
+use Rattle.source.specs.declared.Extended.{Extended}
+use Rattle.source.specs.declared.History.{History}
+use Rattle.source.specs.declared.Source.{Source}
+use Rattle.source.specs.declared.Arrival.{Arrival}
+use Rattle.source.specs.declared.Arrival.the-variants.{Accepted, Refused}
+use Rattle.source.specs.Places.{bit, history, marks, moved, added}
+use Rattle.source.specs.Record.{arrivals, fresh, sound}
+
+abbrev pub extended : ℤ → Extended
+extended z = record { 0 = z }
+
+-- the record after an accepted arrival: its mark counted; base, highest, duplicates and history as given
+unfoldable pub counted : Source → ℕ → Extended → Extended → ℕ → History → Source
+counted s mark base highest duplicates past = record {
+  base = base;
+  highest = highest;
+  notect = s .notect + bit (eqb mark 0);
+  ect1 = s .ect1 + bit (eqb mark 1);
+  ect0 = s .ect0 + bit (eqb mark 2);
+  ce = s .ce + bit (eqb mark 3);
+  duplicates = duplicates;
+  history = past;
+}
+
+-- the first arrival sets base and highest to its wire number
+unfoldable pub first : Source → Wire → ℕ → Source
+first s wire mark = counted s mark (extended (pos (wire .0))) (extended (pos (wire .0))) 0 (history (λ k. eqb k 0))
+
+-- the extended number is highest + d, the new highest
+unfoldable pub ahead : Source → ℕ → ℕ → Source
+ahead s d mark =
+    counted s mark (s .base) (extended (s .highest .0 +ℤ pos d)) (s .duplicates) (history (added 0 (moved d (marks (s .history)))))
+
+-- the extended number is highest - k: a duplicate if that number has arrived before
+unfoldable pub behind : Source → ℕ → ℕ → Source
+behind s k mark =
+    counted s mark (s .base) (s .highest) (s .duplicates + bit (marks (s .history) k)) (history (added k (marks (s .history))))
+
+-- d = (wire number minus highest) modulo 65,536
+unfoldable pub distance : Extended → Wire → ℕ
+distance highest wire = modulo 65536 (pos (wire .0) -ℤ highest .0)
+
+-- a later arrival, by d
+unfoldable pub later : Source → ℕ → ℕ → Arrival
+later s d mark =
+    cond (leb 1 d && leb d 2999) (Accepted (ahead s d mark))
+    (cond (eqb d 0 || leb 65437 d) (Accepted (behind s ((65536 - d) % 65536) mark))
+    (Refused Jump s))
+
+-- the answer to an arrival: refusals in the order 9, 10, 8, 7
+unfoldable pub arrival : Source → Wire → ℕ → Arrival
+arrival s wire mark =
+    cond (not (sound s)) (Refused Malformed s)
+    (cond (ltb 3 mark) (Refused Limits s)
+    (cond (leb (2 ^ 48) (arrivals s)) (Refused Full s)
+    (cond (fresh s) (Accepted (first s wire mark))
+    (later s (distance (s .highest) wire) mark))))
+
+-- the record that an answer hands back
+abbrev pub after : Arrival → Source
+after (Accepted s) = s
+after (Refused refusal s) = s

@@ -1,0 +1,5 @@
+pub mod Places
+pub mod Record
+pub mod Arrivals
+pub mod Blocks
+pub mod Theorems

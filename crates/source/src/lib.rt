@@ -1,0 +1,117 @@
+// One RTP source: its arrivals counted by ECN mark (document 01, "Counting arrivals"). A record goes in and comes back by value.
+ghost use mathlib.Core.Path.{_≡_};
+ghost use Rattle.source.specs.Record.{freshRecord, lostAnswer};
+ghost use Rattle.source.specs.Arrivals.{arrival};
+ghost use Rattle.source.specs.Blocks.{blockCount};
+
+mod block;
+mod loss;
+mod numbers;
+mod places;
+mod soundness;
+mod step;
+
+use words::Refusal;
+
+// A sequence number as a packet carries it.
+pub struct Wire(pub u16);
+
+// A sequence number with the wraps counted: negative before the base.
+pub struct Extended(pub i64);
+
+// The last 100 numbers: place k stands for highest - k. `recent` has the places 0 to 63, `older` 64 to 99.
+pub struct History {
+    pub recent: u64,
+    pub older: u64,
+}
+
+// What is counted of one source. Fresh, it is all zero.
+pub struct Source {
+    pub base: Extended,
+    pub highest: Extended,
+    pub notect: u64,
+    pub ect1: u64,
+    pub ect0: u64,
+    pub ce: u64,
+    pub duplicates: u64,
+    pub history: History,
+}
+
+// The answer to an arrival: the next record, or a refusal with the record that was given.
+pub enum Arrival {
+    Accepted(Source),
+    Refused(Refusal, Source),
+}
+
+// The answer to a block of arrivals: the next record and how many were refused as jumps, or a refusal with the record that was given.
+pub enum BlockCount {
+    Counted(Source, u64),
+    Refused(Refusal, Source),
+}
+
+// How many packets are lost, negative where packets from before the base came.
+pub enum Lost {
+    Packets(i64),
+    Refused(Refusal),
+}
+
+impl Source {
+    // The record before any arrival.
+    pub fn fresh() -> Source
+        ensures { λ r. ⌜ r ≡ freshRecord ⌝ }
+    {
+        Source {
+            base: Extended(0),
+            highest: Extended(0),
+            notect: 0,
+            ect1: 0,
+            ect0: 0,
+            ce: 0,
+            duplicates: 0,
+            history: History {
+                recent: 0,
+                older: 0,
+            },
+        }
+    }
+
+    // Counts one arrival. Refusals: 9 malformed record, 10 mark above 3, 8 full, 7 jump.
+    pub fn arrive(self, wire: Wire, mark: u8) -> Arrival
+        ensures { λ r. ⌜ r ≡ arrival self wire mark ⌝ }
+    {
+        if !soundness::is_sound(self) {
+            return Arrival::Refused(Refusal::Malformed, self);
+        }
+        if 3 < mark {
+            return Arrival::Refused(Refusal::Limits, self);
+        }
+        step::step(self, wire, mark)
+    }
+
+    // Counts the arrivals of one block in order, going on after a jump and when full: `records` holds 1 to 62 records of `width` bytes, the
+    // last four of each the wire number (2 bytes), the mark and a zero. Refusals: 9 malformed record, 10 records outside these limits.
+    pub fn count_block(self, records: &[u8], width: usize) -> BlockCount
+        ensures { λ r. ⌜ r ≡ blockCount self width (now (records .entry)) ⌝ }
+    {
+        if !soundness::is_sound(self) {
+            return BlockCount::Refused(Refusal::Malformed, self);
+        }
+        if !block::in_limits(records, width) {
+            return BlockCount::Refused(Refusal::Limits, self);
+        }
+        block::count(self, records, width)
+    }
+
+    // The packets lost so far: highest - base + 1 - distinct, 0 in the fresh record. Refusal: 9 malformed record.
+    pub fn lost(self) -> Lost
+        ensures { λ r. ⌜ r ≡ lostAnswer self ⌝ }
+    {
+        if !soundness::is_sound(self) {
+            return Lost::Refused(Refusal::Malformed);
+        }
+        if soundness::is_fresh(self) {
+            return Lost::Packets(0);
+        }
+        Lost::Packets(loss::packets(self))
+    }
+}

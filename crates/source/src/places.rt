@@ -1,0 +1,70 @@
+// The history's places in two words.
+use crate::History;
+ghost use mathlib.Core.Path.{_≡_};
+ghost use Prim.Native.Nat.{_^_, _<_, _≤_};
+ghost use Rattle.source.specs.Places.{places, marks, history, moved, added};
+
+// 2^36: the older word has 36 places.
+pub const OLDER: u64 = 0x10_0000_0000;
+
+// How many places are marked.
+pub fn count(h: History) -> u64
+    ensures { λ r. ⌜ r ≡ places h ⌝ }
+{
+    let recent = u64::count_ones(h.recent) as u64;
+    let older = u64::count_ones(h.older) as u64;
+    recent + older
+}
+
+// Whether place k is marked.
+pub fn marked(h: History, k: u64) -> bool
+    requires { ⌜ k < 100 ⌝ }
+    ensures { λ r. ⌜ r ≡ marks h k ⌝ }
+{
+    if k < 64 {
+        (h.recent >> k) % 2 == 1
+    } else {
+        (h.older >> (k - 64)) % 2 == 1
+    }
+}
+
+// Place k marked too.
+pub fn with_mark(h: History, k: u64) -> History
+    requires { ⌜ (k < 100) × (h .older < 2 ^ 36) ⌝ }
+    ensures { λ r. ⌜ r ≡ history (added k (marks h)) ⌝ }
+{
+    if k < 64 {
+        History {
+            recent: h.recent | (1 << k),
+            older: h.older,
+        }
+    } else {
+        History {
+            recent: h.recent,
+            older: h.older | (1 << (k - 64)),
+        }
+    }
+}
+
+// Every place moved up by d, one at least, and place 0 marked.
+pub fn moved_on(h: History, d: u64) -> History
+    requires { ⌜ (1 ≤ d) × (h .older < 2 ^ 36) ⌝ }
+    ensures { λ r. ⌜ r ≡ history (added 0 (moved d (marks h))) ⌝ }
+{
+    if d < 64 {
+        return History {
+            recent: (h.recent << d) | 1,
+            older: ((h.older << d) | (h.recent >> (64 - d))) % OLDER,
+        };
+    }
+    if d < 100 {
+        return History {
+            recent: 1,
+            older: (h.recent << (d - 64)) % OLDER,
+        };
+    }
+    History {
+        recent: 1,
+        older: 0,
+    }
+}
