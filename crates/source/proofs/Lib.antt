@@ -5,3 +5,4 @@ pub mod Facts
 pub mod Answers
 pub mod Kept
 pub mod Packets
+pub mod Losses

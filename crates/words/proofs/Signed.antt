@@ -1,13 +1,14 @@
 -- What code reads of a signed number: an i64 in a test, in a cast, and turned by `(-(z + 1)) as u64 + 1`. Assumes nothing.
 use mathlib.Core.Path.{_≡_, refl, sym, ap, _∙_, subst⁻¹}
 use mathlib.Core.Bool.{Bool, true, false, not}
-use Prim.Native.Nat.{ℕ, suc, zero, _+_, _^_, _≤_, _<_}
+use Prim.Native.Nat.{ℕ, suc, zero, _+_, _-_, _%_, _^_, _≤_, _<_}
 use native.Mathlib.Numerals.{add-one}
 use native.Mathlib.Omega.{arith}
 use borrow.Author.Tests.{ltb-true, ltb-false, lt-leb, le-leb}
 use lib.Dec.{T, leb, ltb}
 use lib.IntN.{ℤ, pos, negsuc, negℤ, natAbs, _+ℤ_, _-ℤ_, +ℤ-one, +ℤ-idl, negℤ-negℤ}
 use lib.Signed.{leZ, ltZ, mag, nonNeg, pos-natAbs}
+use Rattle.words.specs.Integers.{modulo}
 use mir.Syntax.{w64}
 use mir.Val.{Fits, SFits, toZ, ofZ}
 use mir.ValLaws.{toZ-ofZ}
@@ -72,6 +73,7 @@ turned z = pos 0 -ℤ seen (seen z +ℤ pos 1)
 pub record Negative (z : ℤ) : Type 0 where
   pub less : ℕ
   pub small : less < 2 ^ 63
+  pub value : z ≡ negsuc less
   pub is : less + 1 ≡ natAbs z
   pub plus-fits : SFits w64 (seen z +ℤ pos 1)
   pub minus-fits : SFits w64 (turned z)
@@ -91,11 +93,32 @@ negative (negsuc k) f h =
     record {
       less = k;
       small = small;
+      value = refl;
       is = add-one k;
       plus-fits = subst⁻¹ (λ (z : ℤ). SFits w64 z) one fits-one;
       minus-fits = subst⁻¹ (λ (z : ℤ). SFits w64 z) whole fits-k;
       turned-is = ap seen whole ∙ seen-is (pos k) fits-k;
     }
+
+-- the casts of a negative number, turned
+module _ {z : ℤ} (n : Negative z) where
+  pub turned-cast : T (nonNeg (seen (turned z))) × Fits w64 (natAbs (seen (turned z)))
+  turned-cast = subst⁻¹ (λ (y : ℤ). T (nonNeg y) × Fits w64 (natAbs y)) (n .turned-is) (tt, record { fits = omega (arith, n .small) })
+
+  pub turned-less : natAbs (seen (turned z)) ≡ n .less
+  turned-less = ap natAbs (n .turned-is)
+
+  -- a negative number modulo m
+  pub negative-modulo : (m : ℕ) {r : ℕ} → r ≡ m - 1 - natAbs (seen (turned z)) % m → 1 ≤ m → r ≡ modulo m z
+  negative-modulo m e h =
+      e ∙ ap (λ (k : ℕ). m - 1 - k % m) turned-less ∙ one-less (n .less % m) ∙ ap (modulo m) (sym (n .value))
+    where
+      one-less : (k : ℕ) → m - 1 - k ≡ m - suc k
+      one-less k = omega arith
+
+-- a number that is not negative modulo m
+pub natural-modulo : (m : ℕ) (z : ℤ) → SFits w64 z → T (nonNeg z) → {r : ℕ} → r ≡ natAbs (seen z) % m → r ≡ modulo m z
+natural-modulo m z f t e = e ∙ ap (modulo m) (sym (natural-seen z f t))
 
 pub not-negative : (z : ℤ) → SFits w64 z → ltZ (seen z) (pos 0) ≡ false → T (nonNeg z)
 not-negative z f h = not-below-zero z (lt-seen z (pos 0) false f (record { sfits = omega arith }) h)

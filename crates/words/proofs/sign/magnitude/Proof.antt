@@ -3,12 +3,10 @@ use borrow.Author.Needs.{needs}
 use mathlib.Core.Path.{ap, _∙_, subst⁻¹}
 use Prim.Native.Nat.{_+_}
 use native.Mathlib.Omega.{arith}
-use lib.Dec.{T}
 use lib.IntN.{ℤ, natAbs}
-use lib.Signed.{nonNeg}
 use mir.Syntax.{w64}
 use mir.Val.{Fits}
-use Rattle.words.proofs.Signed.{Negative, negative, not-negative, natural-cast}
+use Rattle.words.proofs.Signed.{Negative, negative, not-negative, natural-cast, turned-cast}
 use Rattle.words.proofs.sign.magnitude.Statement.{statement}
 use Rattle.words.proofs.sign.magnitude.Tie as tie
 
@@ -22,9 +20,7 @@ sub-result : tie.Need-sub-result
 sub-result c = known c .minus-fits
 
 cast-result : tie.Need-cast-result
-cast-result c =
-    let n = known c in
-    subst⁻¹ (λ (z : ℤ). T (nonNeg z) × Fits w64 (natAbs z)) (n .turned-is) (tt, record { fits = omega (arith, n .small) })
+cast-result c = turned-cast (known c)
 
 add-result-2 : tie.Need-add-result-2
 add-result-2 c =

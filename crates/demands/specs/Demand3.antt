@@ -1,0 +1,31 @@
+-- Demand 3. "Take any list of arrival calls from a fresh state, each on the state that the call before handed back, which nobody else
+-- changes. Calls with a mark above 3 may stand anywhere in it; they are refused with 10. Every other call, 1 to 2^48 of them, brings an
+-- arrival: a mark and a true, unwrapped sequence number, of which the program sees 16 bits. Let the first of these numbers be from 0 to
+-- 65,535, and each later one at most 99 below and at most 2,999 above the highest before it among them. Then all these arrivals are
+-- accepted. Every field of the state at the end is exactly what document 01's count over them gives, and every report written from it
+-- carries that count. Any two such lists with the same arrivals, in whatever order, whose first arrival is the same, end in the same state."
+use mathlib.Core.Path.{_≡_}
+use mathlib.Core.List.{List}
+use mathlib.Core.Option.{none}
+use Prim.Native.Nat.{ℕ, _^_}
+use Rattle.words.specs.Integers.{modulo}
+use Rattle.source.specs.Record.{freshRecord}
+use Rattle.report.specs.Reports.{fault, feedbackOf, feedbackBytes, summaryOf, summaryBytes}
+use Rattle.demands.specs.Calls.{Packet, AnsweredFrom, arrivals, run, Described}
+use Rattle.demands.specs.Count.{baseOf, highestOf, count, countsIn, SameArrivals}
+
+pub record Outcome (ps : List Packet) : Type 0 where
+  -- every arrival is accepted, and every call with a mark above 3 is refused with 10 and the given state
+  pub answers : AnsweredFrom freshRecord ps
+  -- every field of the state at the end is what the count over the arrivals gives
+  pub state : run ps ≡ count (arrivals ps)
+  -- a report on it is not refused with 9, and carries the count: the feedback packet and the summary block, whatever the SSRCs
+  pub sound : fault (run ps) ≡ none
+  pub feedback : (sender media : ℕ)
+      → feedbackBytes sender media (run ps) ≡ feedbackOf sender media (modulo (2 ^ 32) (highestOf (arrivals ps))) (countsIn (arrivals ps))
+  pub summary : (media : ℕ) → summaryBytes media (run ps) ≡ summaryOf media (countsIn (arrivals ps))
+  -- any other such list with the same arrivals and the same first one ends in the same state
+  pub order : (qs : List Packet) → Described qs → SameArrivals (arrivals ps) (arrivals qs) → baseOf (arrivals ps) ≡ baseOf (arrivals qs) → run ps ≡ run qs
+
+abbrev pub Demand3 : Type 0
+Demand3 = (ps : List Packet) → Described ps → Outcome ps

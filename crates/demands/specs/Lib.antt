@@ -1,0 +1,3 @@
+pub mod Calls
+pub mod Count
+pub mod Demand3

@@ -1,0 +1,3 @@
+-- What the functions' proofs share, and what other crates cite.
+pub mod Layouts
+pub mod Faults

@@ -1,0 +1,56 @@
+-- `report::layout::summary` meets its contract. Assumes nothing.
+use borrow.Author.Needs.{needs}
+use mathlib.Core.Path.{_≡_, refl, sym, ap, ap₂, _∙_}
+use native.Mathlib.Omega.{arith}
+use Prim.Native.Nat.{ℕ, _-_}
+use denote.Ref.{now}
+use mathlib.Core.List.{[], _∷_}
+use lib.Seq.{sets}
+use Rattle.words.proofs.Stores.{wrote-short, wrote-all}
+use Rattle.report.specs.Reports.{summaryOf, wordsBytes}
+use Rattle.report.proofs.Layouts.{summary-words, length-summary}
+use Rattle.report.proofs.layout.summary.Statement.{statement}
+use Rattle.report.proofs.layout.summary.Tie as tie
+
+returns : tie.Need-returns
+returns c =
+    let a = c .before .before .args in
+    let w = wrote-short (summaryOf (a .media) (a .c)) (now (a .out)) refl (omega (arith, length-summary (a .media) (a .c))) in
+    (w .answers, w .stores)
+
+pair-requires : tie.Need-pair-requires
+pair-requires c κs = search needs
+
+pair-requires-2 : tie.Need-pair-requires-2
+pair-requires-2 c κs = search needs
+
+slice-aggregate-put-words : tie.Need-slice-aggregate-put-words
+slice-aggregate-put-words c = search needs
+
+put-words-requires : tie.Need-put-words-requires
+put-words-requires c κs = search needs
+
+same-length : tie.Need-same-length
+same-length c = search needs
+
+returns-2 : tie.Need-returns-2
+returns-2 c =
+    let a = c .before .before .before .before .before .before .before .before .before .args in
+    let bytes : wordsBytes (0x0D000005 ∷ a .media ∷ a .c .ect0 ∷ a .c .ect1 ∷ c .before .before .before .before .before .before .pair .result ∷ c .before .before .before .before .before .pair2 .result ∷ []) ≡ summaryOf (a .media) (a .c) =
+    ap₂ (λ (x y : ℕ). wordsBytes (0x0D000005 ∷ a .media ∷ a .c .ect0 ∷ a .c .ect1 ∷ x ∷ y ∷ [])) (c .before .before .before .before .before .before .pair .ensures) (c .before .before .before .before .before .pair2 .ensures)
+    ∙ sym (summary-words (a .c) (search needs) (search needs) (a .media)) in
+    let size = length-summary (a .media) (a .c) in
+    let w = wrote-all (summaryOf (a .media) (a .c)) (now (a .out)) refl (omega arith) (sym size) (c .before .before .put-words .ensures ∙ ap (sets (now (a .out)) 0) bytes) in
+    (w .answers, w .stores)
+
+pub summary-spec : {M : Type 1} → statement M
+summary-spec =
+    tie.close
+    (tie.spec
+    returns
+    pair-requires
+    pair-requires-2
+    slice-aggregate-put-words
+    put-words-requires
+    same-length
+    returns-2)
