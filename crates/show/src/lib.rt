@@ -24,6 +24,12 @@ pub fn signed(z: i64) {
     number(magnitude(z));
 }
 
+// A space and the number n in hexadecimal, with at least `width` digits.
+pub fn hex(n: u64, width: usize) {
+    text(b" ");
+    io::print_hex(STDOUT_FILENO, n, width);
+}
+
 // The end of a line.
 pub fn end() {
     text(b"\n");
