@@ -5,3 +5,4 @@ pub mod Steps
 pub mod Order
 pub mod Runs
 pub mod Demand
+pub mod ReadBack

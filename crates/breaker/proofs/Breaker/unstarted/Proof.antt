@@ -1,0 +1,20 @@
+-- `breaker::Breaker::unstarted` meets its contract. Assumes nothing.
+use borrow.Author.Needs.{needs}
+use mathlib.Core.Path.{_∙_, ap}
+use Rattle.breaker.specs.declared.Answer.the-variants.{Refused}
+use Rattle.breaker.specs.Answers.{answers}
+use Rattle.words.specs.declared.Refusal.the-variants.{Limits}
+use Rattle.breaker.proofs.Breaker.unstarted.Statement.{statement}
+use Rattle.breaker.proofs.Breaker.unstarted.Tie as tie
+
+fresh-requires : tie.Need-fresh-requires
+fresh-requires c κs = search needs
+
+answered-requires : tie.Need-answered-requires
+answered-requires c κs = search needs
+
+returns : tie.Need-returns
+returns c = c .answered .ensures ∙ ap (answers (Refused Limits)) (c .before .fresh .ensures)
+
+pub unstarted-spec : {M : Type 1} → statement M
+unstarted-spec = tie.close (tie.spec fresh-requires answered-requires returns)

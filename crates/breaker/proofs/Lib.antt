@@ -1,0 +1,9 @@
+-- The laws of the breaker, and the proofs of its theorems.
+pub mod Places
+pub mod Facts
+pub mod Products
+pub mod Chains
+pub mod Kept
+pub mod Calls
+pub mod Runs
+pub mod Equation

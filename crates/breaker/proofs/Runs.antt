@@ -1,0 +1,96 @@
+-- The theorems over runs: sound stays sound, stopped stays stopped. Assumes nothing.
+use mathlib.Core.Path.{_≡_, refl, _∙_, ap}
+use mathlib.Core.Bool.{Bool, true, not, cond, _&&_}
+use mathlib.Core.List.{List, [], _∷_, map}
+use Prim.Native.Nat.{ℕ, zero-le}
+use native.Mathlib.Omega.{arith}
+use borrow.Author.Tests.{not-false, lt-ltb, le-leb}
+use Rattle.words.specs.declared.Refusal.the-variants.{Malformed}
+use Rattle.breaker.specs.declared.Reason.{Reason}
+use Rattle.breaker.specs.declared.State.{State}
+use Rattle.breaker.specs.declared.Settings.{Settings}
+use Rattle.breaker.specs.declared.Answer.{Answer}
+use Rattle.breaker.specs.declared.Answer.the-variants.{Go, Stop}
+use Rattle.breaker.specs.declared.Breaker.{Breaker}
+use Rattle.breaker.specs.declared.Step.{Step}
+use Rattle.breaker.specs.Answers.{answers, refuses}
+use Rattle.breaker.specs.Limits.{settingsOk, timeOk}
+use Rattle.breaker.specs.Soundness.{sound}
+use Rattle.breaker.specs.Calls.{fresh, unstarted, startOf, unlessStopped, reportOf, tickOf}
+use Rattle.breaker.specs.Runs.{Call, report, tick, called, answersOf, after}
+use Rattle.breaker.specs.Theorems.{SoundStart, SoundCall, SoundRun, StaysStopped}
+use Rattle.breaker.specs.Windows.{emptyWindow}
+use Rattle.breaker.proofs.Chains.{by-test}
+use Rattle.breaker.proofs.Facts.{m-low}
+use Rattle.breaker.proofs.Calls.{Held, Halted, Fine, tick-fine, report-fine}
+
+call-fine : (b : Breaker) (c : Call) → Fine b (called b c)
+unfolding called
+call-fine b (report r) = report-fine b r
+call-fine b (tick time) = tick-fine b time
+
+-- ---- sound stays sound
+
+fresh-sound : (s : Settings) (time : ℕ) → settingsOk s ≡ true → timeOk time ≡ true → sound (fresh s time) ≡ true
+unfolding sound emptyWindow
+fresh-sound s time h t =
+    λ i. h i && (lt-ltb 0 (s .m) (m-low s h) i && (le-leb 0 (s .k) zero-le i && (true && (t i && (true && (true && (true && true)))))))
+
+-- a step that answers Go holds a sound record with all its places
+abbrev Begun : Step → Type 0
+Begun x = x .answer ≡ Go → Held (x .breaker)
+
+unstarted-begun : Begun unstarted
+unfolding emptyWindow
+unstarted-begun e = let z : _≡_ {A = ℕ} 0 1 = cc in absurd (omega arith)
+
+start-held : (s : Settings) (time : ℕ) → Begun (startOf s time)
+unfolding startOf emptyWindow
+start-held s time =
+    by-test Begun (not (settingsOk s)) _ _ (λ _. unstarted-begun)
+    (λ h. by-test Begun (not (timeOk time)) _ _ (λ _. unstarted-begun)
+    (λ t _. record { isSound = fresh-sound s time (not-false (settingsOk s) h) (not-false (timeOk time) t); places = refl }))
+
+pub sound-start : SoundStart
+sound-start s time e = start-held s time e .isSound
+
+pub sound-call : SoundCall
+sound-call b c places h = call-fine b c .kept (record { isSound = h; places = places }) .isSound
+
+run-held : (b : Breaker) (calls : List Call) → Held b → Held (after b calls)
+unfolding after
+run-held b [] h = h
+run-held b (c ∷ cs) h = run-held (called b c .breaker) cs (call-fine b c .kept h)
+
+pub sound-run : SoundRun
+sound-run s time calls e = run-held (startOf s time .breaker) calls (start-held s time e) .isSound
+
+-- ---- stopped stays stopped
+
+-- a call on a record that has stopped
+module _ (b : Breaker) (reason : Reason) (h : Halted b reason) where
+  again : (x : Step) → cond (not (sound b)) (refuses Malformed b) (unlessStopped (b .state) b x) ≡ answers (Stop reason) b
+  again x =
+      ap (λ (t : Bool). cond (not t) (refuses Malformed b) (unlessStopped (b .state) b x)) (h .isSound)
+      ∙ ap (λ (s : State). unlessStopped s b x) (h .stopped)
+
+  halted-call : (c : Call) → called b c ≡ answers (Stop reason) b
+  unfolding called reportOf tickOf
+  halted-call (report r) = again _
+  halted-call (tick time) = again _
+
+  halted-answers : (later : List Call) → answersOf b later ≡ map (λ (_ : Call). Stop reason) later
+  unfolding answersOf
+  halted-answers [] = refl
+  halted-answers (c ∷ cs) =
+      (λ i. halted-call c i .answer ∷ answersOf (halted-call c i .breaker) cs) ∙ ap (λ (l : List Answer). Stop reason ∷ l) (halted-answers cs)
+
+  halted-after : (later : List Call) → after b later ≡ b
+  unfolding after
+  halted-after [] = refl
+  halted-after (c ∷ cs) = ap (λ (s : Step). after (s .breaker) cs) (halted-call c) ∙ halted-after cs
+
+pub stays-stopped : StaysStopped
+stays-stopped b c reason later e =
+    let h = call-fine b c .stop reason e in
+    (halted-answers (called b c .breaker) reason h later, halted-after (called b c .breaker) reason h later)

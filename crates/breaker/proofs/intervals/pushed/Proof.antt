@@ -1,0 +1,28 @@
+-- `breaker::intervals::pushed` meets its contract. Assumes nothing.
+use borrow.Author.Needs.{needs}
+use mathlib.Core.Path.{_≡_}
+use native.Mathlib.Omega.{arith}
+use Prim.Native.Nat.{_+_, min}
+use Rattle.breaker.proofs.intervals.pushed.Statement.{statement}
+use Rattle.breaker.proofs.intervals.pushed.Tie as tie
+
+in-front-requires : tie.Need-in-front-requires
+in-front-requires c κs = search needs
+
+add-t8 : tie.Need-add-t8
+add-t8 c = search needs
+
+returns : tie.Need-returns
+returns c =
+    let s = c .before .before .before .args in
+    let e : s .window .used + 1 ≡ min (s .k) (s .window .used + 1) = omega arith in
+    λ i. record { used = e i; intervals = c .before .in-front .ensures i }
+
+returns-2 : tie.Need-returns-2
+returns-2 c =
+    let s = c .before .before .before .args in
+    let e : s .k ≡ min (s .k) (s .window .used + 1) = omega arith in
+    λ i. record { used = e i; intervals = c .before .in-front .ensures i }
+
+pub pushed-spec : {M : Type 1} → statement M
+pushed-spec = tie.close (tie.spec in-front-requires add-t8 returns returns-2)

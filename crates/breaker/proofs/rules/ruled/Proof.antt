@@ -1,0 +1,113 @@
+-- `breaker::rules::ruled` meets its contract. Assumes nothing.
+use borrow.Author.Needs.{needs}
+use mathlib.Core.Path.{_≡_, _∙_, ap}
+use borrow.Author.Tests.{le-leb, lt-leb, eq-eqb, ne-eqb}
+use Prim.Native.Nat.{ℕ}
+use Rattle.words.proofs.Conditions.{cond-ends, cond-goes}
+use Rattle.breaker.specs.declared.Answer.the-variants.{Go}
+use Rattle.breaker.specs.Answers.{answers}
+use Rattle.breaker.specs.Rules.{stored, windowAfter, tested, rules, ruled}
+use Rattle.breaker.specs.declared.Step.{Step}
+use Rattle.breaker.proofs.rules.ruled.Statement.{statement}
+use Rattle.breaker.proofs.rules.ruled.Tie as tie
+
+-- past rate 0 the answer may be shown with the media run as the program has it
+shown : (c : tie.After-run-after) {z : Step}
+    → z ≡ rules (c .before .before .before .before .args .b) (c .before .before .before .before .args .r) (c .run-after .result) (windowAfter (c .before .before .before .before .args .b) (c .before .before .before .before .args .r))
+    → z ≡ ruled (c .before .before .before .before .args .b) (c .before .before .before .before .args .r)
+unfolding ruled
+shown c e =
+    let b = c .before .before .before .before .args .b in
+    let r = c .before .before .before .before .args .r in
+    e ∙ ap (λ (n : ℕ). rules b r n (windowAfter b r)) (c .run-after .ensures)
+
+empty-requires : tie.Need-empty-requires
+empty-requires c κs = search needs
+
+stored-requires : tie.Need-stored-requires
+stored-requires c κs = search needs
+
+answered-requires : tie.Need-answered-requires
+answered-requires c κs = search needs
+
+returns : tie.Need-returns
+unfolding ruled rules
+returns c =
+    let b = c .before .before .before .before .before .before .args .b in
+    let r = c .before .before .before .before .before .before .args .r in
+    cond-ends _ _ _ _ (eq-eqb _ _ (c .before .before .before .if1 .taken)) (c .answered .ensures ∙ ap (answers Go) (c .before .stored .ensures ∙ ap (stored b r 0 (b .trial)) (c .before .before .empty .ensures)))
+
+run-after-requires : tie.Need-run-after-requires
+run-after-requires c κs = search needs
+
+sub-elapsed : tie.Need-sub-elapsed
+sub-elapsed c = search needs
+
+stopped-requires : tie.Need-stopped-requires
+stopped-requires c κs = search needs
+
+returns-2 : tie.Need-returns-2
+unfolding ruled rules
+returns-2 c =
+    cond-goes _ _ _ _ (ne-eqb _ _ (c .before .before .before .before .before .before .if1 .left))
+    (cond-ends _ _ _ _ (le-leb _ _ (c .before .if2 .taken)) (c .stopped .ensures))
+
+stopped-requires-2 : tie.Need-stopped-requires-2
+stopped-requires-2 c κs = search needs
+
+returns-3 : tie.Need-returns-3
+unfolding ruled rules
+returns-3 c =
+    shown (c .before .before .before .before .before .before .before)
+    (cond-goes _ _ _ _ (ne-eqb _ _ (c .before .before .before .before .before .before .before .before .if1 .left))
+    (cond-goes _ _ _ _ (lt-leb _ _ (c .before .before .before .if2 .left))
+    (cond-ends _ _ _ _ (le-leb _ _ (c .before .if3 .taken)) (c .stopped2 .ensures))))
+
+stored-requires-2 : tie.Need-stored-requires-2
+stored-requires-2 c κs = search needs
+
+answered-requires-2 : tie.Need-answered-requires-2
+answered-requires-2 c κs = search needs
+
+returns-4 : tie.Need-returns-4
+unfolding ruled rules
+returns-4 c =
+    shown (c .before .before .before .before .before .before .before .before .before .before)
+    (cond-goes _ _ _ _ (ne-eqb _ _ (c .before .before .before .before .before .before .before .before .before .before .before .if1 .left))
+    (cond-goes _ _ _ _ (lt-leb _ _ (c .before .before .before .before .before .before .if2 .left))
+    (cond-goes _ _ _ _ (lt-leb _ _ (c .before .before .before .before .if3 .left))
+    (cond-ends _ _ _ _ (c .before .before .if4 .taken) (c .answered2 .ensures ∙ ap (answers Go) (c .before .stored2 .ensures))))))
+
+tested-requires : tie.Need-tested-requires
+tested-requires c κs =
+    record { accepted = c .before .before .before .before .before .before .before .before .before .before .before .before .pre; inTime = c .before .before .before .before .if2 .left }
+
+returns-5 : tie.Need-returns-5
+unfolding ruled rules
+returns-5 c =
+    shown (c .before .before .before .before .before .before .before .before .before)
+    (cond-goes _ _ _ _ (ne-eqb _ _ (c .before .before .before .before .before .before .before .before .before .before .if1 .left))
+    (cond-goes _ _ _ _ (lt-leb _ _ (c .before .before .before .before .before .if2 .left))
+    (cond-goes _ _ _ _ (lt-leb _ _ (c .before .before .before .if3 .left))
+    (cond-goes _ _ _ _ (c .before .if4 .left)
+    (c .tested .ensures)))))
+
+pub ruled-spec : {M : Type 1} → statement M
+ruled-spec =
+    tie.close
+    (tie.spec
+    empty-requires
+    stored-requires
+    answered-requires
+    returns
+    run-after-requires
+    sub-elapsed
+    stopped-requires
+    returns-2
+    stopped-requires-2
+    returns-3
+    stored-requires-2
+    answered-requires-2
+    returns-4
+    tested-requires
+    returns-5)

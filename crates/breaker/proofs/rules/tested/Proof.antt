@@ -1,0 +1,121 @@
+-- `breaker::rules::tested` meets its contract. Assumes nothing.
+use borrow.Author.Needs.{needs}
+use mathlib.Core.Path.{_≡_, sym, _∙_, ap}
+use native.Mathlib.Omega.{arith}
+use mathlib.Core.Bool.{true, not}
+use borrow.Author.Tests.{lt-ltb, le-ltb}
+use mathlib.Core.List.{map}
+use lib.ListN.{length, take}
+use Rattle.words.proofs.Conditions.{cond-ends, cond-goes, was-false, was-true}
+use Rattle.words.specs.Conditions.{all}
+use Rattle.breaker.specs.declared.Answer.the-variants.{Go, Reduce}
+use Rattle.breaker.specs.declared.Window.{Window}
+use Rattle.breaker.specs.declared.Step.{Step}
+use Rattle.breaker.specs.Answers.{answers}
+use Rattle.breaker.specs.Rules.{stored, windowAfter, tested}
+use Rattle.breaker.specs.Private.{roomy}
+use Rattle.breaker.proofs.Places.{length-mapped}
+use Rattle.breaker.proofs.Facts.{settings-of, k-high, after-roomy}
+use Rattle.breaker.proofs.rules.tested.Statement.{statement}
+use Rattle.breaker.proofs.rules.tested.Tie as tie
+
+-- the array has 32 places
+long : (c : tie.Start) → length (c .args .b .window .intervals) ≡ 32
+long c = search (needs, length-mapped)
+
+-- the answer may be shown with the window as the program has it
+shown : (c : tie.After-window-after) {z : Step} → z ≡ tested (c .before .args .b) (c .before .args .r) (c .before .args .run) (c .window-after .result)
+    → z ≡ tested (c .before .args .b) (c .before .args .r) (c .before .args .run) (windowAfter (c .before .args .b) (c .before .args .r))
+shown c e = e ∙ ap (tested (c .before .args .b) (c .before .args .r) (c .before .args .run)) (c .window-after .ensures)
+
+window-after-requires : tie.Need-window-after-requires
+window-after-requires c κs = c .pre .accepted
+
+stored-requires : tie.Need-stored-requires
+stored-requires c κs = search needs
+
+answered-requires : tie.Need-answered-requires
+answered-requires c κs = search needs
+
+returns : tie.Need-returns
+unfolding tested
+returns c =
+    shown (c .before .before .before)
+    (cond-ends _ _ _ _ (lt-ltb _ _ (c .before .before .if1 .taken)) (c .answered .ensures ∙ ap (answers Go) (c .before .stored .ensures)))
+
+exceeds-requires : tie.Need-exceeds-requires
+unfolding windowAfter
+exceeds-requires c κs =
+    let b = c .before .before .args .b in
+    let h = c .before .before .pre in
+    let e = c .before .window-after .ensures in (
+      k-high (b .settings) (settings-of b (h .accepted .isSound)),
+      ap (λ (w : Window). all (map roomy (take (b .settings .k) (w .intervals)))) e
+          ∙ after-roomy b (c .before .before .args .r) h (long (c .before .before)) (omega (arith, c .if1 .left, ap (λ (w : Window). w .used) e)),
+      h .accepted .inLimits,
+    )
+
+stored-requires-2 : tie.Need-stored-requires-2
+stored-requires-2 c κs = search needs
+
+answered-requires-2 : tie.Need-answered-requires-2
+answered-requires-2 c κs = search needs
+
+returns-2 : tie.Need-returns-2
+unfolding tested
+returns-2 c =
+    shown (c .before .before .before .before .before)
+    (cond-goes _ _ _ _ (le-ltb _ _ (c .before .before .before .before .if1 .left))
+    (cond-ends _ _ _ _ (ap not (was-false (c .before .before .before .exceeds .ensures) (c .before .before .if2 .taken))) (c .answered2 .ensures ∙ ap (answers Go) (c .before .stored2 .ensures))))
+
+may-reduce-requires : tie.Need-may-reduce-requires
+may-reduce-requires c κs = search needs
+
+empty-requires : tie.Need-empty-requires
+empty-requires c κs = search needs
+
+stored-requires-3 : tie.Need-stored-requires-3
+stored-requires-3 c κs = search needs
+
+answered-requires-3 : tie.Need-answered-requires-3
+answered-requires-3 c κs = search needs
+
+returns-3 : tie.Need-returns-3
+unfolding tested
+returns-3 c =
+    shown (c .before .before .before .before .before .before .before .before)
+    (cond-goes _ _ _ _ (le-ltb _ _ (c .before .before .before .before .before .before .before .if1 .left))
+    (cond-goes _ _ _ _ (ap not (was-true (c .before .before .before .before .before .before .exceeds .ensures) (c .before .before .before .before .before .if2 .left)))
+    (cond-ends _ _ _ _ (sym (c .before .before .before .before .may-reduce .ensures) ∙ c .before .before .before .if3 .taken)
+    (c .answered3 .ensures ∙ ap (answers Reduce) (c .before .stored3 .ensures ∙ ap (stored (c .before .before .before .before .before .before .before .before .before .args .b) (c .before .before .before .before .before .before .before .before .before .args .r) (c .before .before .before .before .before .before .before .before .before .args .run) true) (c .before .before .empty .ensures))))))
+
+stopped-requires : tie.Need-stopped-requires
+stopped-requires c κs = search needs
+
+returns-4 : tie.Need-returns-4
+unfolding tested
+returns-4 c =
+    shown (c .before .before .before .before .before .before)
+    (cond-goes _ _ _ _ (le-ltb _ _ (c .before .before .before .before .before .if1 .left))
+    (cond-goes _ _ _ _ (ap not (was-true (c .before .before .before .before .exceeds .ensures) (c .before .before .before .if2 .left)))
+    (cond-goes _ _ _ _ (sym (c .before .before .may-reduce .ensures) ∙ c .before .if3 .left) (c .stopped .ensures))))
+
+pub tested-spec : {M : Type 1} → statement M
+tested-spec =
+    tie.close
+    (tie.spec
+    window-after-requires
+    stored-requires
+    answered-requires
+    returns
+    exceeds-requires
+    stored-requires-2
+    answered-requires-2
+    returns-2
+    may-reduce-requires
+    empty-requires
+    stored-requires-3
+    answered-requires-3
+    returns-3
+    stopped-requires
+    returns-4)

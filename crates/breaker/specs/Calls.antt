@@ -1,0 +1,67 @@
+-- Document 01, "The breaker" and "Refusal numbers": the calls, each with its answers in their order.
+use mathlib.Core.Bool.{false, not, cond}
+use Prim.Native.Nat.{ℕ}
+use lib.Dec.{leb, ltb}
+use Rattle.words.specs.declared.Refusal.the-variants.{Malformed, Limits, Time}
+use Rattle.breaker.specs.declared.Reason.the-variants.{Timeout}
+use Rattle.breaker.specs.declared.State.{State}
+use Rattle.breaker.specs.declared.State.the-variants.{Running, Stopped}
+use Rattle.breaker.specs.declared.Settings.{Settings}
+use Rattle.breaker.specs.declared.Breaker.{Breaker}
+use Rattle.breaker.specs.declared.Report.{Report}
+use Rattle.breaker.specs.declared.Step.{Step}
+use Rattle.breaker.specs.declared.Answer.the-variants.{Stop}
+use Rattle.breaker.specs.Answers.{answers, goes, refuses, stops}
+use Rattle.breaker.specs.Limits.{settingsOk, timeOk, reportOk}
+use Rattle.breaker.specs.Windows.{emptyWindow}
+use Rattle.breaker.specs.Soundness.{sound}
+use Rattle.breaker.specs.Rules.{late, ruled}
+
+-- the record that a start makes
+abbrev pub fresh : Settings → ℕ → Breaker
+fresh s time =
+    record {
+      settings = s;
+      state = Running;
+      last = time;
+      reported = false;
+      highest = 0;
+      run = 0;
+      trial = false;
+      window = emptyWindow;
+    }
+
+-- a start that is refused has no record: the one beside the refusal is all zero
+abbrev pub unstarted : Step
+unstarted = refuses Limits (fresh (record { k = 0; m = 0; timeout = 0; reduce = false }) 0)
+
+-- 10, or Go
+unfoldable pub startOf : Settings → ℕ → Step
+startOf s time =
+    cond (not (settingsOk s)) unstarted
+    (cond (not (timeOk time)) unstarted
+    (goes (fresh s time)))
+
+-- stopped stays stopped: the first reason and the same state
+abbrev pub unlessStopped : State → Breaker → Step → Step
+unlessStopped (Stopped reason) b next = answers (Stop reason) b
+unlessStopped Running b next = next
+
+-- 9, stopped, 10, 11, then the rules in order
+unfoldable pub reportOf : Breaker → Report → Step
+reportOf b r =
+    cond (not (sound b)) (refuses Malformed b)
+    (unlessStopped (b .state) b
+    (cond (not (reportOk r)) (refuses Limits b)
+    (cond (leb (r .time) (b .last)) (refuses Time b)
+    (ruled b r))))
+
+-- 9, stopped, 10, 11, then the timeout; a tick changes nothing else
+unfoldable pub tickOf : Breaker → ℕ → Step
+tickOf b time =
+    cond (not (sound b)) (refuses Malformed b)
+    (unlessStopped (b .state) b
+    (cond (not (timeOk time)) (refuses Limits b)
+    (cond (ltb time (b .last)) (refuses Time b)
+    (cond (late b time) (stops Timeout b)
+    (goes b)))))

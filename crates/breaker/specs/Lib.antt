@@ -1,0 +1,11 @@
+pub mod Answers
+pub mod Limits
+pub mod Windows
+pub mod Soundness
+pub mod Condition
+pub mod Rules
+pub mod Calls
+pub mod Private
+pub mod Runs
+pub mod Throughput
+pub mod Theorems

@@ -1,0 +1,27 @@
+-- Lists of calls on a breaker, in the order of time.
+use mathlib.Core.List.{List, [], _∷_}
+use Prim.Native.Nat.{ℕ}
+use Rattle.breaker.specs.declared.Breaker.{Breaker}
+use Rattle.breaker.specs.declared.Report.{Report}
+use Rattle.breaker.specs.declared.Answer.{Answer}
+use Rattle.breaker.specs.declared.Step.{Step}
+use Rattle.breaker.specs.Calls.{reportOf, tickOf}
+
+-- a report, or a tick with its time
+pub data Call : Type 0 where
+  report : Report → Call
+  tick : ℕ → Call
+
+unfoldable pub called : Breaker → Call → Step
+called b (report r) = reportOf b r
+called b (tick time) = tickOf b time
+
+-- the answers of a list of calls, each on the breaker that the one before hands back
+unfoldable pub answersOf : Breaker → List Call → List Answer
+answersOf b [] = []
+answersOf b (c ∷ cs) = called b c .answer ∷ answersOf (called b c .breaker) cs
+
+-- the breaker after them
+unfoldable pub after : Breaker → List Call → Breaker
+after b [] = b
+after b (c ∷ cs) = after (called b c .breaker) cs

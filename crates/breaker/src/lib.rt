@@ -1,0 +1,261 @@
+// The sender's circuit breaker (document 01, "The breaker"; RFC 8083, sections 4.1 to 4.3).
+ghost use mathlib.Core.Path.{_≡_};
+ghost use Rattle.breaker.specs.Answers.{reasonNumber, answers, stops};
+ghost use Rattle.breaker.specs.Rules.{stored};
+ghost use Rattle.breaker.specs.Calls.{fresh, unstarted, startOf, reportOf, tickOf};
+use words::Refusal;
+
+mod intervals;
+mod limits;
+mod rules;
+mod soundness;
+
+// The number of intervals k, the media run m that stops, the timeout in ms, and whether reductions are allowed.
+pub struct Settings {
+    pub k: usize,
+    pub m: u64,
+    pub timeout: u64,
+    pub reduce: bool,
+}
+
+impl Settings {
+    // The preset settings.
+    pub const PRESET: Settings = Settings {
+        k: 3,
+        m: 3,
+        timeout: 15_000,
+        reduce: false,
+    };
+}
+
+// Why the breaker stops.
+pub enum Reason {
+    // 1: no report for the timeout.
+    Timeout,
+    // 2: m reports in a row whose highest number is not ahead.
+    Media,
+    // 3: the rate is above ten times the throughput equation.
+    Congestion,
+}
+
+impl Reason {
+    // The reason's number in document 01.
+    pub fn number(self) -> u8
+        ensures { λ r. ⌜ r ≡ reasonNumber self ⌝ }
+    {
+        match self {
+            Reason::Timeout => 1,
+            Reason::Media => 2,
+            Reason::Congestion => 3,
+        }
+    }
+}
+
+// Whether the breaker has stopped, and by which rule.
+pub enum State {
+    Running,
+    Stopped(Reason),
+}
+
+// The time between two reports in ms, and the fraction lost in it in 256ths.
+pub struct Interval {
+    pub length: u64,
+    pub fraction: u64,
+}
+
+// The last intervals, the newest first. The places from `used` on are zero.
+pub struct Window {
+    pub used: usize,
+    pub intervals: [Interval; 32],
+}
+
+// The breaker's record: `last` is the time of the last report or of the start, `reported` whether there was a report, `highest` its number,
+// `run` the media run, `trial` whether a reduction is under trial.
+pub struct Breaker {
+    pub settings: Settings,
+    pub state: State,
+    pub last: u64,
+    pub reported: bool,
+    pub highest: u32,
+    pub run: u64,
+    pub trial: bool,
+    pub window: Window,
+}
+
+// What a report says: its time in ms, the highest sequence number, the fraction lost in 256ths, the round trip in ms, the packet size in bytes,
+// and the sending rate in bytes per second.
+pub struct Report {
+    pub time: u64,
+    pub highest: u32,
+    pub fraction: u64,
+    pub rtt: u64,
+    pub size: u64,
+    pub rate: u64,
+}
+
+// What a call answers.
+pub enum Answer {
+    Go,
+    Reduce,
+    Stop(Reason),
+    Refused(Refusal),
+}
+
+// The answer, and the next breaker. (An enum cannot hold the window's array.)
+pub struct Step {
+    pub answer: Answer,
+    pub breaker: Breaker,
+}
+
+impl Breaker {
+    // The limits. A time is below TIME_LIMIT, 2^48 ms; a stored length is from 1 to MAX_LENGTH.
+    pub const MAX_K: usize = 32;
+
+    pub const MAX_M: u64 = 32;
+
+    pub const MAX_TIMEOUT: u64 = 600_000;
+
+    pub const TIME_LIMIT: u64 = 281_474_976_710_656;
+
+    pub const MAX_FRACTION: u64 = 255;
+
+    pub const MAX_RTT: u64 = 60_000;
+
+    pub const MAX_SIZE: u64 = 65_535;
+
+    pub const MAX_RATE: u64 = 125_000_000;
+
+    pub const MAX_LENGTH: u64 = 599_999;
+
+    // A breaker that runs from `time` on, with the answer Go. Refused with 10, the record is all zero, which every call refuses with 9.
+    pub fn start(settings: Settings, time: u64) -> Step
+        ensures { λ r. ⌜ r ≡ startOf settings time ⌝ }
+    {
+        if !limits::settings_ok(settings) {
+            return Breaker::unstarted();
+        }
+        if Breaker::TIME_LIMIT <= time {
+            return Breaker::unstarted();
+        }
+        Breaker::fresh(settings, time).answered(Answer::Go)
+    }
+
+    // A report: refused with 9, answered by the stop, refused with 10 or 11, or judged by the rules.
+    pub fn report(self, r: Report) -> Step
+        ensures { λ s. ⌜ s ≡ reportOf self r ⌝ }
+    {
+        if !soundness::is_sound(self) {
+            return self.answered(Answer::Refused(Refusal::Malformed));
+        }
+        let state = self.state;
+        if let State::Stopped(reason) = state {
+            return self.answered(Answer::Stop(reason));
+        }
+        if !limits::report_ok(r) {
+            return self.answered(Answer::Refused(Refusal::Limits));
+        }
+        if r.time <= self.last {
+            return self.answered(Answer::Refused(Refusal::Time));
+        }
+        rules::ruled(self, r)
+    }
+
+    // A tick: refused with 9, answered by the stop, refused with 10 or 11, or tested for the timeout.
+    pub fn tick(self, time: u64) -> Step
+        ensures { λ s. ⌜ s ≡ tickOf self time ⌝ }
+    {
+        if !soundness::is_sound(self) {
+            return self.answered(Answer::Refused(Refusal::Malformed));
+        }
+        let state = self.state;
+        if let State::Stopped(reason) = state {
+            return self.answered(Answer::Stop(reason));
+        }
+        if Breaker::TIME_LIMIT <= time {
+            return self.answered(Answer::Refused(Refusal::Limits));
+        }
+        if time < self.last {
+            return self.answered(Answer::Refused(Refusal::Time));
+        }
+        if self.settings.timeout <= time - self.last {
+            return self.stopped(Reason::Timeout);
+        }
+        self.answered(Answer::Go)
+    }
+
+    // The record that a start makes.
+    fn fresh(settings: Settings, time: u64) -> Self
+        ensures { λ b. ⌜ b ≡ fresh settings time ⌝ }
+    {
+        let window = intervals::empty();
+        Breaker {
+            settings,
+            state: State::Running,
+            last: time,
+            reported: false,
+            highest: 0,
+            run: 0,
+            trial: false,
+            window,
+        }
+    }
+
+    // A start that is refused.
+    fn unstarted() -> Step
+        ensures { λ s. ⌜ s ≡ unstarted ⌝ }
+    {
+        let none = Settings {
+            k: 0,
+            m: 0,
+            timeout: 0,
+            reduce: false,
+        };
+        Breaker::fresh(none, 0).answered(Answer::Refused(Refusal::Limits))
+    }
+
+    // An answer, with the record as it is.
+    fn answered(self, answer: Answer) -> Step
+        ensures { λ s. ⌜ s ≡ answers answer self ⌝ }
+    {
+        Step {
+            answer,
+            breaker: self,
+        }
+    }
+
+    // A stop, which stores its reason and leaves all else as it was.
+    fn stopped(self, reason: Reason) -> Step
+        ensures { λ s. ⌜ s ≡ stops reason self ⌝ }
+    {
+        let settings = self.settings;
+        let window = self.window;
+        Breaker {
+            settings,
+            state: State::Stopped(reason),
+            last: self.last,
+            reported: self.reported,
+            highest: self.highest,
+            run: self.run,
+            trial: self.trial,
+            window,
+        }.answered(Answer::Stop(reason))
+    }
+
+    // The record after a report that is neither refused nor stopped: it stores the time and the number.
+    fn stored(self, r: Report, run: u64, trial: bool, window: Window) -> Self
+        ensures { λ b. ⌜ b ≡ stored self r run trial window ⌝ }
+    {
+        let settings = self.settings;
+        let state = self.state;
+        Breaker {
+            settings,
+            state,
+            last: r.time,
+            reported: true,
+            highest: r.highest,
+            run,
+            trial,
+            window,
+        }
+    }
+}

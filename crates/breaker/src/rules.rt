@@ -1,0 +1,129 @@
+// The rules for a report, once the record is known to be sound and running and the report to be in its limits and later.
+ghost use mathlib.Core.Path.{_≡_};
+ghost use mathlib.Core.Bool.{true, _&&_, not};
+ghost use mathlib.Core.List.{map};
+ghost use Prim.Native.Nat.{_≤_};
+ghost use lib.ListN.{take};
+ghost use Rattle.words.specs.Conditions.{all};
+ghost use Rattle.breaker.specs.Limits.{reportOk};
+ghost use Rattle.breaker.specs.Private.{roomy, Accepted, InTime};
+ghost use Rattle.breaker.specs.Rules.{notAhead, runAfter, windowAfter, holds, tested, ruled};
+use crate::Answer;
+use crate::Breaker;
+use crate::Interval;
+use crate::Reason;
+use crate::Report;
+use crate::Step;
+use crate::Window;
+use crate::intervals;
+use wide::Wide;
+use words::since;
+
+// Ten times the simplified equation, squared: 10^2 · 1000^2 · 256 · 3 / 2, for a round trip in ms and fractions in 256ths.
+const SCALE: u64 = 38_400_000_000;
+
+// Whether a highest number is not ahead of the last one.
+fn is_not_ahead(number: u32, last: u32) -> bool
+    ensures { λ r. ⌜ r ≡ notAhead number last ⌝ }
+{
+    let ahead = since::since32(number, last);
+    if ahead == 0 {
+        return true;
+    }
+    2147483648 <= ahead
+}
+
+// The media run with this report.
+fn run_after(b: Breaker, r: Report) -> u64
+    requires { ⌜ Accepted b r ⌝ }
+    ensures { λ n. ⌜ n ≡ runAfter b r ⌝ }
+{
+    if !b.reported {
+        return 0;
+    }
+    if is_not_ahead(r.highest, b.highest) {
+        return b.run + 1;
+    }
+    0
+}
+
+// The window with the interval that this report closes.
+fn window_after(b: Breaker, r: Report) -> Window
+    requires { ⌜ Accepted b r ⌝ }
+    ensures { λ w. ⌜ w ≡ windowAfter b r ⌝ }
+{
+    let k = b.settings.k;
+    let old = b.window;
+    let x = Interval {
+        length: r.time - b.last,
+        fraction: r.fraction,
+    };
+    intervals::pushed(old, x, k)
+}
+
+// Whether the condition holds over the last k intervals: two products of two words.
+fn exceeds(window: Window, k: usize, r: Report) -> bool
+    requires { ⌜ (k ≤ 32) × (all (map roomy (take k (window .intervals))) ≡ true) × (reportOk r ≡ true) ⌝ }
+    ensures { λ b. ⌜ b ≡ holds k window r ⌝ }
+{
+    let last = window.intervals;
+    let sums = intervals::summed(last, k);
+    let left = Wide::product(r.rate * r.rtt * r.rtt, r.rate * sums.p);
+    let right = Wide::product(SCALE * sums.w, r.size * r.size);
+    left.above(right)
+}
+
+// Whether a reduction is allowed and none is under trial.
+fn may_reduce(allowed: bool, trial: bool) -> bool
+    ensures { λ r. ⌜ r ≡ (allowed && not trial) ⌝ }
+{
+    if allowed {
+        return !trial;
+    }
+    false
+}
+
+// The congestion rule.
+fn tested(b: Breaker, r: Report, run: u64) -> Step
+    requires { ⌜ InTime b r ⌝ }
+    ensures { λ s. ⌜ s ≡ tested b r run (windowAfter b r) ⌝ }
+{
+    let k = b.settings.k;
+    let window = window_after(b, r);
+    let used = window.used;
+    if used < k {
+        return b.stored(r, run, b.trial, window).answered(Answer::Go);
+    }
+    if !exceeds(window, k, r) {
+        return b.stored(r, run, false, window).answered(Answer::Go);
+    }
+    if may_reduce(b.settings.reduce, b.trial) {
+        return b.stored(r, run, true, intervals::empty())
+            .answered(Answer::Reduce);
+    }
+    b.stopped(Reason::Congestion)
+}
+
+// The rules in their order.
+pub fn ruled(b: Breaker, r: Report) -> Step
+    requires { ⌜ Accepted b r ⌝ }
+    ensures { λ s. ⌜ s ≡ ruled b r ⌝ }
+{
+    let window = b.window;
+    if r.rate == 0 {
+        return b.stored(r, 0, b.trial, intervals::empty())
+            .answered(Answer::Go);
+    }
+    let run = run_after(b, r);
+    let elapsed = r.time - b.last;
+    if b.settings.timeout <= elapsed {
+        return b.stopped(Reason::Timeout);
+    }
+    if b.settings.m <= run {
+        return b.stopped(Reason::Media);
+    }
+    if !b.reported {
+        return b.stored(r, run, b.trial, window).answered(Answer::Go);
+    }
+    tested(b, r, run)
+}

@@ -1,0 +1,75 @@
+-- `breaker_cases::run` is safe and ends. Assumes nothing.
+use borrow.Author.Needs.{needs}
+use Prim.Native.Nat.{_≤_, _-_, _+_}
+use lib.ListN.{length}
+use Rattle.breaker_cases.proofs.run.Statement.{statement}
+use Rattle.breaker_cases.proofs.run.Tie as tie
+
+abbrev Inv-loop : tie.InvT-loop
+Inv-loop text b₀ at₀ b at = at ≤ length text + 1
+
+abbrev μ-loop : tie.MeasureT-loop
+μ-loop text b₀ at₀ b at = length text - at
+
+start-requires : tie.Need-start-requires Inv-loop μ-loop
+start-requires c κs = search needs
+
+loop-holds : tie.Need-loop-holds Inv-loop μ-loop
+loop-holds c = search needs
+
+line-end-requires : tie.Need-line-end-requires Inv-loop μ-loop
+line-end-requires c κs = search needs
+
+sub-line : tie.Need-sub-line Inv-loop μ-loop
+sub-line c = search needs
+
+part-line-start : tie.Need-part-line-start Inv-loop μ-loop
+part-line-start c = search needs
+
+part-line-end : tie.Need-part-line-end Inv-loop μ-loop
+part-line-end c = search needs
+
+text-requires : tie.Need-text-requires Inv-loop μ-loop
+text-requires c κs = search needs
+
+shared-slice-read-done : tie.Need-shared-slice-read-done Inv-loop μ-loop
+shared-slice-read-done c = search needs
+
+done-requires : tie.Need-done-requires Inv-loop μ-loop
+done-requires c κs = search needs
+
+end-requires : tie.Need-end-requires Inv-loop μ-loop
+end-requires c κs = search needs
+
+add-at : tie.Need-add-at Inv-loop μ-loop
+add-at c = search needs
+
+loop-less : tie.Need-loop-less Inv-loop μ-loop
+loop-less c = search needs
+
+loop-again : tie.Need-loop-again Inv-loop μ-loop
+loop-again c = search needs
+
+returns : tie.Need-returns Inv-loop μ-loop
+returns c = search needs
+
+pub run-spec : {M : Type 1} → statement M
+run-spec =
+    tie.close
+    (tie.spec
+    Inv-loop
+    μ-loop
+    start-requires
+    loop-holds
+    line-end-requires
+    sub-line
+    part-line-start
+    part-line-end
+    text-requires
+    shared-slice-read-done
+    done-requires
+    end-requires
+    add-at
+    loop-less
+    loop-again
+    returns)

@@ -1,0 +1,81 @@
+-- `rtcp::reports::signed24` meets its contract. Assumes nothing.
+use borrow.Author.Needs.{needs}
+use mathlib.Core.Path.{_≡_, sym, ap, ap₂, _∙_}
+use denote.Ref.{now}
+use native.Mathlib.Omega.{arith}
+use Prim.Native.Nat.{ℕ, _+_, _*_, _<_}
+use mir.Syntax.{w32}
+use mir.ValLaws.{toZ-pos}
+use Rattle.words.specs.BigEndian.{word}
+use Rattle.words.specs.Since.{signed}
+use Rattle.words.proofs.Differences.{signed-low, signed-high}
+use Rattle.rtcp.proofs.Narrow.{narrow-fits, narrow-is}
+use Rattle.rtcp.proofs.reports.signed24.Statement.{statement}
+use Rattle.rtcp.proofs.reports.signed24.Tie as tie
+
+abbrev number : tie.After-byte-at → ℕ
+number c = c .before .read16 .result * 256 + c .byte-at .result
+
+number-is : (c : tie.After-byte-at) → number c ≡ word 3 (now (c .before .before .before .args .b)) (c .before .before .before .args .at)
+unfolding word
+number-is c = ap₂ (λ (x y : ℕ). x * 256 + y) (c .before .read16 .ensures) (c .byte-at .ensures)
+
+number-lt : (c : tie.After-byte-at) → number c < 16777216
+number-lt c = omega (arith, c .before .read16 .ok, c .byte-at .ok)
+
+read16-requires : tie.Need-read16-requires
+read16-requires c κs = search needs
+
+cast-n : tie.Need-cast-n
+cast-n c = search needs
+
+mul-n : tie.Need-mul-n
+mul-n c = search needs
+
+add-byte-at : tie.Need-add-byte-at
+add-byte-at c = search needs
+
+byte-at-requires : tie.Need-byte-at-requires
+byte-at-requires c κs = search needs
+
+cast-n-2 : tie.Need-cast-n-2
+cast-n-2 c = search needs
+
+add-n : tie.Need-add-n
+add-n c = search needs
+
+cast-result : tie.Need-cast-result
+cast-result c = search needs
+
+returns : tie.Need-returns
+returns c =
+    let n = number (c .before) in
+    toZ-pos w32 n (omega (arith, c .if1 .taken)) ∙ sym (signed-low 23 n (c .if1 .taken)) ∙ ap (signed 24) (number-is (c .before))
+
+cast-result-2 : tie.Need-cast-result-2
+cast-result-2 c = search needs
+
+sub-result : tie.Need-sub-result
+sub-result c = narrow-fits 16777216 (number (c .before)) (number-lt (c .before)) (omega arith)
+
+returns-2 : tie.Need-returns-2
+returns-2 c =
+    let n = number (c .before) in
+    narrow-is 16777216 n (number-lt (c .before)) (omega arith) ∙ sym (signed-high 23 n (c .if1 .left)) ∙ ap (signed 24) (number-is (c .before))
+
+pub signed24-spec : {M : Type 1} → statement M
+signed24-spec =
+    tie.close
+    (tie.spec
+    read16-requires
+    cast-n
+    mul-n
+    add-byte-at
+    byte-at-requires
+    cast-n-2
+    add-n
+    cast-result
+    returns
+    cast-result-2
+    sub-result
+    returns-2)

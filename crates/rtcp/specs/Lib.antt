@@ -1,0 +1,9 @@
+pub mod Layout
+pub mod Header
+pub mod Packets
+pub mod Entries
+pub mod ReportBlocks
+pub mod EcnReports
+pub mod Walk
+pub mod Compound
+pub mod Present
