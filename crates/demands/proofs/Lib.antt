@@ -6,3 +6,4 @@ pub mod Order
 pub mod Runs
 pub mod Demand
 pub mod ReadBack
+pub mod WorkedExamples

@@ -2,3 +2,4 @@ pub mod Calls
 pub mod Count
 pub mod RoundTrip
 pub mod Demand3
+pub mod Examples

@@ -1,0 +1,21 @@
+-- The worked examples, by one computation over the table. Assumes nothing.
+use mathlib.Core.Path.{refl}
+use lib.Count.{ones, onesIn}
+use Rattle.words.specs.BigEndian.{bytes}
+use Rattle.words.specs.Since.{since}
+use Rattle.source.specs.Places.{pack, place, marks, places, moved, added}
+use Rattle.source.specs.Record.{fresh, counting, sound, lost}
+use Rattle.source.specs.Arrivals.{counted, first, ahead, behind, distance, later, arrival}
+use Rattle.report.specs.Carried.{countsOf}
+use Rattle.report.specs.Reports.{countsBytes, feedbackOf, summaryOf}
+use Rattle.breaker.specs.Limits.{settingsOk, reportOk}
+use Rattle.breaker.specs.Windows.{emptyWindow}
+use Rattle.breaker.specs.Soundness as breaker
+use Rattle.breaker.specs.Rules.{runAfter, windowAfter, holds, tested, rules, ruled}
+use Rattle.breaker.specs.Calls.{startOf, reportOf}
+use Rattle.breaker.specs.Runs.{called, answersOf}
+use Rattle.demands.specs.Examples.{ExamplesHold}
+
+pub examples-hold : ExamplesHold
+unfolding ones onesIn bytes since pack place marks places moved added fresh counting sound lost counted first ahead behind distance later arrival countsOf countsBytes feedbackOf summaryOf settingsOk reportOk emptyWindow breaker.sound runAfter windowAfter holds tested rules ruled startOf reportOf called answersOf
+examples-hold = refl
