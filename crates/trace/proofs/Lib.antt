@@ -1,0 +1,11 @@
+-- The laws that other crates cite.
+pub mod Tallies
+pub mod Sums
+pub mod Labels
+pub mod Decisions
+pub mod Layouts
+pub mod Octets
+pub mod Checks
+pub mod Accepted
+pub mod ReadBack
+pub mod Theorems

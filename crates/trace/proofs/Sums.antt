@@ -1,0 +1,65 @@
+-- Laws of the ones' complement sum (RFC 1071): it is the plain sum, taken around 65,535. Assumes nothing.
+use mathlib.Core.Path.{_≡_, refl, ap, _∙_}
+use mathlib.Core.List.{List, [], _∷_, _++_}
+use Prim.Native.Nat.{ℕ, zero, suc, _+_, _-_, _*_, _/_, _%_, _≤_, _<_}
+use native.Mathlib.Nat.{add-zero, add-suc}
+use native.Mathlib.Numerals.{add-one}
+use native.Mathlib.Omega.{arith}
+use lib.ListN.{length, drop, getD, drop-of-length-le}
+use lib.Seq.{drop-cons}
+use Rattle.words.proofs.BigEndian.{Octets}
+use Rattle.trace.specs.Checksum.{words, onesAdd, onesSum}
+use Rattle.trace.proofs.Tallies.{tally}
+
+-- the plain sum of words
+abbrev pub total : List ℕ → ℕ
+total ws = tally (λ (w : ℕ). w) ws
+
+-- a plain sum whose carries are added at the right: 0 is 0, and any other number is taken to 1 .. 65,535
+unfoldable pub carried : ℕ → ℕ
+carried zero = 0
+carried (suc t) = suc (t % 65535)
+
+carried-word : (w : ℕ) → w < 65536 → w ≡ carried w
+unfolding carried
+carried-word zero h = refl
+carried-word (suc w) h = omega arith
+
+-- one word more
+carried-add : (w t : ℕ) → w < 65536 → onesAdd w (carried t) ≡ carried (w + t)
+unfolding onesAdd carried
+carried-add w zero h = rw (add-zero w) (omega (arith, carried-word w h))
+carried-add w (suc t) h = rw (add-suc w t) (omega arith)
+
+-- the carries of a sum of not too many words, added twice
+pub carried-twice : (t once : ℕ) → t ≤ 4294836224 → once ≡ t % 65536 + t / 65536 → once % 65536 + once / 65536 ≡ carried t
+unfolding carried
+carried-twice zero once h e = omega arith
+carried-twice (suc t) once h e = omega arith
+
+-- the ones' complement sum of bytes
+pub ones-total : (s : List ℕ) → Octets s → onesSum (words s) ≡ carried (total (words s))
+unfolding words onesSum tally carried
+ones-total [] h = refl
+ones-total (a ∷ []) h = ap (onesAdd (a * 256)) refl ∙ carried-add (a * 256) 0 (omega (arith, h 0))
+ones-total (a ∷ b ∷ s) h =
+    ap (onesAdd (a * 256 + b)) (ones-total s (λ i. h (suc (suc i))))
+    ∙ carried-add (a * 256 + b) (total (words s)) (omega (arith, h 0, h 1))
+
+-- ---- a loop over the words
+
+pub words-turn : (s : List ℕ) (i : ℕ) → i + 1 < length s → words (drop i s) ≡ (getD s i 0 * 256 + getD s (i + 1) 0) ∷ words (drop (i + 2) s)
+unfolding words
+words-turn s i h =
+    let next : suc (i + 1) ≡ i + 2 = omega arith in
+    rw (drop-cons s i 0 (omega arith), ← add-one i, drop-cons s (i + 1) 0 h, next)
+
+pub words-done : (s : List ℕ) (i sum : ℕ) → length s ≤ i → sum + total (words (drop i s)) ≡ sum
+unfolding words tally
+words-done s i sum h = rw (drop-of-length-le s h) (add-zero sum)
+
+pub words-append : (u v : List ℕ) → length u % 2 ≡ 0 → words (u ++ v) ≡ words u ++ words v
+unfolding words
+words-append [] v h = refl
+words-append (a ∷ []) v h = absurd (omega arith)
+words-append (a ∷ b ∷ u) v h = ap (λ (l : List ℕ). (a * 256 + b) ∷ l) (words-append u v (omega arith))

@@ -1,0 +1,127 @@
+-- Laws of adding up, over a list, what breaks a rule. Assumes nothing.
+use mathlib.Core.Path.{_≡_, refl, sym, ap, _∙_}
+use mathlib.Core.Bool.{Bool, true, false, _&&_, cond}
+use mathlib.Core.List.{List, [], _∷_, _++_}
+use Prim.Native.Nat.{ℕ, zero, suc, _+_, _-_, _*_, _/_, _≤_, _<_}
+use native.Mathlib.Nat.{add-zero, zero-add, suc-add, add-assoc}
+use native.Mathlib.Numerals.{add-one}
+use native.Mathlib.Omega.{arith}
+use borrow.Author.Tests.{eq-eqb, ne-eqb, leb-true, leb-false, eqb-true, eqb-false}
+use lib.Dec.{leb, eqb, eqb·suc-zero}
+use lib.ListN.{length, drop, getD, drop-of-length-le}
+use lib.Seq.{drop-cons, drop-drop, getD-drop}
+use Rattle.words.specs.BigEndian.{word}
+use Rattle.words.proofs.BigEndian.{word-two}
+use Rattle.trace.specs.Layout.{first}
+use Rattle.trace.specs.Contents.{every, isZero, isMark, labelByte, goodRecords}
+
+-- the sum of f over a list
+unfoldable pub tally : (ℕ → ℕ) → List ℕ → ℕ
+tally f [] = 0
+tally f (c ∷ s) = f c + tally f s
+
+module _ (f : ℕ → ℕ) where
+  pub tally-append : (s t : List ℕ) → tally f (s ++ t) ≡ tally f s + tally f t
+  unfolding tally
+  tally-append [] t = rw zero-add
+  tally-append (c ∷ s) t = rw (tally-append s t, add-assoc (f c) (tally f s) (tally f t))
+
+  -- a turn of a loop that adds up f
+  pub tally-turn : (s : List ℕ) (i sum : ℕ) → i < length s → sum + f (getD s i 0) + tally f (drop (i + 1) s) ≡ sum + tally f (drop i s)
+  unfolding tally
+  tally-turn s i sum h = rw (add-one i, drop-cons s i 0) (add-assoc sum (f (getD s i 0)) (tally f (drop (suc i) s)))
+
+  -- and after its last turn it has the whole sum
+  pub tally-done : (s : List ℕ) (i sum : ℕ) → length s ≤ i → sum + tally f (drop i s) ≡ sum
+  unfolding tally
+  tally-done s i sum h = rw (drop-of-length-le s h) (add-zero sum)
+
+-- a sum is 0 just where both numbers are
+pub zero-sum : (a b : ℕ) → eqb (a + b) 0 ≡ (eqb a 0 && eqb b 0)
+zero-sum zero b = rw zero-add
+zero-sum (suc a) b = rw (suc-add a b, eqb·suc-zero (a + b), eqb·suc-zero a)
+
+module _ (f : ℕ → ℕ) (rule : ℕ → Bool) (fault : (c : ℕ) → eqb (f c) 0 ≡ rule c) where
+  -- a sum is 0 just where every element keeps the rule
+  pub tally-every : (s : List ℕ) → eqb (tally f s) 0 ≡ every rule s
+  unfolding tally every
+  tally-every [] = refl
+  tally-every (c ∷ s) = rw (zero-sum (f c) (tally f s), fault c, tally-every s)
+
+  -- what the loop's sum says at its end
+  pub tally-rule : (s : List ℕ) (i sum : ℕ) → sum + tally f (drop i s) ≡ tally f s → length s ≤ i → eqb sum 0 ≡ every rule s
+  tally-rule s i sum e h = ap (λ (n : ℕ). eqb n 0) (sym (tally-done f s i sum h) ∙ e) ∙ tally-every s
+
+-- ---- the rules
+
+-- two tests that fail together are equal
+same-test : (a b : Bool) → (a ≡ true → b ≡ true) → (b ≡ true → a ≡ true) → a ≡ b
+same-test true b f g = sym (f refl)
+same-test false true f g = g refl
+same-test false false f g = refl
+
+pub zero-fault : (c : ℕ) → eqb c 0 ≡ isZero c
+zero-fault c = refl
+
+pub mark-fault : (m : ℕ) → eqb (m / 4) 0 ≡ isMark m
+mark-fault m = go (leb m 3) refl
+  where
+    go : (t : Bool) → leb m 3 ≡ t → eqb (m / 4) 0 ≡ t
+    go true e = eq-eqb (m / 4) 0 (omega (arith, leb-true m 3 e))
+    go false e = ne-eqb (m / 4) 0 (λ z. omega (arith, leb-false m 3 e))
+
+-- 0 for a byte that a label may have, else 1
+abbrev pub outsideOf : ℕ → ℕ
+outsideOf c = cond (labelByte c) 0 1
+
+pub label-fault : (c : ℕ) → eqb (outsideOf c) 0 ≡ labelByte c
+label-fault c = go (labelByte c)
+  where
+    go : (t : Bool) → eqb (cond t 0 1) 0 ≡ t
+    go true = refl
+    go false = refl
+
+pub outside-small : (c : ℕ) → outsideOf c ≤ 1
+outside-small c = go (labelByte c)
+  where
+    go : (t : Bool) → cond t 0 1 ≤ 1
+    go true = omega arith
+    go false = omega arith
+
+-- ---- a mark and the zero behind it, as one number with the zero first
+
+pair-fault : (z m : ℕ) → m < 256 → eqb ((z * 256 + m) / 4) 0 ≡ (isMark m && isZero z)
+pair-fault z m h = go (leb m 3) (eqb z 0) refl refl
+  where
+    go : (t u : Bool) → leb m 3 ≡ t → eqb z 0 ≡ u → eqb ((z * 256 + m) / 4) 0 ≡ (t && u)
+    go true true e k = eq-eqb ((z * 256 + m) / 4) 0 (omega (arith, leb-true m 3 e, eqb-true z 0 k))
+    go true false e k = ne-eqb ((z * 256 + m) / 4) 0 (λ n. omega (arith, eqb-false z 0 k))
+    go false u e k = ne-eqb ((z * 256 + m) / 4) 0 (λ n. omega (arith, leb-false m 3 e))
+
+and-assoc : (a b c : Bool) → ((a && b) && c) ≡ (a && (b && c))
+and-assoc true b c = refl
+and-assoc false b c = refl
+
+-- a turn of a loop over the records
+pub records-turn : (left at sum pair : ℕ) (body : List ℕ) → 0 < left → getD body (at + 6) 0 < 256
+    → pair ≡ word 2 (getD body (at + 7) 0 ∷ getD body (at + 6) 0 ∷ []) 0
+    → (eqb (sum + pair / 4) 0 && goodRecords first (left - 1) (drop (at + 8) body)) ≡ (eqb sum 0 && goodRecords first left (drop at body))
+unfolding goodRecords
+records-turn zero at sum pair body h o e = absurd (omega arith)
+records-turn (suc k) at sum pair body h o e =
+    let z = getD body (at + 7) 0 in
+    let m = getD body (at + 6) 0 in
+    let rest : Bool = goodRecords first k (drop (at + 8) body) in
+    let less : suc k - 1 ≡ k = omega arith in
+    let number : pair ≡ z * 256 + m = e ∙ word-two (z ∷ m ∷ []) 0 in
+    rw (less, number, zero-sum sum ((z * 256 + m) / 4), pair-fault z m o, getD-drop at body 6 0, getD-drop at body 7 0, drop-drop 8 at body)
+    (and-assoc (eqb sum 0) (isMark m && isZero z) rest ∙ ap (λ (t : Bool). eqb sum 0 && t) (and-assoc (isMark m) (isZero z) rest))
+
+pub records-done : (left sum n : ℕ) (s body : List ℕ) → left ≤ 0 → (eqb sum 0 && goodRecords first left s) ≡ goodRecords first n body → eqb sum 0 ≡ goodRecords first n body
+unfolding goodRecords
+records-done zero sum n s body h e = sym (and-true (eqb sum 0)) ∙ e
+  where
+    and-true : (a : Bool) → (a && true) ≡ a
+    and-true true = refl
+    and-true false = refl
+records-done (suc left) sum n s body h e = absurd (omega arith)

@@ -1,0 +1,101 @@
+-- `trace::checksum::ones_sum` meets its contract. Assumes nothing.
+use borrow.Author.Needs.{needs}
+use mathlib.Core.Path.{_≡_, refl, sym, ap, _∙_}
+use Prim.Native.Nat.{ℕ, _+_, _-_, _*_, _%_, _≤_}
+use native.Mathlib.Omega.{arith}
+use native.Mathlib.Nat.{zero-add, add-assoc}
+use lib.ListN.{length, drop, getD}
+use denote.Ref.{now}
+use mathlib.Core.List.{[], _∷_}
+use Rattle.trace.proofs.Tallies.{tally}
+use Rattle.trace.proofs.Sums.{total, ones-total, carried, carried-twice, words-turn, words-done}
+use Rattle.trace.specs.Checksum.{words}
+use Rattle.words.proofs.BigEndian.{word-two}
+use Rattle.trace.proofs.checksum.ones_sum.Statement.{statement}
+use Rattle.trace.proofs.checksum.ones_sum.Tie as tie
+
+abbrev Inv-loop : tie.InvT-loop
+Inv-loop s sum₀ i₀ sum i = (i ≤ length s) × (i % 2 ≡ 0) × (2 * sum ≤ 65535 * i) × (sum + total (words (drop i s)) ≡ total (words s))
+
+abbrev μ-loop : tie.MeasureT-loop
+μ-loop s sum₀ i₀ sum i = length s - i
+
+loop-holds : tie.Need-loop-holds Inv-loop μ-loop
+loop-holds c = (search needs, refl, search needs, zero-add _)
+
+shared-slice-read-join16 : tie.Need-shared-slice-read-join16 Inv-loop μ-loop
+shared-slice-read-join16 c = search needs
+
+add-join16 : tie.Need-add-join16 Inv-loop μ-loop
+add-join16 c = search needs
+
+shared-slice-read-join16-2 : tie.Need-shared-slice-read-join16-2 Inv-loop μ-loop
+shared-slice-read-join16-2 c = search needs
+
+join16-requires : tie.Need-join16-requires Inv-loop μ-loop
+join16-requires c κs = search needs
+
+cast-sum : tie.Need-cast-sum Inv-loop μ-loop
+cast-sum c = search needs
+
+add-sum : tie.Need-add-sum Inv-loop μ-loop
+add-sum c = omega (arith, c .join16 .ok)
+
+add-i : tie.Need-add-i Inv-loop μ-loop
+add-i c = search needs
+
+loop-less : tie.Need-loop-less Inv-loop μ-loop
+loop-less c = search needs
+
+loop-again : tie.Need-loop-again Inv-loop μ-loop
+unfolding tally
+loop-again c =
+    let loop = c .before .before .before .before .loop in
+    let s = now (c .before .before .before .before .before .before .args .s) in
+    let high = getD s (loop .i) 0 in
+    let low = getD s (loop .i + 1) 0 in
+    let word : c .join16 .result ≡ high * 256 + low = c .join16 .ensures ∙ word-two (high ∷ low ∷ []) 0 in
+    let left : total (words (drop (loop .i) s)) ≡ c .join16 .result + total (words (drop (loop .i + 2) s)) =
+    rw (words-turn s (loop .i) (omega arith), word) in (
+      omega arith,
+      omega arith,
+      omega (arith, c .join16 .ok),
+      add-assoc (loop .sum) (c .join16 .result) (total (words (drop (loop .i + 2) s))) ∙ ap (λ (n : ℕ). loop .sum + n) (sym left) ∙ loop .inv .3,
+    )
+
+add-once : tie.Need-add-once Inv-loop μ-loop
+add-once c = search needs
+
+add-result : tie.Need-add-result Inv-loop μ-loop
+add-result c = search needs
+
+cast-result : tie.Need-cast-result Inv-loop μ-loop
+cast-result c = search needs
+
+returns : tie.Need-returns Inv-loop μ-loop
+returns c =
+    let s = now (c .before .before .before .args .s) in
+    let loop = c .before .loop in
+    let all : loop .sum ≡ total (words s) = sym (words-done s (loop .i) (loop .sum) (c .loop-test .left)) ∙ loop .inv .3 in
+    carried-twice (loop .sum) _ (omega arith) refl ∙ ap carried all ∙ sym (ones-total s (λ j. c .before .before .shared-slice-known .given j .fits))
+
+pub ones-sum-spec : {M : Type 1} → statement M
+ones-sum-spec =
+    tie.close
+    (tie.spec
+    Inv-loop
+    μ-loop
+    loop-holds
+    shared-slice-read-join16
+    add-join16
+    shared-slice-read-join16-2
+    join16-requires
+    cast-sum
+    add-sum
+    add-i
+    loop-less
+    loop-again
+    add-once
+    add-result
+    cast-result
+    returns)

@@ -1,0 +1,56 @@
+-- `trace::read::label_body` meets its contract. Assumes nothing.
+use borrow.Author.Needs.{needs}
+use mathlib.Core.Path.{sym, ap, _∙_}
+use Prim.Native.Nat.{_-_}
+use native.Mathlib.Omega.{arith}
+use denote.Ref.{now}
+use lib.Seq.{length-take-le}
+use Rattle.trace.proofs.Decisions.{part-tail, text-long, text-other, text-rest}
+use Rattle.words.proofs.Conditions.{was-false, was-true}
+use Rattle.trace.specs.Contents.{every, isZero}
+use Rattle.trace.proofs.read.label_body.Statement.{statement}
+use Rattle.trace.proofs.read.label_body.Tie as tie
+
+returns : tie.Need-returns
+returns c = text-long _ _ (c .if1 .taken)
+
+slice-aggregate-all-allowed : tie.Need-slice-aggregate-all-allowed
+slice-aggregate-all-allowed c = let a = c .before .before .before .args in sym (length-take-le (a .n) (now (a .body)) (omega arith))
+
+all-allowed-requires : tie.Need-all-allowed-requires
+all-allowed-requires c κs = let a = c .before .before .before .args in rw (length-take-le (a .n) (now (a .body)) (omega arith)) (omega arith)
+
+returns-2 : tie.Need-returns-2
+returns-2 c = text-other _ _ (c .before .before .before .if1 .left) (was-false (c .before .all-allowed .ensures) (c .if2 .taken))
+
+sub-all-zero : tie.Need-sub-all-zero
+sub-all-zero c = search needs
+
+part-all-zero-start : tie.Need-part-all-zero-start
+part-all-zero-start c = search needs
+
+part-all-zero-end : tie.Need-part-all-zero-end
+part-all-zero-end c = search needs
+
+all-zero-requires : tie.Need-all-zero-requires
+all-zero-requires c κs = search needs
+
+returns-3 : tie.Need-returns-3
+returns-3 c =
+    let a = c .before .before .before .before .before .before .before .args in
+    text-rest (a .n) (now (a .body)) (c .before .before .before .before .before .if1 .left) (was-true (c .before .before .before .all-allowed .ensures) (c .before .before .if2 .left))
+    (c .all-zero .ensures ∙ ap (every isZero) (part-tail (now (a .body)) (a .n)))
+
+pub label-body-spec : {M : Type 1} → statement M
+label-body-spec =
+    tie.close
+    (tie.spec
+    returns
+    slice-aggregate-all-allowed
+    all-allowed-requires
+    returns-2
+    sub-all-zero
+    part-all-zero-start
+    part-all-zero-end
+    all-zero-requires
+    returns-3)

@@ -1,0 +1,6 @@
+pub mod Checksum
+pub mod Layout
+pub mod Contents
+pub mod Reading
+pub mod Writing
+pub mod Theorems

@@ -1,0 +1,21 @@
+// The checksum of RFC 1071.
+use words::big_endian::join16;
+ghost use mathlib.Core.Path.{_≡_};
+ghost use Prim.Native.Nat.{_%_, _≤_};
+ghost use lib.ListN.{length};
+ghost use Rattle.trace.specs.Checksum.{words, onesSum};
+
+// The ones' complement sum of the words of s: a plain sum, whose carries are added at the end.
+pub fn ones_sum(s: &[u8]) -> u16
+    requires { ⌜ (length (now s) % 2 ≡ 0) × (length (now s) ≤ 512) ⌝ }
+    ensures { λ r. ⌜ r ≡ onesSum (words (now (s .entry))) ⌝ }
+{
+    let mut sum: u32 = 0;
+    let mut i = 0;
+    while i < s.len() {
+        sum += join16(s[i], s[i + 1]) as u32;
+        i += 2;
+    }
+    let once = sum % 65536 + sum / 65536;
+    (once % 65536 + once / 65536) as u16
+}

@@ -1,0 +1,80 @@
+// The rules on a block's contents. Each loop adds up what breaks a rule, so that it has no way out but its end.
+use crate::layout::MARK;
+use crate::layout::RECORD;
+use crate::layout::ZERO;
+use words::big_endian::join16;
+ghost use mathlib.Core.Path.{_≡_};
+ghost use mathlib.Core.Bool.{cond};
+ghost use Prim.Native.Nat.{_*_, _≤_};
+ghost use lib.ListN.{length};
+ghost use Rattle.trace.specs.Layout.{first};
+ghost use Rattle.trace.specs.Contents.{every, isZero, isMark, labelByte, goodRecords};
+
+// Whether all bytes of s are zero.
+pub fn all_zero(s: &[u8]) -> bool
+    requires { ⌜ length (now s) ≤ 512 ⌝ }
+    ensures { λ r. ⌜ r ≡ every isZero (now (s .entry)) ⌝ }
+{
+    let mut sum: u32 = 0;
+    let mut i = 0;
+    while i < s.len() {
+        sum += s[i] as u32;
+        i += 1;
+    }
+    sum == 0
+}
+
+// Whether no mark is above 3.
+pub fn all_marks(marks: &[u8]) -> bool
+    requires { ⌜ length (now marks) ≤ 512 ⌝ }
+    ensures { λ r. ⌜ r ≡ every isMark (now (marks .entry)) ⌝ }
+{
+    let mut sum: u32 = 0;
+    let mut i = 0;
+    while i < marks.len() {
+        sum += (marks[i] / 4) as u32;
+        i += 1;
+    }
+    sum == 0
+}
+
+// 1 for a byte that no label has, else 0.
+fn outside(c: u8) -> u32
+    ensures { λ r. ⌜ r ≡ cond (labelByte c) 0 1 ⌝ }
+{
+    match c {
+        10 | 13 => 0,
+        32..=126 => 0,
+        _ => 1,
+    }
+}
+
+// Whether a label may have all bytes of s.
+pub fn all_allowed(s: &[u8]) -> bool
+    requires { ⌜ length (now s) ≤ 512 ⌝ }
+    ensures { λ r. ⌜ r ≡ every labelByte (now (s .entry)) ⌝ }
+{
+    let mut sum: u32 = 0;
+    let mut i = 0;
+    while i < s.len() {
+        sum += outside(s[i]);
+        i += 1;
+    }
+    sum == 0
+}
+
+// Whether the first n records of a body have a mark of 0 to 3 and then a zero: as a number with the zero first, the two are below 4.
+pub fn all_records(n: usize, body: &[u8]) -> bool
+    requires { ⌜ (n ≤ 62) × (n * 8 ≤ length (now body)) ⌝ }
+    ensures { λ r. ⌜ r ≡ goodRecords first n (now (body .entry)) ⌝ }
+{
+    let mut sum: u32 = 0;
+    let mut left = n;
+    let mut at = 0;
+    while 0 < left {
+        sum += (join16(body[at + ZERO], body[at + MARK]) / 4) as u32;
+        left -= 1;
+        at += RECORD;
+    }
+    sum == 0
+}

@@ -1,0 +1,31 @@
+// One block of a trace (document 01, "Trace file"): 512 bytes, read or written by one call.
+use words::Refusal;
+
+mod checksum;
+mod contents;
+mod fields;
+pub mod label;
+mod layout;
+pub mod read;
+pub mod write;
+
+// What a block is: a label of `length` bytes, or `count` arrivals, with the SSRC; or why it is refused. The label or the records stay in
+// the caller's slice, from byte 8 on.
+pub enum Block {
+    Label { length: usize, ssrc: u32 },
+    Arrivals { count: usize, ssrc: u32 },
+    Refused(Refusal),
+}
+
+// One arrival of a block: its time in ms, its wire number and its mark.
+pub struct Record {
+    pub time: u32,
+    pub number: u16,
+    pub mark: u8,
+}
+
+// What stands at a place among a block's records: the record, or why there is none.
+pub enum Found {
+    Is(Record),
+    Refused(Refusal),
+}
