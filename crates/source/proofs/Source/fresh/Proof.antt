@@ -1,0 +1,10 @@
+-- `source::Source::fresh` meets its contract. Assumes nothing.
+use borrow.Author.Needs.{needs}
+use Rattle.source.proofs.Source.fresh.Statement.{statement}
+use Rattle.source.proofs.Source.fresh.Tie as tie
+
+returns : tie.Need-returns
+returns c = search needs
+
+pub fresh-spec : {M : Type 1} → statement M
+fresh-spec = tie.close (tie.spec returns)
