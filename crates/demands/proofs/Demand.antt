@@ -32,7 +32,7 @@ lost-some [] h = absurd (omega arith)
 lost-some (p ∷ ps) h = refl
 
 module _ (ps : List Packet) (m : Marks ps) (some : 1 ≤ length ps) (good : sound (count ps) ≡ true) where
-  count-lost : lost (count ps) ≡ lostOf ps
+  pub count-lost : lost (count ps) ≡ lostOf ps
   unfolding lost countFrom
   count-lost =
       rw (fresh-is (count ps) good ∙ ne-eqb (Record.arrivals (count ps)) 0 (λ e. omega (arith, count-arrivals (baseOf ps) ps m)))

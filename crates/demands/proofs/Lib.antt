@@ -5,5 +5,6 @@ pub mod Steps
 pub mod Order
 pub mod Runs
 pub mod Demand
+pub mod TableRow
 pub mod ReadBack
 pub mod WorkedExamples

@@ -8,6 +8,9 @@ use Rattle.source.specs.Record.{fresh, counting, sound, lost}
 use Rattle.source.specs.Arrivals.{counted, first, ahead, behind, distance, later, arrival}
 use Rattle.report.specs.Carried.{countsOf}
 use Rattle.report.specs.Reports.{countsBytes, feedbackOf, summaryOf}
+use Rattle.table.specs.Decimal.{digitsOf, decimal, signed}
+use Rattle.table.specs.Field.{special, anySpecial, doubledByte, doubled, asField, line}
+use Rattle.table.specs.Lines.{rowBytes}
 use Rattle.breaker.specs.Limits.{settingsOk, reportOk}
 use Rattle.breaker.specs.Windows.{emptyWindow}
 use Rattle.breaker.specs.Soundness as breaker
@@ -17,5 +20,5 @@ use Rattle.breaker.specs.Runs.{called, answersOf}
 use Rattle.demands.specs.Examples.{ExamplesHold}
 
 pub examples-hold : ExamplesHold
-unfolding ones onesIn bytes since pack place marks places moved added fresh counting sound lost counted first ahead behind distance later arrival countsOf countsBytes feedbackOf summaryOf settingsOk reportOk emptyWindow breaker.sound runAfter windowAfter holds tested rules ruled startOf reportOf called answersOf
+unfolding ones onesIn bytes since pack place marks places moved added fresh counting sound lost counted first ahead behind distance later arrival countsOf countsBytes feedbackOf summaryOf digitsOf decimal signed special anySpecial doubledByte doubled asField line rowBytes settingsOk reportOk emptyWindow breaker.sound runAfter windowAfter holds tested rules ruled startOf reportOf called answersOf
 examples-hold = refl

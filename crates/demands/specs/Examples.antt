@@ -11,6 +11,7 @@ use Rattle.source.specs.declared.Arrival.the-variants.{Accepted, Refused}
 use Rattle.source.specs.Record.{freshRecord, lost}
 use Rattle.source.specs.Arrivals.{arrival, after}
 use Rattle.report.specs.Reports.{feedbackBytes, summaryBytes}
+use Rattle.table.specs.Lines.{rowBytes}
 use Rattle.breaker.specs.declared.Answer.{Answer}
 use Rattle.breaker.specs.declared.Answer.the-variants.{Go, Stop}
 use Rattle.breaker.specs.declared.Reason.the-variants.{Congestion}
@@ -29,6 +30,8 @@ pub data Given : Type 0 where
   -- the feedback packet, and the summary block, of their record: the sender's and the media SSRC
   feedback : ℕ → ℕ → List Seen → Given
   summary : ℕ → List Seen → Given
+  -- the row of their record: the label, the SSRC, and none jumped
+  row : List ℕ → ℕ → List Seen → Given
   -- a breaker with k intervals started at 0, the first report at 1 ms and then k more, each 5,000 ms after the one before, all with the
   -- same fraction lost, round trip, packet size and rate
   reports : ℕ → ℕ → ℕ → ℕ → ℕ → Given
@@ -67,6 +70,7 @@ abbrev pub outcome : Given → Outcome
 outcome (arrivals xs) = countedOf (answerTo (Accepted freshRecord) xs)
 outcome (feedback sender media xs) = written (feedbackBytes sender media (after (answerTo (Accepted freshRecord) xs)))
 outcome (summary media xs) = written (summaryBytes media (after (answerTo (Accepted freshRecord) xs)))
+outcome (row label ssrc xs) = written (rowBytes label ssrc (after (answerTo (Accepted freshRecord) xs)) 0)
 outcome (reports k fraction rtt size rate) =
     answered (answersOf (startOf (record { k = k; m = 3; timeout = 15000; reduce = false }) 0 .breaker) (reportsUpTo k fraction rtt size rate []))
 
@@ -95,6 +99,11 @@ examples =
       given = summary 1 c1;
       outcome = written
           (0x0D ∷ 0x00 ∷ 0x00 ∷ 0x05 ∷ 0 ∷ 0 ∷ 0 ∷ 1 ∷ 0 ∷ 0 ∷ 0 ∷ 2 ∷ 0 ∷ 0 ∷ 0 ∷ 1 ∷ 0 ∷ 2 ∷ 0 ∷ 0 ∷ 0 ∷ 2 ∷ 0 ∷ 1 ∷ []);
+    }
+    -- C1's row: `"probe 2, left",1,65539,2,1,2,0,2,1,0` and CR LF
+    ∷ record {
+      given = row (112 ∷ 114 ∷ 111 ∷ 98 ∷ 101 ∷ 32 ∷ 50 ∷ 44 ∷ 32 ∷ 108 ∷ 101 ∷ 102 ∷ 116 ∷ []) 1 c1;
+      outcome = written (34 ∷ 112 ∷ 114 ∷ 111 ∷ 98 ∷ 101 ∷ 32 ∷ 50 ∷ 44 ∷ 32 ∷ 108 ∷ 101 ∷ 102 ∷ 116 ∷ 34 ∷ 44 ∷ 49 ∷ 44 ∷ 54 ∷ 53 ∷ 53 ∷ 51 ∷ 57 ∷ 44 ∷ 50 ∷ 44 ∷ 49 ∷ 44 ∷ 50 ∷ 44 ∷ 48 ∷ 44 ∷ 50 ∷ 44 ∷ 49 ∷ 44 ∷ 48 ∷ 13 ∷ 10 ∷ []);
     }
     -- C4, and its lost in a packet
     ∷ record { given = arrivals ((10, 0) ∷ (9, 0) ∷ []); outcome = counted 0 (pos 10 ∷ pos 0 ∷ pos 0 ∷ pos 0 ∷ pos 2 ∷ negsuc 0 ∷ pos 0 ∷ []) }

@@ -1,0 +1,47 @@
+-- `convert::Run::start` meets its contract. Assumes nothing.
+use borrow.Author.Needs.{needs}
+use mathlib.Core.Path.{sym, ap, _∙_}
+use denote.Ref.{now}
+use Rattle.trace.specs.Layout.{first as form}
+use Rattle.convert.proofs.Steps.{start-other, start-label}
+use Rattle.convert.specs.declared.Begin.the-variants as begin
+use Rattle.source.specs.declared.Source.{Source}
+use Rattle.convert.proofs.Run.start.Statement.{statement}
+use Rattle.convert.proofs.Run.start.Tie as tie
+
+read-block-requires : tie.Need-read-block-requires
+read-block-requires c κs = search needs
+
+enum-known-read : tie.Need-enum-known-read
+enum-known-read c = search needs
+
+fault-of-requires : tie.Need-fault-of-requires
+fault-of-requires c κs = search needs
+
+returns : tie.Need-returns
+returns c =
+    let first = now (c .before .before .before .before .args .first) in
+    let read = c .before .before .read-block in
+    ap begin.Refused (c .fault-of .ensures) ∙ sym (start-other form first (read .result) (sym (read .ensures)) (c .before .match .keys2))
+
+fresh-requires : tie.Need-fresh-requires
+fresh-requires c κs = search needs
+
+returns-2 : tie.Need-returns-2
+returns-2 c =
+    let first = now (c .before .before .before .before .before .before .args .first) in
+    let read = c .before .before .before .before .read-block in
+    let is = c .before .before .read .given in
+    ap (λ (s : Source). begin.Started (record { length = is .0 .0; ssrc = is .0 .1 .0; source = s; jumped = 0 })) (c .fresh .ensures)
+    ∙ sym (start-label form first (sym (read .ensures) ∙ is .1))
+
+pub start-spec : {M : Type 1} → statement M
+start-spec =
+    tie.close
+    (tie.spec
+    read-block-requires
+    enum-known-read
+    fault-of-requires
+    returns
+    fresh-requires
+    returns-2)

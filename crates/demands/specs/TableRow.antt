@@ -1,0 +1,35 @@
+-- Demand 3 in the table: "every report written from it carries that count", and so does a row (document 01, "Table": the full values).
+use mathlib.Core.Path.{_≡_}
+use mathlib.Core.Bool.{true}
+use mathlib.Core.List.{List, [], _∷_}
+use mathlib.Core.Option.{none}
+use Prim.Native.Nat.{ℕ, _^_, _≤_}
+use Rattle.trace.specs.Contents.{labelOk}
+use Rattle.table.specs.Decimal.{decimal, signed}
+use Rattle.table.specs.Field.{asField, line}
+use Rattle.table.specs.Lines.{rowFault, rowBytes}
+use Rattle.demands.specs.Calls.{Packet, arrivals, run, Described}
+use Rattle.demands.specs.Count.{highestOf, duplicatesOf, tally, lostOf}
+
+-- the texts of a row's numbers, from the count over a list of arrivals
+abbrev pub countTexts : ℕ → List Packet → ℕ → List (List ℕ)
+countTexts ssrc ps jumped =
+    decimal ssrc
+    ∷ signed (highestOf ps)
+    ∷ decimal (tally 2 ps)
+    ∷ decimal (tally 1 ps)
+    ∷ decimal (tally 3 ps)
+    ∷ decimal (tally 0 ps)
+    ∷ signed (lostOf ps)
+    ∷ decimal (duplicatesOf ps)
+    ∷ decimal jumped
+    ∷ []
+
+-- the row of the state at the end of a list of calls, with any label that a trace can have: it is not refused, and has the count's values
+pub record Row (ps : List Packet) (label : List ℕ) (ssrc jumped : ℕ) : Type 0 where
+  pub accepted : rowFault label (run ps) jumped ≡ none
+  pub bytes : rowBytes label ssrc (run ps) jumped ≡ line (asField label) (countTexts ssrc (arrivals ps) jumped)
+
+abbrev pub RowCarriesCount : Type 0
+RowCarriesCount =
+    (ps : List Packet) → Described ps → (label : List ℕ) (ssrc jumped : ℕ) → labelOk label ≡ true → jumped ≤ 2 ^ 48 → Row ps label ssrc jumped

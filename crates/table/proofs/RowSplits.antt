@@ -1,0 +1,107 @@
+-- The table's lines, split by RFC 4180. Assumes nothing.
+use mathlib.Core.Path.{_≡_, refl, sym, ap, _∙_}
+use mathlib.Core.Bool.{Bool, true, false, not, cond, _||_, _&&_}
+use mathlib.Core.Option.{none, some}
+use mathlib.Core.List.{List, [], _∷_, _++_, map}
+use Prim.Native.Nat.{ℕ, _^_}
+use native.Mathlib.Omega.{arith}
+use lib.Dec.{leb, eqb}
+use lib.ListN.{length}
+use Rattle.words.specs.declared.Refusal.the-variants.{Malformed, Limits}
+use Rattle.words.proofs.Conditions.{and-left, and-right, all-true}
+use Rattle.source.specs.declared.Source.{Source}
+use Rattle.source.specs.Record.{sound, lost}
+use Rattle.trace.specs.Contents.{every, labelByte, labelOk}
+use Rattle.table.specs.Field.{special, anySpecial, asField, line}
+use Rattle.table.specs.Lines.{labelName, names, numbers, headBytes, rowFault, rowBytes}
+use Rattle.table.specs.Rfc4180.{split}
+use Rattle.table.specs.Theorems.{plain, allPlain, HeadSplits, Says, RowSplits}
+use Rattle.table.proofs.Splitting.{line-splits, decimal-field, signed-field}
+
+pub head-splits : HeadSplits
+unfolding headBytes asField anySpecial special plain allPlain
+head-splits rest = line-splits labelName names rest refl
+
+-- ---- a row
+
+-- a label is a text that a field can hold
+label-plain : (label : List ℕ) → every labelByte label ≡ true → plain label ≡ true
+unfolding every labelByte plain
+label-plain [] e = refl
+label-plain (c ∷ label) e =
+    let test = (leb 32 c && leb c 126) || (eqb c 10 || eqb c 13) in
+    both (leb 32 c && leb c 126) (eqb c 10) (eqb c 13) (plain label) (and-left test (every labelByte label) e)
+    (label-plain label (and-right test (every labelByte label) e))
+  where
+    both : (a b c p : Bool) → (a || (b || c)) ≡ true → p ≡ true → ((a || (c || b)) && p) ≡ true
+    both true b c p e f = f
+    both false true true p e f = f
+    both false true false p e f = f
+    both false false true p e f = f
+    both false false false p e f = e
+
+label-ok : (label : List ℕ) (s : Source) (jumped : ℕ) → rowFault label s jumped ≡ none → labelOk label ≡ true
+unfolding rowFault
+label-ok label s jumped e = go (sound s) (labelOk label) (leb jumped (2 ^ 48)) e
+  where
+    go : (a b c : Bool) → cond (not a) (some Malformed) (cond (not (b && c)) (some Limits) none) ≡ none → b ≡ true
+    go false b c e = let z : _≡_ {A = ℕ} 0 1 = cc in absurd (omega arith)
+    go true false c e = let z : _≡_ {A = ℕ} 0 1 = cc in absurd (omega arith)
+    go true true c e = refl
+
+module _ (ssrc : ℕ) (s : Source) (jumped : ℕ) where
+  bare : map asField (numbers ssrc s jumped) ≡ numbers ssrc s jumped
+  bare =
+      rw (
+        decimal-field ssrc .0 .bare,
+        signed-field (s .highest .0) .0 .bare,
+        decimal-field (s .ect0) .0 .bare,
+        decimal-field (s .ect1) .0 .bare,
+        decimal-field (s .ce) .0 .bare,
+        decimal-field (s .notect) .0 .bare,
+        signed-field (lost s) .0 .bare,
+        decimal-field (s .duplicates) .0 .bare,
+        decimal-field jumped .0 .bare,
+      )
+
+  readable : (label : List ℕ) → plain label ≡ true → allPlain (label ∷ numbers ssrc s jumped) ≡ true
+  unfolding allPlain
+  readable label e =
+      rw (
+        e,
+        decimal-field ssrc .0 .plain,
+        signed-field (s .highest .0) .0 .plain,
+        decimal-field (s .ect0) .0 .plain,
+        decimal-field (s .ect1) .0 .plain,
+        decimal-field (s .ce) .0 .plain,
+        decimal-field (s .notect) .0 .plain,
+        signed-field (lost s) .0 .plain,
+        decimal-field (s .duplicates) .0 .plain,
+        decimal-field jumped .0 .plain,
+      )
+
+  says : (label : List ℕ) → Says label ssrc s jumped (label ∷ numbers ssrc s jumped)
+  says label = record {
+    ten = refl;
+    label = refl;
+    ssrc = decimal-field ssrc .1;
+    highest = signed-field (s .highest .0) .1;
+    ect0 = decimal-field (s .ect0) .1;
+    ect1 = decimal-field (s .ect1) .1;
+    ce = decimal-field (s .ce) .1;
+    notect = decimal-field (s .notect) .1;
+    lost = signed-field (lost s) .1;
+    duplicates = decimal-field (s .duplicates) .1;
+    jumped = decimal-field jumped .1;
+  }
+
+pub row-splits : RowSplits
+unfolding rowBytes labelOk
+row-splits label ssrc s jumped rest e =
+    let ok = all-true (leb (length label) 502 ∷ every labelByte label ∷ []) 1 (label-ok label s jumped e) in
+    let texts = numbers ssrc s jumped in (
+      label ∷ texts,
+      ap (λ (l : List (List ℕ)). split (line (asField label) l ++ rest)) (sym (bare ssrc s jumped))
+          ∙ line-splits label texts rest (readable ssrc s jumped label (label-plain label ok)),
+      says ssrc s jumped label,
+    )

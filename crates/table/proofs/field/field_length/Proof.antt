@@ -1,0 +1,29 @@
+-- `table::field::field_length` meets its contract. Assumes nothing.
+use borrow.Author.Needs.{needs}
+use native.Mathlib.Omega.{arith}
+use denote.Ref.{now}
+use Rattle.table.proofs.Texts.{length-quoted, length-bare, doubled-length}
+use Rattle.words.proofs.Conditions.{was-true, was-false}
+use Rattle.table.proofs.field.field_length.Statement.{statement}
+use Rattle.table.proofs.field.field_length.Tie as tie
+
+has-special-requires : tie.Need-has-special-requires
+has-special-requires c κs = search needs
+
+returns : tie.Need-returns
+returns c =
+    let s = now (c .before .before .before .args .s) in omega (arith, length-bare s (was-false (c .before .has-special .ensures) (c .if1 .taken)))
+
+inner-length-requires : tie.Need-inner-length-requires
+inner-length-requires c κs = search needs
+
+add-result : tie.Need-add-result
+add-result c = omega (arith, doubled-length (now (c .before .before .before .before .args .s)))
+
+returns-2 : tie.Need-returns-2
+returns-2 c =
+    let s = now (c .before .before .before .before .args .s) in omega (arith, length-quoted s (was-true (c .before .before .has-special .ensures) (c .before .if1 .left)))
+
+pub field-length-spec : {M : Type 1} → statement M
+field-length-spec =
+    tie.close (tie.spec has-special-requires returns inner-length-requires add-result returns-2)

@@ -1,0 +1,37 @@
+-- `table::write_head` meets its contract. Assumes nothing.
+use borrow.Author.Needs.{needs}
+use mathlib.Core.Path.{refl}
+use Prim.Native.Nat.{_-_}
+use denote.Ref.{now}
+use Rattle.words.proofs.Stores.{wrote-short, wrote-all}
+use Rattle.table.specs.Field.{line}
+use Rattle.table.specs.Lines.{headBytes}
+use Rattle.table.proofs.write_head.Statement.{statement}
+use Rattle.table.proofs.write_head.Tie as tie
+
+returns : tie.Need-returns
+unfolding headBytes line
+returns c =
+    let a = c .before .before .args in
+    let w = wrote-short headBytes (now (a .out)) refl (c .if1 .taken) in
+    (w .answers, w .stores)
+
+slice-aggregate-put-bytes : tie.Need-slice-aggregate-put-bytes
+slice-aggregate-put-bytes c = search needs
+
+put-bytes-requires : tie.Need-put-bytes-requires
+put-bytes-requires c κs = search needs
+
+same-length : tie.Need-same-length
+same-length c = search needs
+
+returns-2 : tie.Need-returns-2
+unfolding headBytes line
+returns-2 c =
+    let a = c .before .before .before .before .before .before .before .args in
+    let w = wrote-all headBytes (now (a .out)) refl (c .before .before .before .before .before .if1 .left) refl (c .before .before .put-bytes .ensures) in
+    (w .answers, w .stores)
+
+pub write-head-spec : {M : Type 1} → statement M
+write-head-spec =
+    tie.close (tie.spec returns slice-aggregate-put-bytes put-bytes-requires same-length returns-2)

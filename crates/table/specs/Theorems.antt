@@ -1,0 +1,69 @@
+-- What holds between writing a line and splitting it by RFC 4180 (document 01, "Table").
+use mathlib.Core.Path.{_≡_}
+use mathlib.Core.Bool.{Bool, true, _||_, _&&_}
+use mathlib.Core.List.{List, [], _∷_, _++_, map}
+use mathlib.Core.Option.{none, some}
+use Prim.Native.Nat.{ℕ}
+use lib.Dec.{leb, eqb}
+use lib.IntN.{ℤ}
+use lib.ListN.{length, getD}
+use Rattle.source.specs.declared.Source.{Source}
+use Rattle.source.specs.Record.{lost as lostOf}
+use Rattle.table.specs.Decimal.{decimal, signed, numberIn, signedIn}
+use Rattle.table.specs.Field.{asField, line}
+use Rattle.table.specs.Rfc4180.{split}
+use Rattle.table.specs.Lines.{labelName, names, headBytes, rowFault, rowBytes}
+
+-- a text that a field can hold: bytes 32 to 126, CR and LF
+unfoldable pub plain : List ℕ → Bool
+plain [] = true
+plain (c ∷ s) = ((leb 32 c && leb c 126) || (eqb c 13 || eqb c 10)) && plain s
+
+unfoldable pub allPlain : List (List ℕ) → Bool
+allPlain [] = true
+allPlain (t ∷ ts) = plain t && allPlain ts
+
+-- splitting a line gives the texts that it was made of, and what follows the line is left over
+abbrev pub LineSplits : Type 0
+LineSplits =
+    (first : List ℕ) (more : List (List ℕ)) (rest : List ℕ) → allPlain (first ∷ more) ≡ true
+    → split (line (asField first) (map asField more) ++ rest) ≡ some (record { fields = first ∷ more; rest = rest })
+
+-- a number is a field as it stands, and reads back
+pub record IsNumber (text : List ℕ) : Type 0 where
+  pub bare : asField text ≡ text
+  pub plain : plain text ≡ true
+
+abbrev pub DecimalField : Type 0
+DecimalField = (n : ℕ) → IsNumber (decimal n) × (numberIn (decimal n) ≡ n)
+
+abbrev pub SignedField : Type 0
+SignedField = (z : ℤ) → IsNumber (signed z) × (signedIn (signed z) ≡ z)
+
+-- ---- the table's lines
+
+-- the head line splits into the names of the ten columns
+abbrev pub HeadSplits : Type 0
+HeadSplits = (rest : List ℕ) → split (headBytes ++ rest) ≡ some (record { fields = labelName ∷ names; rest = rest })
+
+-- ten fields that say the ten values of a row
+pub record Says (text : List ℕ) (from : ℕ) (s : Source) (jumps : ℕ) (fields : List (List ℕ)) : Type 0 where
+  pub ten : length fields ≡ 10
+  pub label : getD fields 0 [] ≡ text
+  pub ssrc : numberIn (getD fields 1 []) ≡ from
+  pub highest : signedIn (getD fields 2 []) ≡ s .highest .0
+  pub ect0 : numberIn (getD fields 3 []) ≡ s .ect0
+  pub ect1 : numberIn (getD fields 4 []) ≡ s .ect1
+  pub ce : numberIn (getD fields 5 []) ≡ s .ce
+  pub notect : numberIn (getD fields 6 []) ≡ s .notect
+  pub lost : signedIn (getD fields 7 []) ≡ lostOf s
+  pub duplicates : numberIn (getD fields 8 []) ≡ s .duplicates
+  pub jumped : numberIn (getD fields 9 []) ≡ jumps
+
+-- a row that is not refused splits into such fields, and what follows the row is left over
+abbrev pub RowSplits : Type 0
+RowSplits =
+    (label : List ℕ) (ssrc : ℕ) (s : Source) (jumped : ℕ) (rest : List ℕ) → rowFault label s jumped ≡ none
+    → (fields : List (List ℕ))
+    × (split (rowBytes label ssrc s jumped ++ rest) ≡ some (record { fields = fields; rest = rest }))
+    × Says label ssrc s jumped fields
