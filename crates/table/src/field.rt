@@ -1,5 +1,5 @@
 // A text as a field of a line.
-use crate::bytes::put_bytes;
+use words::copy::put_bytes;
 ghost use mathlib.Core.Path.{_≡_};
 ghost use mathlib.Core.Bool.{true};
 ghost use Prim.Native.Nat.{_+_, _-_, _≤_};

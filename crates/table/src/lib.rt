@@ -5,13 +5,13 @@ use source::Source;
 use trace::label::is_label;
 use words::Refusal;
 use words::Written;
+use words::copy::put_bytes;
 ghost use mathlib.Core.Path.{_≡_};
 ghost use mathlib.Core.Option.{none};
 ghost use Rattle.words.specs.Refusals.{numberOf};
 ghost use Rattle.words.specs.Writers.{written, stored};
 ghost use Rattle.table.specs.Lines.{headBytes, rowFault, rowBytes, refusedLine};
 
-mod bytes;
 mod decimal;
 mod field;
 mod lines;
@@ -28,7 +28,7 @@ pub fn write_head(out: &mut [u8]) -> Written
     if out.len() < 56 {
         return Written::Refused(Refusal::Room);
     }
-    bytes::put_bytes(
+    put_bytes(
         b"label,ssrc,highest,ect0,ect1,ce,notect,lost,dup,jumped\r\n",
         out,
         0,

@@ -1,9 +1,9 @@
 // The line of a refused block.
-use crate::bytes::put_bytes;
 use crate::decimal::digits;
 use crate::decimal::put_before;
 use words::Refusal;
 use words::Written;
+use words::copy::put_bytes;
 ghost use mathlib.Core.Path.{_≡_};
 ghost use mathlib.Core.List.{_++_};
 ghost use mathlib.Core.Option.{none};

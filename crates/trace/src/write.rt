@@ -17,6 +17,7 @@ use words::Refusal;
 use words::Written;
 use words::big_endian::write16;
 use words::big_endian::write32;
+use words::copy::put_bytes;
 ghost use mathlib.Core.Path.{_≡_};
 ghost use mathlib.Core.List.{_++_};
 ghost use Prim.Native.Nat.{_+_, _-_, _*_, _≤_};
@@ -36,18 +37,6 @@ fn put_header(kind: u16, count: usize, ssrc: u32, out: &mut [u8])
     write16(kind, out, 0);
     write16(count as u16, out, 2);
     write32(ssrc, out, 4);
-}
-
-// Stores the bytes of s in out from byte 8 on.
-fn put_bytes(s: &[u8], out: &mut [u8])
-    requires { ⌜ 8 + length (now s) ≤ length (now out) ⌝ }
-    ensures { λ _. ⌜ now (out .exit) ≡ sets (now (out .entry)) 8 (now (s .entry)) ⌝ }
-{
-    let mut i = 0;
-    while i < s.len() {
-        out[BODY + i] = s[i];
-        i += 1;
-    }
 }
 
 // Stores a record in out at a place.
@@ -118,7 +107,7 @@ pub fn write_label(label: &[u8], ssrc: u32, out: &mut [u8]) -> Written
         return Written::Refused(Refusal::Room);
     }
     put_header(LABEL, label.len(), ssrc, out);
-    put_bytes(label, out);
+    put_bytes(label, out, BODY);
     put_end(out, BODY + label.len());
     Written::Length(BLOCK)
 }

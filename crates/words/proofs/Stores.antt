@@ -2,11 +2,13 @@
 use mathlib.Core.Path.{_≡_, refl, sym, _∙_}
 use mathlib.Core.List.{List, [], _∷_, _++_}
 use mathlib.Core.Option.{Option, none, some}
-use Prim.Native.Nat.{ℕ, suc, _+_, _-_, _≤_, _<_}
+use Prim.Native.Nat.{ℕ, suc, _+_, _-_, _≤_, _<_, min}
 use native.Mathlib.Nat.{add-zero, zero-add, add-suc, suc-add}
 use native.Mathlib.Numerals.{add-one}
 use native.Mathlib.Omega.{arith}
-use borrow.Author.Tests.{lt-ltb, le-ltb}
+use borrow.Author.Tests.{lt-ltb, le-ltb, leb-true, leb-false}
+use mathlib.Core.Bool.{Bool, true, false}
+use lib.Dec.{leb}
 use lib.ListN.{length, drop, set, getD, drop-of-length-le}
 use lib.Seq.{sets, sets-eq, set-out, drop-cons}
 use Rattle.words.specs.Writers.{written, stored}
@@ -44,6 +46,14 @@ sets-turn l i s j h = rw (add-one i, add-one j, drop-cons s j 0)
 -- and after its last turn nothing is left
 pub sets-done : (l : List ℕ) (i : ℕ) (s : List ℕ) (j : ℕ) → length s ≤ j → l ≡ sets l i (drop j s)
 sets-done l i s j h = rw (drop-of-length-le s h)
+
+-- nor after the last that fits
+pub sets-cut : (l : List ℕ) (i : ℕ) (s : List ℕ) (j : ℕ) → min (length s) (length l - i) ≤ j → l ≡ sets l (i + j) (drop j s)
+sets-cut l i s j h = go (leb (length s) j) refl
+  where
+    go : (b : Bool) → leb (length s) j ≡ b → l ≡ sets l (i + j) (drop j s)
+    go true e = sets-done l (i + j) s j (leb-true (length s) j e)
+    go false e = sym (sets-out l (i + j) (drop j s) (let g = leb-false (length s) j e in omega arith))
 
 -- ---- what a writer promises: its answer, and the output afterwards
 

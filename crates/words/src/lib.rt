@@ -3,6 +3,7 @@ ghost use mathlib.Core.Path.{_≡_};
 ghost use Rattle.words.specs.Refusals.{numberOf};
 
 pub mod big_endian;
+pub mod copy;
 pub mod sign;
 pub mod since;
 

@@ -43,7 +43,7 @@ put-header-requires : tie.Need-put-header-requires
 put-header-requires c κs = few (c .before .before)
 
 put-bytes-requires : tie.Need-put-bytes-requires
-put-bytes-requires c κs = omega (arith, few (c .before .before .before .before .before .before))
+put-bytes-requires c κs = search needs
 
 add-put-end : tie.Need-add-put-end
 add-put-end c = search needs
