@@ -164,3 +164,7 @@ fresh-is s e = go (fresh s) refl
     go : (b : Bool) → fresh s ≡ b → b ≡ eqb (arrivals s) 0
     go true f = sym (eq-eqb (arrivals s) 0 (fresh-none s f))
     go false f = sym (ne-eqb (arrivals s) 0 (λ z. let some = facts s (sound-counting s e f) .some in omega arith))
+
+-- a sound record with an arrival has counted
+pub counted-some : (s : Source) → sound s ≡ true → 1 ≤ arrivals s → counting s ≡ true
+counted-some s e h = sound-counting s e (fresh-is s e ∙ ne-eqb (arrivals s) 0 (λ z. omega arith))

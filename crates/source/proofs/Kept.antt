@@ -36,7 +36,7 @@ bit-not false = refl
 -- ---- the facts of the next record
 
 module _ (s : Source) (mark : ℕ) (m : mark ≤ 3) where
-  counted-arrivals : (b h : Extended) (n : ℕ) (past : History) → arrivals (counted s mark b h n past) ≡ arrivals s + 1
+  pub counted-arrivals : (b h : Extended) (n : ℕ) (past : History) → arrivals (counted s mark b h n past) ≡ arrivals s + 1
   unfolding counted
   counted-arrivals b h n past = omega (arith, one-mark mark m)
 
@@ -63,7 +63,7 @@ module _ (s : Source) (mark : ℕ) (m : mark ≤ 3) where
         spread = omega arith;
       }
 
-  first-facts : (wire : Wire) → wire .0 < 65536 → arrivals s ≡ 0 → Facts (first s wire mark)
+  pub first-facts : (wire : Wire) → wire .0 < 65536 → arrivals s ≡ 0 → Facts (first s wire mark)
   unfolding first
   first-facts wire w z =
       counted-facts (wire .0) (wire .0) 0 (λ k. eqb k 0) (omega arith) (omega arith) (omega arith) (omega arith) refl

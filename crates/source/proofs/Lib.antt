@@ -5,4 +5,8 @@ pub mod Facts
 pub mod Answers
 pub mod Kept
 pub mod Packets
+pub mod Bytes
+pub mod Simulated
+pub mod Turns
+pub mod Opened
 pub mod Losses

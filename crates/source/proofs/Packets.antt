@@ -3,23 +3,24 @@ use mathlib.Core.Path.{_≡_, refl, sym, ap, ap₂, _∙_}
 use mathlib.Core.Bool.{true, false, _&&_}
 use mathlib.Core.List.{List, [], _∷_}
 use Prim.Native.Nat.{ℕ, zero, suc, _+_, _-_, _*_, _/_, _%_, _≤_, _<_}
-use native.Mathlib.Nat.{suc-mul, div-add-mod'}
+use native.Mathlib.Nat.{suc-mul, div-add-mod', div-le-self, mul-mod-left, mul-div-cancel, le-div-iff-mul-le}
 use native.Mathlib.Omega.{arith}
-use borrow.Author.Tests.{le-leb, lt-leb, leb-true}
+use borrow.Author.Tests.{le-leb, lt-leb, leb-true, eqb-true}
 use lib.Dec.{eqb, leb}
-use lib.ListN.{length, getD, drop}
+use lib.ListN.{length, getD, drop, length-drop}
 use lib.Seq.{getD-drop, drop-drop}
 use Rattle.words.specs.BigEndian.{word}
 use Rattle.words.proofs.BigEndian.{word-two, word-drop}
 use Rattle.words.specs.Refusals.{numberOf}
-use Rattle.words.proofs.Conditions.{and-left, and-right}
+use Rattle.words.specs.Conditions.{all}
+use Rattle.words.proofs.Conditions.{all-true, and-left, and-right}
 use Rattle.source.specs.declared.Source.{Source}
 use Rattle.source.specs.declared.Arrival.{Arrival}
 use Rattle.source.specs.declared.Arrival.the-variants.{Accepted, Refused}
 use Rattle.source.specs.declared.BlockCount.the-variants.{Counted}
 use Rattle.source.specs.Record.{sound}
 use Rattle.source.specs.Arrivals.{arrival, after}
-use Rattle.source.specs.Blocks.{Packet, packets, marksFit, jump, counting}
+use Rattle.source.specs.Blocks.{Packet, packets, marksFit, inLimits, jump, counting}
 use Rattle.source.proofs.Rows.{bit-le}
 
 -- the record of `width` bytes at a place
@@ -36,9 +37,14 @@ packet-is width s at h en em =
     let mark = em ∙ ap (λ (i : ℕ). getD s i 0) third in
     λ i. record { wire = record { 0 = number i }; mark = mark i }
 
-pub jump-le : (a : Arrival) → jump a ≤ 1
-jump-le (Accepted s) = omega arith
-jump-le (Refused refusal s) = bit-le (eqb (numberOf refusal) 7)
+-- and the first, as it is read before the loop
+pub first-is : (width : ℕ) (s : List ℕ) → 4 ≤ width → {n m : ℕ} → n ≡ word 2 (getD s (width - 4) 0 ∷ getD s (width - 3) 0 ∷ []) 0
+    → m ≡ getD s (width - 2) 0 → _≡_ {A = Packet} (record { wire = record { 0 = n }; mark = m }) (packet width s 0)
+first-is width s h en em =
+    let one : width - 4 ≡ 0 + width - 4 = omega arith in
+    let two : width - 3 ≡ 0 + width - 4 + 1 = omega arith in
+    let three : width - 2 ≡ 0 + width - 4 + 2 = omega arith in
+    packet-is width s 0 h (en ∙ ap₂ (λ (i j : ℕ). word 2 (getD s i 0 ∷ getD s j 0 ∷ []) 0) one two) (em ∙ ap (λ (i : ℕ). getD s i 0) three)
 
 -- k records are left at a place
 module _ (width : ℕ) (s : List ℕ) where
@@ -49,7 +55,7 @@ module _ (width : ℕ) (s : List ℕ) where
   abbrev pub rest : (at : ℕ) → Left at → List Packet
   rest at l = packets width (l .k) (drop at s)
 
-  pub all-left : length s % width ≡ 0 → Left 0
+  unfoldable pub all-left : length s % width ≡ 0 → Left 0
   all-left e = record { k = length s / width; whole = let d = div-add-mod' (length s) width in omega arith }
 
   -- at the end there are none
@@ -82,6 +88,44 @@ module _ (width : ℕ) (s : List ℕ) where
   -- and it is whole
   pub room-left : (at : ℕ) (l : Left at) → at < length s → at + width ≤ length s
   room-left at l h = omega (arith, one-left at l h .after .whole)
+
+  -- what is left is whole records too
+  pub length-left : (at : ℕ) (l : Left at) → length (drop at s) ≡ l .k * width
+  length-left at l = rw length-drop (omega (arith, l .whole))
+
+  pub whole-left : (at : ℕ) (l : Left at) → length (drop at s) % width ≡ 0
+  whole-left at l = rw (length-left at l) (mul-mod-left (l .k) width)
+
+  pub count-left : (at : ℕ) (l : Left at) → 1 ≤ width → length (drop at s) / width ≡ l .k
+  count-left at l w = rw (length-left at l) (mul-div-cancel (l .k) w)
+
+  pub few-left : (at : ℕ) (l : Left at) → 1 ≤ width → l .k ≤ length s / width
+  few-left at l w = le-div-iff-mul-le w .1 (omega (arith, l .whole))
+
+-- ---- 1 to 62 whole records, no mark above 3
+
+pub record Limits (width : ℕ) (s : List ℕ) : Type 0 where
+  pub wide : 4 ≤ width
+  pub whole : length s % width ≡ 0
+  pub some : 1 ≤ length s / width
+  pub few : length s / width ≤ 62
+  pub fit : marksFit (packets width (length s / width) s) ≡ true
+
+pub limits : (width : ℕ) (s : List ℕ) → all (inLimits width s) ≡ true → Limits width s
+limits width s e = record {
+  wide = leb-true 4 width (all-true (inLimits width s) 0 e);
+  whole = eqb-true (length s % width) 0 (all-true (inLimits width s) 1 e);
+  some = leb-true 1 (length s / width) (all-true (inLimits width s) 2 e);
+  few = leb-true (length s / width) 62 (all-true (inLimits width s) 3 e);
+  fit = all-true (inLimits width s) 4 e;
+}
+
+-- so there is a first
+pub one-at-least : (width : ℕ) (s : List ℕ) → Limits width s → 0 < length s
+one-at-least width s l = let d = div-le-self (length s) width in omega (arith, l .some)
+
+pub first-whole : (width : ℕ) (s : List ℕ) → Limits width s → width ≤ length s
+first-whole width s l = omega (arith, room-left width s 0 (all-left width s (l .whole)) (one-at-least width s l))
 
 -- ---- the loops over a block
 
@@ -118,13 +162,12 @@ module _ (width : ℕ) (s : List ℕ) (start : Source) where
   pub record CountLeft (at : ℕ) (state : Source) (jumps : ℕ) : Type 0 where
     pub left : Left width s at
     pub fit : marksFit (rest width s at left) ≡ true
-    pub few : jumps + left .k ≤ 62
     pub good : sound state ≡ true
     pub same : counting (rest width s at left) state jumps ≡ counting (packets width (length s / width) s) start 0
 
-  pub count-start : length s % width ≡ 0 → length s / width ≤ 62 → marksFit (packets width (length s / width) s) ≡ true → sound start ≡ true → CountLeft 0 start 0
+  unfoldable pub count-start : length s % width ≡ 0 → marksFit (packets width (length s / width) s) ≡ true → sound start ≡ true → CountLeft 0 start 0
   unfolding all-left
-  count-start e l m g = record { left = all-left width s e; fit = m; few = omega arith; good = g; same = refl }
+  count-start e m g = record { left = all-left width s e; fit = m; good = g; same = refl }
 
   module _ (at : ℕ) (state : Source) (jumps : ℕ) (c : CountLeft at state jumps) where
     pub count-end : 1 ≤ width → length s ≤ at → Counted state jumps ≡ counting (packets width (length s / width) s) start 0
@@ -132,27 +175,23 @@ module _ (width : ℕ) (s : List ℕ) (start : Source) where
     count-end w h = ap (λ (ps : List Packet). counting ps state jumps) (sym (none-left width s at (c .left) w h)) ∙ c .same
 
     module _ (h : at < length s) where
-      next : Next width s at (c .left)
+      pub next : Next width s at (c .left)
       next = one-left width s at (c .left) h
 
-      fits : (leb (packet width s at .mark) 3 && marksFit (rest width s (at + width) (next .after))) ≡ true
+      pub fits : (leb (packet width s at .mark) 3 && marksFit (rest width s (at + width) (next .after))) ≡ true
       fits = sym (ap marksFit (next .is)) ∙ c .fit
 
       pub mark-here : packet width s at .mark ≤ 3
       mark-here = leb-true (packet width s at .mark) 3 (and-left (leb (packet width s at .mark) 3) _ fits)
 
-      pub few-here : jumps < 62
-      few-here = omega (arith, c .few, next .one-less)
-
-      pub count-next : (state′ : Source) (jumps′ : ℕ) → sound state′ ≡ true → jumps′ ≤ jumps + 1
+      unfoldable pub count-next : (state′ : Source) (jumps′ : ℕ) → sound state′ ≡ true
           → state′ ≡ after (arrival state (packet width s at .wire) (packet width s at .mark))
           → jumps′ ≡ jumps + jump (arrival state (packet width s at .wire) (packet width s at .mark))
           → CountLeft (at + width) state′ jumps′
       unfolding counting
-      count-next state′ jumps′ g l es ej = record {
+      count-next state′ jumps′ g es ej = record {
         left = next .after;
         fit = and-right (leb (packet width s at .mark) 3) _ fits;
-        few = omega (arith, c .few, next .one-less, l);
         good = g;
         same = ap₂ (λ (t : Source) (n : ℕ). counting (rest width s (at + width) (next .after)) t n) es ej
             ∙ ap (λ (ps : List Packet). counting ps state jumps) (sym (next .is)) ∙ c .same;

@@ -2,4 +2,5 @@ pub mod Places
 pub mod Record
 pub mod Arrivals
 pub mod Blocks
+pub mod Tallied
 pub mod Theorems

@@ -1,22 +1,18 @@
 // The records of one arrivals block, counted in order.
-use crate::Arrival;
 use crate::BlockCount;
 use crate::Source;
 use crate::Wire;
-use crate::step;
-use words::Refusal;
+use crate::base::first;
+use crate::soundness::is_fresh;
+use crate::tallies;
 use words::big_endian::join16;
 ghost use mathlib.Core.Path.{_≡_};
 ghost use mathlib.Core.Bool.{true};
-ghost use Prim.Native.Nat.{_+_, _/_, _%_, _<_, _≤_};
-ghost use lib.Dec.{eqb};
+ghost use Prim.Native.Nat.{_/_, _%_, _≤_};
 ghost use lib.ListN.{length};
 ghost use Rattle.words.specs.Conditions.{all};
-ghost use Rattle.words.specs.Refusals.{numberOf};
-ghost use Rattle.source.specs.Places.{bit};
-ghost use Rattle.source.specs.Record.{sound};
-ghost use Rattle.source.specs.Arrivals.{arrival, after};
-ghost use Rattle.source.specs.Blocks.{packets, marksFit, inLimits, jump, counting};
+ghost use Rattle.source.specs.Record.{counting as hasCounted, sound};
+ghost use Rattle.source.specs.Blocks.{packets, marksFit, inLimits, counting};
 
 // The most records of a block.
 const MOST_RECORDS: usize = 62;
@@ -58,49 +54,32 @@ pub fn in_limits(records: &[u8], width: usize) -> bool
     marks_fit(records, width)
 }
 
-// 1 where the refusal is the jump.
-fn jump_of(refusal: Refusal) -> u64
-    ensures { λ r. ⌜ r ≡ bit (eqb (numberOf refusal) 7) ⌝ }
-{
-    if refusal.number() == 7 { 1 } else { 0 }
-}
-
-// A record, and the jumps so far.
-pub struct Taken {
-    pub state: Source,
-    pub jumps: u64,
-}
-
-// One arrival of a block.
-fn take(s: Source, jumps: u64, wire: Wire, mark: u8) -> Taken
-    requires { ⌜ (sound s ≡ true) × (mark ≤ 3) × (jumps < 62) ⌝ }
-    ensures { λ r. ⌜ (r .state ≡ after (arrival s wire mark)) × (r .jumps ≡ jumps + jump (arrival s wire mark)) ⌝ }
-{
-    match step::step(s, wire, mark) {
-        Arrival::Accepted(next) => Taken { state: next, jumps },
-        Arrival::Refused(refusal, same) => Taken {
-            state: same,
-            jumps: jumps + jump_of(refusal),
-        },
-    }
-}
-
-// The records counted, going on after a jump and when full.
-pub fn count(s: Source, records: &[u8], width: usize) -> BlockCount
-    requires { ⌜ (sound s ≡ true) × (all (inLimits width (now records)) ≡ true) ⌝ }
+// The records counted in a record that has counted, going on after a jump and when full.
+fn tallied(s: Source, records: &[u8], width: usize) -> BlockCount
+    requires { ⌜ (hasCounted s ≡ true) × (4 ≤ width) × (length (now records) % width ≡ 0) × (length (now records) / width ≤ 62) × (marksFit (packets width (length (now records) / width) (now records)) ≡ true) ⌝ }
     ensures { λ r. ⌜ r ≡ counting (packets width (length (now (records .entry)) / width) (now (records .entry))) s 0 ⌝ }
 {
-    let mut state = s;
-    let mut jumps: u64 = 0;
+    let mut t = tallies::begun(s);
     let mut at: usize = 0;
     while at < records.len() {
         let place = at + width - 4;
         let number = join16(records[place], records[place + 1]);
         let mark = records[place + 2];
-        let taken = take(state, jumps, Wire(number), mark);
-        state = taken.state;
-        jumps = taken.jumps;
+        t = tallies::take(t, Wire(number), mark);
         at += width;
     }
-    BlockCount::Counted(state, jumps)
+    BlockCount::Counted(tallies::restored(s, t), tallies::jumps(t))
+}
+
+// The records counted; the first of a fresh record sets its base.
+pub fn count(s: Source, records: &[u8], width: usize) -> BlockCount
+    requires { ⌜ (sound s ≡ true) × (all (inLimits width (now records)) ≡ true) ⌝ }
+    ensures { λ r. ⌜ r ≡ counting (packets width (length (now (records .entry)) / width) (now (records .entry))) s 0 ⌝ }
+{
+    if !is_fresh(s) {
+        return tallied(s, records, width);
+    }
+    let number = join16(records[width - 4], records[width - 3]);
+    let mark = records[width - 2];
+    tallied(first(s, Wire(number), mark), &records[width..], width)
 }

@@ -4,12 +4,14 @@ ghost use Rattle.source.specs.Record.{freshRecord, lostAnswer};
 ghost use Rattle.source.specs.Arrivals.{arrival};
 ghost use Rattle.source.specs.Blocks.{blockCount};
 
+mod base;
 mod block;
 mod loss;
 mod numbers;
 mod places;
 mod soundness;
 mod step;
+mod tallies;
 
 use words::Refusal;
 

@@ -2,18 +2,30 @@
 use crate::History;
 ghost use mathlib.Core.Path.{_≡_};
 ghost use Prim.Native.Nat.{_^_, _<_, _≤_};
+ghost use lib.Dec.{leb};
 ghost use Rattle.source.specs.Places.{places, marks, history, moved, added};
 
 // 2^36: the older word has 36 places.
 pub const OLDER: u64 = 0x10_0000_0000;
 
 // How many places are marked.
-pub fn count(h: History) -> u64
+fn count(h: History) -> u64
     ensures { λ r. ⌜ r ≡ places h ⌝ }
 {
     let recent = u64::count_ones(h.recent) as u64;
     let older = u64::count_ones(h.older) as u64;
     recent + older
+}
+
+// Whether at most n places are marked. (There are 100: nothing is counted where n is no less.)
+pub fn at_most(h: History, n: u64) -> bool
+    requires { ⌜ h .older < 2 ^ 36 ⌝ }
+    ensures { λ r. ⌜ r ≡ leb (places h) n ⌝ }
+{
+    if 100 <= n {
+        return true;
+    }
+    count(h) <= n
 }
 
 // Whether place k is marked.

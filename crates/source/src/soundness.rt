@@ -101,18 +101,18 @@ pub fn is_counting(s: Source) -> bool
         return false;
     }
     let distinct = n - duplicates;
-    if distinct < places::count(history) {
+    if !places::at_most(history, distinct) {
         return false;
     }
     numbers::natural(highest) - numbers::natural(base) <= 2999 * (distinct - 1)
 }
 
-// Fresh, or one that has counted.
+// One that has counted, or fresh.
 pub fn is_sound(s: Source) -> bool
     ensures { λ r. ⌜ r ≡ sound s ⌝ }
 {
-    if is_fresh(s) {
+    if is_counting(s) {
         return true;
     }
-    is_counting(s)
+    is_fresh(s)
 }

@@ -1,128 +1,34 @@
-// One arrival counted in a record that is known to be sound.
+// One arrival, counted as a block of one record.
 use crate::Arrival;
-use crate::Extended;
-use crate::History;
+use crate::BlockCount;
 use crate::Source;
 use crate::Wire;
-use crate::numbers;
-use crate::places;
+use crate::block;
 use crate::soundness::MOST;
 use words::Refusal;
 ghost use mathlib.Core.Path.{_≡_};
 ghost use mathlib.Core.Bool.{true};
-ghost use Prim.Native.Nat.{_+_, _^_, _<_, _≤_};
-ghost use lib.Dec.{eqb};
-ghost use Rattle.source.specs.Places.{bit};
-ghost use Rattle.source.specs.Record.{arrivals, counting, sound};
-ghost use Rattle.source.specs.Arrivals.{counted, first, ahead, behind, later, arrival};
+ghost use Prim.Native.Nat.{_≤_};
+ghost use Rattle.source.specs.Record.{sound};
+ghost use Rattle.source.specs.Arrivals.{arrival};
 
-// The counter n of the mark `kind`, after an arrival with `mark`.
-fn raised(n: u64, mark: u8, kind: u8) -> u64
-    requires { ⌜ n < 2 ^ 48 ⌝ }
-    ensures { λ r. ⌜ r ≡ n + bit (eqb mark kind) ⌝ }
-{
-    if mark == kind { n + 1 } else { n }
-}
-
-// The record with one arrival more.
-fn counted(
-    s: Source,
-    mark: u8,
-    base: Extended,
-    highest: Extended,
-    duplicates: u64,
-    history: History,
-) -> Source
-    requires { ⌜ arrivals s < 2 ^ 48 ⌝ }
-    ensures { λ r. ⌜ r ≡ counted s mark base highest duplicates history ⌝ }
-{
-    let notect = raised(s.notect, mark, 0);
-    let ect1 = raised(s.ect1, mark, 1);
-    let ect0 = raised(s.ect0, mark, 2);
-    let ce = raised(s.ce, mark, 3);
-    Source {
-        base,
-        highest,
-        notect,
-        ect1,
-        ect0,
-        ce,
-        duplicates,
-        history,
-    }
-}
-
-// The first arrival.
-fn first(s: Source, wire: Wire, mark: u8) -> Source
-    requires { ⌜ arrivals s < 2 ^ 48 ⌝ }
-    ensures { λ r. ⌜ r ≡ first s wire mark ⌝ }
-{
-    let number = Extended(wire.0 as i64);
-    let history = History {
-        recent: 1,
-        older: 0,
-    };
-    counted(s, mark, number, number, 0, history)
-}
-
-// An arrival d numbers above the highest.
-fn ahead(s: Source, d: u64, mark: u8) -> Source
-    requires { ⌜ (counting s ≡ true) × (arrivals s < 2 ^ 48) × (1 ≤ d) × (d < 65536) ⌝ }
-    ensures { λ r. ⌜ r ≡ ahead s d mark ⌝ }
-{
-    let base = s.base;
-    let highest = s.highest;
-    let history = s.history;
-    let next = numbers::plus(highest, d);
-    let moved = places::moved_on(history, d);
-    counted(s, mark, base, next, s.duplicates, moved)
-}
-
-// An arrival k numbers below the highest.
-fn behind(s: Source, k: u64, mark: u8) -> Source
-    requires { ⌜ (counting s ≡ true) × (arrivals s < 2 ^ 48) × (k < 100) ⌝ }
-    ensures { λ r. ⌜ r ≡ behind s k mark ⌝ }
-{
-    let base = s.base;
-    let highest = s.highest;
-    let history = s.history;
-    let duplicates = s.duplicates;
-    let added = places::with_mark(history, k);
-    if places::marked(history, k) {
-        return counted(s, mark, base, highest, duplicates + 1, added);
-    }
-    counted(s, mark, base, highest, duplicates, added)
-}
-
-// An arrival after the first, by its distance d from the highest.
-fn later(s: Source, d: u64, mark: u8) -> Arrival
-    requires { ⌜ (counting s ≡ true) × (arrivals s < 2 ^ 48) × (d < 65536) ⌝ }
-    ensures { λ r. ⌜ r ≡ later s d mark ⌝ }
-{
-    if d == 0 {
-        return Arrival::Accepted(behind(s, 0, mark));
-    }
-    if d <= 2999 {
-        return Arrival::Accepted(ahead(s, d, mark));
-    }
-    if 65437 <= d {
-        return Arrival::Accepted(behind(s, 65536 - d, mark));
-    }
-    Arrival::Refused(Refusal::Jump, s)
-}
-
-// An arrival with a mark of at most 3.
+// An arrival with a mark of at most 3, in a sound record.
 pub fn step(s: Source, wire: Wire, mark: u8) -> Arrival
     requires { ⌜ (sound s ≡ true) × (mark ≤ 3) ⌝ }
     ensures { λ r. ⌜ r ≡ arrival s wire mark ⌝ }
 {
-    let n = s.notect + s.ect1 + s.ect0 + s.ce;
-    if MOST <= n {
+    if MOST <= s.notect + s.ect1 + s.ect0 + s.ce {
         return Arrival::Refused(Refusal::Full, s);
     }
-    if n == 0 {
-        return Arrival::Accepted(first(s, wire, mark));
+    let number = wire.0;
+    let record = [(number / 256) as u8, (number % 256) as u8, mark, 0];
+    match block::count(s, &record, 4) {
+        BlockCount::Counted(next, jumps) => {
+            if jumps == 0 {
+                return Arrival::Accepted(next);
+            }
+            Arrival::Refused(Refusal::Jump, s)
+        }
+        BlockCount::Refused(refusal, same) => Arrival::Refused(refusal, same),
     }
-    let highest = s.highest;
-    later(s, numbers::distance(highest, wire), mark)
 }

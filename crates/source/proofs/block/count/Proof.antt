@@ -1,120 +1,115 @@
 -- `source::block::count` meets its contract. Assumes nothing.
 use borrow.Author.Needs.{needs}
-use mathlib.Core.Path.{_≡_, refl, ap, _∙_}
+use mathlib.Core.Path.{_≡_, refl, sym, subst, _∙_}
 use native.Mathlib.Omega.{arith}
-use Prim.Native.Nat.{_/_, _+_, _-_, _%_, _≤_}
-use lib.ListN.{length, getD}
+use Prim.Native.Nat.{ℕ, _-_}
+use mathlib.Core.Bool.{true}
+use lib.ListN.{length, take, drop, length-drop}
+use lib.Seq.{take-all}
+use mathlib.Core.List.{List}
 use denote.Ref.{now}
-use borrow.Author.Tests.{leb-true, eqb-true}
-use Rattle.source.proofs.Packets.{packet-is, jump-le, packet, room-left, CountLeft, count-start, count-end, mark-here, few-here, count-next}
-use Rattle.source.specs.Arrivals.{after, arrival}
-use Rattle.source.specs.Blocks.{Packet, inLimits, jump}
-use Rattle.words.proofs.Conditions.{all-true}
-use Rattle.source.specs.Record.{sound}
-use Rattle.source.proofs.Kept.{sound-stays}
+use Rattle.words.proofs.Conditions.{was-true, was-false}
+use Rattle.source.specs.declared.Source.{Source}
+use Rattle.source.specs.Record.{fresh}
+use Rattle.source.proofs.Facts.{sound-counting, fresh-none}
+use Rattle.source.proofs.Packets.{Limits, limits, first-whole, first-is}
+use Rattle.source.proofs.Opened.{Rest, opened}
 use Rattle.source.proofs.block.count.Statement.{statement}
 use Rattle.source.proofs.block.count.Tie as tie
 
-abbrev Inv-loop : tie.InvT-loop
-Inv-loop records width state₀ jumps₀ at₀ state jumps at = (4 ≤ width) × CountLeft width records state₀ at state jumps
+limits-of : (c : tie.Else1) → Limits (c .before .before .before .args .width) (now (c .before .before .before .args .records))
+limits-of c = limits (c .before .before .before .args .width) (now (c .before .before .before .args .records)) (c .before .before .before .pre .1)
 
-abbrev μ-loop : tie.MeasureT-loop
-μ-loop records width state₀ jumps₀ at₀ state jumps at = length records - at
+is-fresh-here : (c : tie.Else1) → fresh (c .before .before .before .args .s) ≡ true
+is-fresh-here c = was-true (c .before .is-fresh .ensures) (c .if1 .left)
 
-room : (c : tie.In-loop Inv-loop μ-loop) → c .before .loop .at + c .before .before .before .args .width ≤ length (now (c .before .before .before .args .records))
-room c =
+-- what is left behind the first record
+rest : (c : tie.After-tallied-arg) → let a = c .before .before .before .before .before .before .before .before .before .args in
+    Rest (a .width) (now (a .records)) (take (length (now (a .records)) - a .width) (drop (a .width) (now (a .records)))) (a .s) (c .before .first .result)
+rest c =
+    let f = c .before .before .before .before .before .before in
+    let a = f .before .before .before .args in
+    let s = now (a .records) in
+    let l = limits-of f in
+    let join = c .before .before .before .join16 in
+    let is = first-is (a .width) s (l .wide) (join .ensures) refl in
+    let r = opened (a .width) s l (a .s) (f .before .before .before .pre .0) (is-fresh-here f) _ is (omega (arith, join .ok)) in
+    let all = take-all (length s - a .width) (drop (a .width) s) (rw length-drop (omega arith)) in
+    subst (λ (part : List ℕ). Rest (a .width) s part (a .s) (c .before .first .result)) (sym all)
+    (subst (λ (state : Source). Rest (a .width) s (drop (a .width) s) (a .s) state) (sym (c .before .first .ensures)) r)
+
+is-fresh-requires : tie.Need-is-fresh-requires
+is-fresh-requires c κs = search needs
+
+tallied-requires : tie.Need-tallied-requires
+tallied-requires c κs =
     let a = c .before .before .before .args in
-    room-left (a .width) (now (a .records)) (c .before .loop .at) (c .before .loop .inv .1 .left) (c .loop-test .taken)
+    let p = c .before .before .before .pre in
+    let l = limits (a .width) (now (a .records)) (p .1) in
+    (sound-counting (a .s) (p .0) (was-false (c .before .is-fresh .ensures) (c .if1 .taken)), l .wide, l .whole, l .few, l .fit)
 
-loop-holds : tie.Need-loop-holds Inv-loop μ-loop
-loop-holds c =
-    let a = c .before .args in
-    let s = now (a .records) in (
-      leb-true 4 (a .width) (all-true (inLimits (a .width) s) 0 (c .before .pre .1)),
-      count-start (a .width) s (a .s)
-          (eqb-true (length s % a .width) 0 (all-true (inLimits (a .width) s) 1 (c .before .pre .1)))
-          (leb-true (length s / a .width) 62 (all-true (inLimits (a .width) s) 3 (c .before .pre .1)))
-          (all-true (inLimits (a .width) s) 4 (c .before .pre .1)) (c .before .pre .0),
-    )
+returns : tie.Need-returns
+returns c = search needs
 
-add-place : tie.Need-add-place Inv-loop μ-loop
-add-place c = omega (arith, room c)
+sub-join16 : tie.Need-sub-join16
+sub-join16 c = omega (arith, limits-of c .wide)
 
-sub-place : tie.Need-sub-place Inv-loop μ-loop
-sub-place c = omega arith
+shared-slice-read-join16 : tie.Need-shared-slice-read-join16
+shared-slice-read-join16 c = let l = limits-of (c .before) in omega (arith, l .wide, first-whole _ _ l)
 
-shared-slice-read-join16 : tie.Need-shared-slice-read-join16 Inv-loop μ-loop
-shared-slice-read-join16 c = omega (arith, room (c .before))
+sub-join16-2 : tie.Need-sub-join16-2
+sub-join16-2 c = omega (arith, limits-of (c .before) .wide)
 
-add-join16 : tie.Need-add-join16 Inv-loop μ-loop
-add-join16 c = omega (arith, room (c .before))
+shared-slice-read-join16-2 : tie.Need-shared-slice-read-join16-2
+shared-slice-read-join16-2 c = let l = limits-of (c .before .before) in omega (arith, l .wide, first-whole _ _ l)
 
-shared-slice-read-join16-2 : tie.Need-shared-slice-read-join16-2 Inv-loop μ-loop
-shared-slice-read-join16-2 c = omega (arith, room (c .before .before))
-
-join16-requires : tie.Need-join16-requires Inv-loop μ-loop
+join16-requires : tie.Need-join16-requires
 join16-requires c κs = search needs
 
-add-mark : tie.Need-add-mark Inv-loop μ-loop
-add-mark c = omega (arith, room (c .before .before .before))
+sub-mark : tie.Need-sub-mark
+sub-mark c = omega (arith, limits-of (c .before .before .before) .wide)
 
-shared-slice-read-mark : tie.Need-shared-slice-read-mark Inv-loop μ-loop
-shared-slice-read-mark c = omega (arith, room (c .before .before .before .before))
+shared-slice-read-mark : tie.Need-shared-slice-read-mark
+shared-slice-read-mark c = let l = limits-of (c .before .before .before .before) in omega (arith, l .wide, first-whole _ _ l)
 
-take-requires : tie.Need-take-requires Inv-loop μ-loop
-take-requires c κs =
+first-requires : tie.Need-first-requires
+first-requires c κs =
     let a = c .before .before .before .before .before .before .before .args in
-    let l = c .before .before .before .before .before .loop in
-    let third : l .at + a .width - 4 + 2 ≡ l .at + (a .width - 2) = omega arith in
-    let inv = l .inv .1 in
-    let test = c .before .before .before .before .loop-test .taken in
-    (inv .good, rw third (mark-here (a .width) (now (a .records)) (a .s) (l .at) (l .state) (l .jumps) inv test), few-here (a .width) (now (a .records)) (a .s) (l .at) (l .state) (l .jumps) inv test)
+    let none = fresh-none (a .s) (is-fresh-here (c .before .before .before .before)) in
+    omega arith
 
-add-at : tie.Need-add-at Inv-loop μ-loop
-add-at c = omega (arith, room (c .before .before .before .before .before .before))
+sub-tallied : tie.Need-sub-tallied
+sub-tallied c = let l = limits-of (c .before .before .before .before .before) in omega (arith, first-whole _ _ l)
 
-loop-less : tie.Need-loop-less Inv-loop μ-loop
-loop-less c = omega arith
+part-tallied-start : tie.Need-part-tallied-start
+part-tallied-start c = let l = limits-of (c .before .before .before .before .before) in omega (arith, first-whole _ _ l)
 
-loop-again : tie.Need-loop-again Inv-loop μ-loop
-loop-again c =
-    let a = c .before .before .before .before .before .before .before .before .before .args in
-    let s = now (a .records) in
-    let l = c .before .before .before .before .before .before .before .loop in
-    let inv = l .inv .1 in
-    let got = c .before .take .ensures in
-    let same = packet-is (a .width) s (l .at) (l .inv .0) (c .before .before .before .join16 .ensures) refl in
-    let state = got .0 ∙ ap (λ (p : Packet). after (arrival (l .state) (p .wire) (p .mark))) same in
-    let jumps = got .1 ∙ ap (λ (p : Packet). l .jumps + jump (arrival (l .state) (p .wire) (p .mark))) same in
-    let good = ap sound (got .0) ∙ sound-stays (l .state) (record { 0 = c .before .before .before .join16 .result }) (getD s (l .at + a .width - 4 + 2) 0) (search needs) (inv .good) in (
-      l .inv .0,
-      count-next (a .width) s (a .s) (l .at) (l .state) (l .jumps) inv (c .before .before .before .before .before .before .loop-test .taken) (c .before .take .result .state) (c .before .take .result .jumps) good
-          (omega (arith, jump-le (arrival (l .state) (packet (a .width) s (l .at) .wire) (packet (a .width) s (l .at) .mark)), jumps)) state jumps,
-    )
+part-tallied-end : tie.Need-part-tallied-end
+part-tallied-end c = search needs
 
-returns : tie.Need-returns Inv-loop μ-loop
-returns c =
-    let l = c .before .loop in
-    let a = c .before .before .before .args in
-    count-end (a .width) (now (a .records)) (a .s) (l .at) (l .state) (l .jumps) (l .inv .1) (omega arith) (c .loop-test .left)
+tallied-requires-2 : tie.Need-tallied-requires-2
+tallied-requires-2 c κs = let r = rest c in (r .has, limits-of (c .before .before .before .before .before .before) .wide, r .whole, r .few, r .fit)
+
+returns-2 : tie.Need-returns-2
+returns-2 c = c .tallied2 .ensures ∙ rest (c .before) .same
 
 pub count-spec : {M : Type 1} → statement M
 count-spec =
     tie.close
     (tie.spec
-    Inv-loop
-    μ-loop
-    loop-holds
-    add-place
-    sub-place
+    is-fresh-requires
+    tallied-requires
+    returns
+    sub-join16
     shared-slice-read-join16
-    add-join16
+    sub-join16-2
     shared-slice-read-join16-2
     join16-requires
-    add-mark
+    sub-mark
     shared-slice-read-mark
-    take-requires
-    add-at
-    loop-less
-    loop-again
-    returns)
+    first-requires
+    sub-tallied
+    part-tallied-start
+    part-tallied-end
+    tallied-requires-2
+    returns-2)

@@ -1,13 +1,13 @@
 -- `source::soundness::is_counting` meets its contract. Assumes nothing.
 use borrow.Author.Needs.{needs}
-use mathlib.Core.Path.{_≡_, ap, _∙_}
+use mathlib.Core.Path.{_≡_, sym, ap, _∙_}
 use native.Mathlib.Omega.{arith}
 use borrow.Author.Tests.{lt-ltb, le-ltb, le-leb, lt-leb}
 use Prim.Native.Nat.{_^_, ℕ, _-_, _*_}
 use lib.Dec.{leb}
 use Rattle.words.proofs.Conditions.{was-false, was-true, all-false}
 use Rattle.source.specs.Places.{places}
-use Rattle.source.specs.Record.{arrivals, distinct, conditions, counting}
+use Rattle.source.specs.Record.{arrivals, conditions, counting}
 use Rattle.source.proofs.Facts.{Tests, base-natural, highest-natural, in-order, counting-last}
 use Rattle.source.proofs.soundness.is_counting.Statement.{statement}
 use Rattle.source.proofs.soundness.is_counting.Tie as tie
@@ -16,6 +16,7 @@ use Rattle.source.proofs.soundness.is_counting.Tie as tie
 tests : (c : tie.Else9) → Tests (c .before .before .before .before .before .before .before .before .before .before .before .before .before .before .before .before .before .before .before .args .s)
 tests c =
     let s = c .before .before .before .before .before .before .before .before .before .before .before .before .before .before .before .before .before .before .before .args .s in
+    let n : c .before .before .before .before .before .before .before .before .before .arrivals .result ≡ arrivals s = omega arith in
     record {
       base-low = was-true (c .before .before .before .before .before .before .before .before .before .before .before .before .before .before .before .le .ensures) (c .before .before .before .before .before .before .before .before .before .before .before .before .before .before .if1 .left);
       base-high = was-true (c .before .before .before .before .before .before .before .before .before .before .before .before .before .le2 .ensures) (c .before .before .before .before .before .before .before .before .before .before .before .before .if2 .left);
@@ -25,7 +26,7 @@ tests c =
       fewer = lt-ltb (s .duplicates) (arrivals s) (omega arith);
       top = was-true (c .before .before .before .before .before .marked .ensures) (c .before .before .before .before .if7 .left);
       fits = lt-ltb (s .history .older) (2 ^ 36) (c .before .before .if8 .left);
-      few = le-leb (places (s .history)) (distinct s) (omega arith);
+      few = ap (λ (x : ℕ). leb (places (s .history)) (x - s .duplicates)) (sym n) ∙ was-true (c .before .at-most .ensures) (c .if9 .left);
     }
 
 le-requires : tie.Need-le-requires
@@ -94,14 +95,15 @@ returns-8 c =
 sub-distinct : tie.Need-sub-distinct
 sub-distinct c = search needs
 
-count-requires : tie.Need-count-requires
-count-requires c κs = search needs
+at-most-requires : tie.Need-at-most-requires
+at-most-requires c κs = search needs
 
 returns-9 : tie.Need-returns-9
 unfolding counting
 returns-9 c =
     let s = c .before .before .before .before .before .before .before .before .before .before .before .before .before .before .before .before .before .before .before .args .s in
-    all-false (conditions s) 8 (lt-leb (places (s .history)) (distinct s) (omega arith))
+    let n : c .before .before .before .before .before .before .before .before .before .arrivals .result ≡ arrivals s = omega arith in
+    all-false (conditions s) 8 (ap (λ (x : ℕ). leb (places (s .history)) (x - s .duplicates)) (sym n) ∙ was-false (c .before .at-most .ensures) (c .if9 .taken))
 
 natural-requires : tie.Need-natural-requires
 natural-requires c κs = highest-natural _ (tests c)
@@ -144,7 +146,7 @@ is-counting-spec =
     returns-7
     returns-8
     sub-distinct
-    count-requires
+    at-most-requires
     returns-9
     natural-requires
     natural-requires-2

@@ -1,8 +1,8 @@
--- `source::step::counted` meets its contract. Assumes nothing.
+-- `source::base::counted` meets its contract. Assumes nothing.
 use borrow.Author.Needs.{needs}
 use Rattle.source.specs.Arrivals.{counted}
-use Rattle.source.proofs.step.counted.Statement.{statement}
-use Rattle.source.proofs.step.counted.Tie as tie
+use Rattle.source.proofs.base.counted.Statement.{statement}
+use Rattle.source.proofs.base.counted.Tie as tie
 
 raised-requires : tie.Need-raised-requires
 raised-requires c κs = search needs

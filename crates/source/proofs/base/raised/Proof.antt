@@ -1,9 +1,9 @@
--- `source::step::raised` meets its contract. Assumes nothing.
+-- `source::base::raised` meets its contract. Assumes nothing.
 use borrow.Author.Needs.{needs}
 use native.Mathlib.Omega.{arith}
 use borrow.Author.Tests.{eq-eqb, ne-eqb}
-use Rattle.source.proofs.step.raised.Statement.{statement}
-use Rattle.source.proofs.step.raised.Tie as tie
+use Rattle.source.proofs.base.raised.Statement.{statement}
+use Rattle.source.proofs.base.raised.Tie as tie
 
 add-result : tie.Need-add-result
 add-result c = search needs

@@ -1,4 +1,4 @@
--- `source::step::first` meets its contract. Assumes nothing.
+-- `source::base::first` meets its contract. Assumes nothing.
 use borrow.Author.Needs.{needs}
 use mathlib.Core.Path.{ap, ap₂, _∙_}
 use Prim.Native.Nat.{_-_}
@@ -9,8 +9,8 @@ use Rattle.source.specs.Arrivals.{counted, first, extended}
 use Rattle.source.specs.declared.History.{History}
 use Rattle.source.specs.declared.Extended.{Extended}
 use Rattle.source.proofs.Shifts.{first-history}
-use Rattle.source.proofs.step.first.Statement.{statement}
-use Rattle.source.proofs.step.first.Tie as tie
+use Rattle.source.proofs.base.first.Statement.{statement}
+use Rattle.source.proofs.base.first.Tie as tie
 
 cast-t6 : tie.Need-cast-t6
 cast-t6 c = search needs

@@ -1,0 +1,57 @@
+-- A block's arrivals as the code counts them, for the contracts of private functions alone: proofs/Simulated says that this is `arrival`.
+use Prim.Native.Nat.{ℕ, _+_, _-_, _*_, _/_, _%_, _^_}
+use mathlib.Core.Bool.{cond, _&&_, _||_}
+use lib.Dec.{eqb, leb}
+use lib.IntN.{pos, _+ℤ_}
+use Rattle.source.specs.declared.Wire.{Wire}
+use Rattle.source.specs.declared.Extended.{Extended}
+use Rattle.source.specs.declared.History.{History}
+use Rattle.source.specs.declared.Source.{Source}
+use Rattle.source.specs.declared.tallies.Tally.{Tally}
+use Rattle.source.specs.Places.{bit, history, marks, moved, added}
+use Rattle.source.specs.Record.{arrivals}
+use Rattle.source.specs.Arrivals.{extended, distance}
+
+-- byte k of a number, the lowest first
+abbrev pub byte : ℕ → ℕ → ℕ
+byte k n = n / 256 ^ k % 256
+
+-- before a block
+abbrev pub begun : Source → Tally
+begun s = record { highest = s .highest; history = s .history; left = 2 ^ 48 - arrivals s; counts = 0 }
+
+-- one arrival more, with what it adds to the counts
+abbrev pub raised : Tally → Extended → History → ℕ → Tally
+raised t highest past units = record { highest = highest; history = past; left = t .left - 1; counts = t .counts + units }
+
+unfoldable pub ahead : Tally → ℕ → ℕ → Tally
+ahead t d mark = raised t (extended (t .highest .0 +ℤ pos d)) (history (added 0 (moved d (marks (t .history))))) (256 ^ mark)
+
+unfoldable pub behind : Tally → ℕ → ℕ → Tally
+behind t k mark = raised t (t .highest) (history (added k (marks (t .history)))) (256 ^ mark + bit (marks (t .history) k) * 256 ^ 4)
+
+abbrev pub jumped : Tally → Tally
+jumped t = record { highest = t .highest; history = t .history; left = t .left; counts = t .counts + 256 ^ 5 }
+
+-- by d, as `later`
+unfoldable pub takenBy : Tally → ℕ → ℕ → Tally
+takenBy t d mark =
+    cond (leb 1 d && leb d 2999) (ahead t d mark)
+    (cond (eqb d 0 || leb 65437 d) (behind t ((65536 - d) % 65536) mark)
+    (jumped t))
+
+unfoldable pub taken : Tally → Wire → ℕ → Tally
+taken t wire mark = cond (eqb (t .left) 0) t (takenBy t (distance (t .highest) wire) mark)
+
+-- the record that a tally stands for, where the block began with s
+unfoldable pub restored : Source → Tally → Source
+restored s t = record {
+  base = s .base;
+  highest = t .highest;
+  notect = s .notect + byte 0 (t .counts);
+  ect1 = s .ect1 + byte 1 (t .counts);
+  ect0 = s .ect0 + byte 2 (t .counts);
+  ce = s .ce + byte 3 (t .counts);
+  duplicates = s .duplicates + byte 4 (t .counts);
+  history = t .history;
+}
