@@ -1,5 +1,5 @@
 -- Laws of the ones' complement sum (RFC 1071): it is the plain sum, taken around 65,535. Assumes nothing.
-use mathlib.Core.Path.{_≡_, refl, ap, _∙_}
+use mathlib.Core.Path.{_≡_, refl, sym, ap, _∙_}
 use mathlib.Core.List.{List, [], _∷_, _++_}
 use Prim.Native.Nat.{ℕ, zero, suc, _+_, _-_, _*_, _/_, _%_, _≤_, _<_}
 use native.Mathlib.Nat.{add-zero, add-suc}
@@ -46,17 +46,57 @@ ones-total (a ∷ b ∷ s) h =
     ap (onesAdd (a * 256 + b)) (ones-total s (λ i. h (suc (suc i))))
     ∙ carried-add (a * 256 + b) (total (words s)) (omega (arith, h 0, h 1))
 
+-- ---- the sum in the other byte order (RFC 1071, section 2 (B))
+
+-- the plain sum of the words whose low octet comes first
+unfoldable pub lowTotal : List ℕ → ℕ
+lowTotal [] = 0
+lowTotal (a ∷ []) = a
+lowTotal (a ∷ b ∷ s) = b * 256 + a + lowTotal s
+
+-- the sum of every second octet
+unfoldable seconds : List ℕ → ℕ
+seconds [] = 0
+seconds (a ∷ []) = 0
+seconds (a ∷ b ∷ s) = b + seconds s
+
+seconds-most : (s : List ℕ) → seconds s ≤ total (words s)
+unfolding seconds words tally
+seconds-most [] = omega arith
+seconds-most (a ∷ []) = omega arith
+seconds-most (a ∷ b ∷ s) = omega (arith, seconds-most s)
+
+-- the two orders differ by a factor of 256, taken around 65,535
+low-total : (s : List ℕ) → 256 * lowTotal s ≡ 65535 * seconds s + total (words s)
+unfolding lowTotal seconds words tally
+low-total [] = refl
+low-total (a ∷ []) = omega arith
+low-total (a ∷ b ∷ s) = omega (arith, low-total s)
+
+-- to swap the octets of a carried sum is that factor
+swapped-carried : (t u k : ℕ) → 256 * t ≡ 65535 * k + u → k ≤ u → carried t % 256 * 256 + carried t / 256 ≡ carried u
+unfolding carried
+swapped-carried zero zero k e h = refl
+swapped-carried zero (suc u) k e h = absurd (omega arith)
+swapped-carried (suc t) zero k e h = absurd (omega arith)
+swapped-carried (suc t) (suc u) k e h = omega arith
+
+pub ones-swapped : (s : List ℕ) → Octets s → carried (lowTotal s) % 256 * 256 + carried (lowTotal s) / 256 ≡ onesSum (words s)
+ones-swapped s h = swapped-carried (lowTotal s) (total (words s)) (seconds s) (low-total s) (seconds-most s) ∙ sym (ones-total s h)
+
 -- ---- a loop over the words
 
-pub words-turn : (s : List ℕ) (i : ℕ) → i + 1 < length s → words (drop i s) ≡ (getD s i 0 * 256 + getD s (i + 1) 0) ∷ words (drop (i + 2) s)
-unfolding words
-words-turn s i h =
+pub low-turn : (s : List ℕ) (i : ℕ) → i + 1 < length s → lowTotal (drop i s) ≡ getD s (i + 1) 0 * 256 + getD s i 0 + lowTotal (drop (i + 2) s)
+unfolding lowTotal
+low-turn s i h =
     let next : suc (i + 1) ≡ i + 2 = omega arith in
     rw (drop-cons s i 0 (omega arith), ← add-one i, drop-cons s (i + 1) 0 h, next)
 
-pub words-done : (s : List ℕ) (i sum : ℕ) → length s ≤ i → sum + total (words (drop i s)) ≡ sum
-unfolding words tally
-words-done s i sum h = rw (drop-of-length-le s h) (add-zero sum)
+pub low-done : (s : List ℕ) (i sum : ℕ) → length s ≤ i → sum + lowTotal (drop i s) ≡ sum
+unfolding lowTotal
+low-done s i sum h = rw (drop-of-length-le s h) (add-zero sum)
+
+-- ---- a text put together
 
 pub words-append : (u v : List ℕ) → length u % 2 ≡ 0 → words (u ++ v) ≡ words u ++ words v
 unfolding words

@@ -1,21 +1,19 @@
 -- `trace::checksum::ones_sum` meets its contract. Assumes nothing.
 use borrow.Author.Needs.{needs}
 use mathlib.Core.Path.{_≡_, refl, sym, ap, _∙_}
-use Prim.Native.Nat.{ℕ, _+_, _-_, _*_, _%_, _≤_}
+use Prim.Native.Nat.{ℕ, _+_, _-_, _*_, _/_, _%_, _≤_}
 use native.Mathlib.Omega.{arith}
 use native.Mathlib.Nat.{zero-add, add-assoc}
 use lib.ListN.{length, drop, getD}
 use denote.Ref.{now}
 use mathlib.Core.List.{[], _∷_}
-use Rattle.trace.proofs.Tallies.{tally}
-use Rattle.trace.proofs.Sums.{total, ones-total, carried, carried-twice, words-turn, words-done}
-use Rattle.trace.specs.Checksum.{words}
+use Rattle.trace.proofs.Sums.{lowTotal, carried, carried-twice, ones-swapped, low-turn, low-done}
 use Rattle.words.proofs.BigEndian.{word-two}
 use Rattle.trace.proofs.checksum.ones_sum.Statement.{statement}
 use Rattle.trace.proofs.checksum.ones_sum.Tie as tie
 
 abbrev Inv-loop : tie.InvT-loop
-Inv-loop s sum₀ i₀ sum i = (i ≤ length s) × (i % 2 ≡ 0) × (2 * sum ≤ 65535 * i) × (sum + total (words (drop i s)) ≡ total (words s))
+Inv-loop s sum₀ i₀ sum i = (i ≤ length s) × (i % 2 ≡ 0) × (2 * sum ≤ 65535 * i) × (sum + lowTotal (drop i s) ≡ lowTotal s)
 
 abbrev μ-loop : tie.MeasureT-loop
 μ-loop s sum₀ i₀ sum i = length s - i
@@ -23,11 +21,11 @@ abbrev μ-loop : tie.MeasureT-loop
 loop-holds : tie.Need-loop-holds Inv-loop μ-loop
 loop-holds c = (search needs, refl, search needs, zero-add _)
 
-shared-slice-read-join16 : tie.Need-shared-slice-read-join16 Inv-loop μ-loop
-shared-slice-read-join16 c = search needs
-
 add-join16 : tie.Need-add-join16 Inv-loop μ-loop
 add-join16 c = search needs
+
+shared-slice-read-join16 : tie.Need-shared-slice-read-join16 Inv-loop μ-loop
+shared-slice-read-join16 c = search needs
 
 shared-slice-read-join16-2 : tie.Need-shared-slice-read-join16-2 Inv-loop μ-loop
 shared-slice-read-join16-2 c = search needs
@@ -48,36 +46,41 @@ loop-less : tie.Need-loop-less Inv-loop μ-loop
 loop-less c = search needs
 
 loop-again : tie.Need-loop-again Inv-loop μ-loop
-unfolding tally
 loop-again c =
     let loop = c .before .before .before .before .loop in
     let s = now (c .before .before .before .before .before .before .args .s) in
-    let high = getD s (loop .i) 0 in
-    let low = getD s (loop .i + 1) 0 in
+    let low = getD s (loop .i) 0 in
+    let high = getD s (loop .i + 1) 0 in
     let word : c .join16 .result ≡ high * 256 + low = c .join16 .ensures ∙ word-two (high ∷ low ∷ []) 0 in
-    let left : total (words (drop (loop .i) s)) ≡ c .join16 .result + total (words (drop (loop .i + 2) s)) =
-    rw (words-turn s (loop .i) (omega arith), word) in (
+    let left : lowTotal (drop (loop .i) s) ≡ c .join16 .result + lowTotal (drop (loop .i + 2) s) =
+    rw (low-turn s (loop .i) (omega arith), word) in (
       omega arith,
       omega arith,
       omega (arith, c .join16 .ok),
-      add-assoc (loop .sum) (c .join16 .result) (total (words (drop (loop .i + 2) s))) ∙ ap (λ (n : ℕ). loop .sum + n) (sym left) ∙ loop .inv .3,
+      add-assoc (loop .sum) (c .join16 .result) (lowTotal (drop (loop .i + 2) s)) ∙ ap (λ (n : ℕ). loop .sum + n) (sym left) ∙ loop .inv .3,
     )
 
 add-once : tie.Need-add-once Inv-loop μ-loop
 add-once c = search needs
 
-add-result : tie.Need-add-result Inv-loop μ-loop
-add-result c = search needs
+add-swapped : tie.Need-add-swapped Inv-loop μ-loop
+add-swapped c = search needs
 
-cast-result : tie.Need-cast-result Inv-loop μ-loop
-cast-result c = search needs
+cast-swapped : tie.Need-cast-swapped Inv-loop μ-loop
+cast-swapped c = search needs
+
+swapped-requires : tie.Need-swapped-requires Inv-loop μ-loop
+swapped-requires c κs = search needs
 
 returns : tie.Need-returns Inv-loop μ-loop
 returns c =
-    let s = now (c .before .before .before .args .s) in
-    let loop = c .before .loop in
-    let all : loop .sum ≡ total (words s) = sym (words-done s (loop .i) (loop .sum) (c .loop-test .left)) ∙ loop .inv .3 in
-    carried-twice (loop .sum) _ (omega arith) refl ∙ ap carried all ∙ sym (ones-total s (λ j. c .before .before .shared-slice-known .given j .fits))
+    let s = now (c .before .before .before .before .args .s) in
+    let loop = c .before .before .loop in
+    let all : loop .sum ≡ lowTotal s = sym (low-done s (loop .i) (loop .sum) (c .before .loop-test .left)) ∙ loop .inv .3 in
+    let folded = carried-twice (loop .sum) _ (omega arith) refl ∙ ap carried all in
+    c .swapped .ensures
+    ∙ ap (λ (n : ℕ). n % 256 * 256 + n / 256) folded
+    ∙ ones-swapped s (λ j. c .before .before .before .shared-slice-known .given j .fits)
 
 pub ones-sum-spec : {M : Type 1} → statement M
 ones-sum-spec =
@@ -86,8 +89,8 @@ ones-sum-spec =
     Inv-loop
     μ-loop
     loop-holds
-    shared-slice-read-join16
     add-join16
+    shared-slice-read-join16
     shared-slice-read-join16-2
     join16-requires
     cast-sum
@@ -96,6 +99,7 @@ ones-sum-spec =
     loop-less
     loop-again
     add-once
-    add-result
-    cast-result
+    add-swapped
+    cast-swapped
+    swapped-requires
     returns)
