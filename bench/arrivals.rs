@@ -1,0 +1,83 @@
+//! Arrivals of three kinds of link, as endless lists of wire number and mark.
+use crate::random::Random;
+
+#[derive(Clone, Copy)]
+pub enum Link {
+    InOrder,
+    Lossy,
+    Reordered,
+}
+
+pub const LINKS: [(Link, &str); 3] =
+    [(Link::InOrder, "in order"), (Link::Lossy, "lossy, CE marks"), (Link::Reordered, "reordered, duplicates")];
+
+pub struct Arrivals {
+    link: Link,
+    random: Random,
+    next: u16,
+    waiting: Vec<u16>,
+}
+
+const ECT0: u8 = 2;
+const CE: u8 = 3;
+
+impl Arrivals {
+    pub fn new(link: Link, seed: u64) -> Arrivals {
+        Arrivals { link, random: Random(seed), next: 65_000, waiting: Vec::new() }
+    }
+
+    fn advanced(&mut self, by: u16) -> u16 {
+        self.next = self.next.wrapping_add(by);
+        self.next
+    }
+
+    /// 1 number in 50 is lost, 1 in 2,000 begins a gap of up to 200; 1 arrival in 5,000 is a stray far away.
+    fn lossy_number(&mut self) -> u16 {
+        if self.random.once_in(5_000) {
+            return self.next.wrapping_add(20_000);
+        }
+        if self.random.once_in(2_000) {
+            let gap = 1 + self.random.below(200) as u16;
+            return self.advanced(gap);
+        }
+        let by = if self.random.once_in(50) { 2 } else { 1 };
+        self.advanced(by)
+    }
+
+    /// 16 numbers, one of them twice, four pairs swapped.
+    fn refill(&mut self) {
+        for _ in 0..16 {
+            let number = self.advanced(1);
+            self.waiting.push(number);
+        }
+        let twice = self.waiting[self.random.below(16) as usize];
+        self.waiting.push(twice);
+        for _ in 0..4 {
+            let (a, b) = (self.random.below(17) as usize, self.random.below(17) as usize);
+            self.waiting.swap(a, b);
+        }
+        self.waiting.reverse();
+    }
+}
+
+impl Iterator for Arrivals {
+    type Item = (u16, u8);
+
+    fn next(&mut self) -> Option<(u16, u8)> {
+        match self.link {
+            Link::InOrder => Some((self.advanced(1), ECT0)),
+            Link::Lossy => {
+                let number = self.lossy_number();
+                let mark = if self.random.once_in(10) { CE } else { ECT0 };
+                Some((number, mark))
+            }
+            Link::Reordered => {
+                if self.waiting.is_empty() {
+                    self.refill();
+                }
+                let number = self.waiting.pop()?;
+                Some((number, self.random.below(4) as u8))
+            }
+        }
+    }
+}

@@ -1,0 +1,187 @@
+//! Times the library's calls against plain Rust that gives the same answers. Argument: the machine's word.
+mod arrivals;
+mod breaker;
+mod compound;
+mod library;
+mod medians;
+mod random;
+mod records;
+mod rings;
+mod row;
+
+use arrivals::{Arrivals, LINKS};
+use breaker::{Breaker, Report};
+use rings::{Counter, Hundred, PowerOfTwo, Ring};
+use std::hint::black_box;
+
+/// The processor time of this process: other processes do not count in it.
+const PROCESSOR: medians::Clock = medians::Clock(2);
+const BLOCKS: usize = 8_000;
+const CALLS: usize = 200_000;
+const MEDIA: u32 = 0x1234_5678;
+const LABEL: &[u8] = b"probe 2, left";
+
+type Run<'a> = Box<dyn FnMut() + 'a>;
+
+/// One line of the table for each of the others; `units` calls or records are one run.
+fn lines(call: &str, input: &str, others: &[&str], units: usize, mut runs: Vec<Run>) {
+    let times = medians::medians(PROCESSOR, medians::setting("ROUNDS", 11), &mut runs);
+    let ns = |i: usize| times[i] * 1e9 / units as f64;
+    for (i, other) in others.iter().enumerate() {
+        let ratio = ns(i + 1) / ns(0);
+        println!("| {call} | {input} | {:.1} | {other} | {:.1} | {ratio:.2} |", ns(0), ns(i + 1));
+    }
+}
+
+/// The record after the arrivals, and the jumps.
+fn arrive_ours(list: &[(u16, u8)]) -> ([u64; 7], u64) {
+    let (mut source, mut jumps) = ([0; 9], 0);
+    for &arrival in list {
+        let (wire, mark) = black_box(arrival);
+        jumps += u64::from(library::arrive(&mut source, wire, mark) == 7);
+    }
+    (black_box(source)[..7].try_into().expect("seven words"), jumps)
+}
+
+fn arrive_other<R: Ring>(list: &[(u16, u8)]) -> ([u64; 7], u64) {
+    let (mut counter, mut jumps) = (Counter::<R>::default(), 0);
+    for &arrival in list {
+        let (wire, mark) = black_box(arrival);
+        jumps += u64::from(counter.arrive(wire, mark) == 7);
+    }
+    (black_box(&counter).words(), jumps)
+}
+
+fn blocks_ours(list: &[Vec<u8>]) -> ([u64; 7], u64) {
+    let (mut source, mut jumps) = ([0; 9], 0);
+    for records in list {
+        jumps += library::count_block(&mut source, black_box(records));
+    }
+    (black_box(source)[..7].try_into().expect("seven words"), jumps as u64)
+}
+
+fn blocks_other<R: Ring>(list: &[Vec<u8>]) -> ([u64; 7], u64) {
+    let (mut counter, mut jumps) = (Counter::<R>::default(), 0);
+    for records in list {
+        jumps += counter.count_block(black_box(records));
+    }
+    (black_box(&counter).words(), jumps as u64)
+}
+
+/// A run that keeps its answer from the optimiser.
+fn run<'a, T>(give: impl Fn() -> T + 'a) -> Run<'a> {
+    Box::new(move || {
+        black_box(give());
+    })
+}
+
+fn counting() {
+    let rings = ["ring of 100 flags", "ring of 128 flags"];
+    for (link, name) in LINKS {
+        let units = BLOCKS * records::MOST_RECORDS;
+        let list: Vec<_> = Arrivals::new(link, 1).take(units).collect();
+        let mut again = list.iter().copied();
+        let whole: Vec<_> = (0..BLOCKS).map(|_| records::records(0, &mut again)).collect();
+        let answer = arrive_ours(&list);
+        let others = [arrive_other::<Hundred>(&list), arrive_other::<PowerOfTwo>(&list)];
+        let in_blocks = [blocks_ours(&whole), blocks_other::<Hundred>(&whole), blocks_other::<PowerOfTwo>(&whole)];
+        assert!(others.iter().chain(&in_blocks).all(|other| *other == answer), "the counts differ: {name}");
+        let runs = vec![
+            run(|| arrive_ours(&list)),
+            run(|| arrive_other::<Hundred>(&list)),
+            run(|| arrive_other::<PowerOfTwo>(&list)),
+        ];
+        lines("arrive, a packet", name, &rings, units, runs);
+        let runs = vec![
+            run(|| blocks_ours(&whole)),
+            run(|| blocks_other::<Hundred>(&whole)),
+            run(|| blocks_other::<PowerOfTwo>(&whole)),
+        ];
+        lines("count_block, a record", name, &rings, units, runs);
+    }
+}
+
+fn reading() {
+    let bytes = compound::sample(MEDIA);
+    let ours = || {
+        let mut found = [0; 23];
+        let answer = library::read_compound(black_box(&bytes), MEDIA, &mut found);
+        if answer == 0 { Ok(found) } else { Err(answer) }
+    };
+    let other = || compound::read(black_box(&bytes), MEDIA);
+    assert_eq!(ours(), other(), "the compounds read differ");
+    assert!(ours().is_ok_and(|found| found[0] + found[7] + found[16] == 3), "all three reports are found");
+    let runs = vec![run_many(|_| ours()), run_many(|_| other())];
+    lines("read_compound, a compound", "SR, ECN feedback, XR summary: 116 bytes", &["plain Rust"], CALLS, runs);
+}
+
+fn run_many<'a, T>(mut give: impl FnMut(usize) -> T + 'a) -> Run<'a> {
+    Box::new(move || {
+        for i in 0..CALLS {
+            black_box(give(i));
+        }
+    })
+}
+
+/// A report each second or so, with losses that never stop the sender.
+fn reports() -> Vec<Report> {
+    let mut random = random::Random(1);
+    let mut time = 0;
+    let one = |i: usize| {
+        time += 900 + random.below(200);
+        let (fraction, rtt) = (random.below(8), 20 + random.below(60));
+        Report { time, highest: 50 * i as u32, fraction, rtt, size: 1_000, rate: 100_000 + random.below(50_000) }
+    };
+    (1..=CALLS).map(one).collect()
+}
+
+fn breaking(k: u64) {
+    let list = reports();
+    let begin = || (library::breaker_start(k, 3, 15_000, 0), Breaker::start(k as usize, 3, 15_000, 0));
+    let (mut ours, mut other) = begin();
+    for report in &list {
+        let answer = library::breaker_report(&mut ours, report);
+        assert_eq!(answer, other.report(report), "the breakers answer differently");
+        assert_eq!(answer, 0, "no report stops the sender");
+    }
+    let ours = || {
+        let mut breaker = begin().0;
+        list.iter().map(|r| u64::from(black_box(library::breaker_report(&mut breaker, black_box(r))))).sum::<u64>()
+    };
+    let other = || {
+        let mut breaker = begin().1;
+        list.iter().map(|r| u64::from(black_box(breaker.report(black_box(r))))).sum::<u64>()
+    };
+    let input = format!("k = {k}");
+    lines("breaker_report, a report", &input, &["plain Rust"], CALLS, vec![run(ours), run(other)]);
+}
+
+fn writing() {
+    let mut source = [0; 9];
+    for (wire, mark) in Arrivals::new(LINKS[1].0, 1).take(1_000_000) {
+        library::arrive(&mut source, wire, mark);
+    }
+    let (mut a, mut b) = ([0u8; 1_280], [0u8; 1_280]);
+    let n = library::write_row(LABEL, MEDIA, &source, 200, &mut a);
+    assert_eq!(n, row::write_row(LABEL, MEDIA, &source, 200, &mut b), "the rows' lengths differ");
+    assert!(n > 0 && a == b, "the rows differ");
+    let runs = vec![
+        run_many(|i| library::write_row(LABEL, MEDIA, black_box(&source), i as u64, black_box(&mut a))),
+        run_many(|i| row::write_row(LABEL, MEDIA, black_box(&source), i as u64, black_box(&mut b))),
+    ];
+    let input = format!("a row of {n} bytes");
+    lines("write_row, a row", &input, &["plain Rust, `write!`"], CALLS, runs);
+}
+
+fn main() {
+    let machine = std::env::args().nth(1).expect("the machine's word");
+    let rounds = medians::setting("ROUNDS", 11);
+    println!("Calls through the static library, in ns of processor time; {machine}, median of {rounds} interleaved rounds.");
+    println!("The other is inlined Rust. Ours checks the whole record's soundness on each call, the arrival call too; the rings check no record.\n");
+    println!("| call | input | ours | other | its time | other / ours |\n|---|---|---|---|---|---|");
+    counting();
+    reading();
+    breaking(3);
+    breaking(32);
+    writing();
+}

@@ -1,0 +1,45 @@
+//! Interleaved rounds and their medians.
+use std::time::Duration;
+
+/// A clock of the system by its number: what has passed since a fixed moment.
+#[derive(Clone, Copy)]
+pub struct Clock(pub i32);
+
+extern "C" {
+    fn clock_gettime(clock: i32, time: *mut [i64; 2]) -> i32;
+}
+
+impl Clock {
+    fn now(self) -> Duration {
+        let mut time = [0; 2];
+        let status = unsafe { clock_gettime(self.0, &mut time) };
+        assert_eq!(status, 0, "the clock answers");
+        Duration::new(time[0] as u64, time[1] as u32)
+    }
+}
+
+/// A setting from the environment, or its default.
+pub fn setting(name: &str, default: usize) -> usize {
+    std::env::var(name).ok().and_then(|text| text.parse().ok()).unwrap_or(default)
+}
+
+/// Runs all in turn, `rounds` times, and gives the median of each in seconds. A first round is not counted.
+pub fn medians(clock: Clock, rounds: usize, runs: &mut [Box<dyn FnMut() + '_>]) -> Vec<f64> {
+    let mut times = vec![Vec::new(); runs.len()];
+    for round in 0..=rounds {
+        for (run, taken) in runs.iter_mut().zip(&mut times) {
+            let begin = clock.now();
+            run();
+            let time = (clock.now() - begin).as_secs_f64();
+            if round > 0 {
+                taken.push(time);
+            }
+        }
+    }
+    times.into_iter().map(median).collect()
+}
+
+fn median(mut times: Vec<f64>) -> f64 {
+    times.sort_by(f64::total_cmp);
+    times[times.len() / 2]
+}

@@ -1,0 +1,136 @@
+//! Arrivals counted in plain Rust, over two rings of flags. No check of the record: nobody else can write it.
+
+pub trait Ring: Default {
+    /// Moves on by so many numbers, none of which has arrived, and marks the newest.
+    fn move_on(&mut self, by: usize);
+    /// Marks the number so far below the newest, and says whether it was marked.
+    fn mark(&mut self, below: usize) -> bool;
+}
+
+/// 100 flags; the index wraps by a comparison.
+pub struct Hundred {
+    arrived: [bool; 100],
+    newest: usize,
+}
+
+impl Default for Hundred {
+    fn default() -> Hundred {
+        Hundred { arrived: [false; 100], newest: 0 }
+    }
+}
+
+impl Ring for Hundred {
+    #[inline(always)]
+    fn move_on(&mut self, by: usize) {
+        if by >= 100 {
+            self.arrived = [false; 100];
+        } else {
+            for _ in 0..by {
+                self.newest = if self.newest == 99 { 0 } else { self.newest + 1 };
+                self.arrived[self.newest] = false;
+            }
+        }
+        self.arrived[self.newest] = true;
+    }
+
+    #[inline(always)]
+    fn mark(&mut self, below: usize) -> bool {
+        let wrap = if below <= self.newest { 0 } else { 100 };
+        std::mem::replace(&mut self.arrived[self.newest + wrap - below], true)
+    }
+}
+
+/// 128 flags; the index wraps by a mask.
+pub struct PowerOfTwo {
+    arrived: [bool; 128],
+    newest: usize,
+}
+
+impl Default for PowerOfTwo {
+    fn default() -> PowerOfTwo {
+        PowerOfTwo { arrived: [false; 128], newest: 0 }
+    }
+}
+
+impl Ring for PowerOfTwo {
+    #[inline(always)]
+    fn move_on(&mut self, by: usize) {
+        if by >= 128 {
+            self.arrived = [false; 128];
+        } else {
+            for i in 1..by {
+                self.arrived[(self.newest + i) & 127] = false;
+            }
+        }
+        self.newest = (self.newest + by) & 127;
+        self.arrived[self.newest] = true;
+    }
+
+    #[inline(always)]
+    fn mark(&mut self, below: usize) -> bool {
+        std::mem::replace(&mut self.arrived[self.newest.wrapping_sub(below) & 127], true)
+    }
+}
+
+const MOST: u64 = 1 << 48;
+
+#[derive(Default)]
+pub struct Counter<R> {
+    ring: R,
+    base: i64,
+    highest: i64,
+    marks: [u64; 4],
+    arrivals: u64,
+    duplicates: u64,
+}
+
+impl<R: Ring> Counter<R> {
+    /// 0, or refusal 10, 8 or 7.
+    #[inline(always)]
+    pub fn arrive(&mut self, wire: u16, mark: u8) -> u8 {
+        if mark > 3 {
+            return 10;
+        }
+        if self.arrivals == MOST {
+            return 8;
+        }
+        if self.arrivals == 0 {
+            self.base = i64::from(wire);
+            self.highest = self.base;
+            self.ring.mark(0);
+        } else {
+            let d = wire.wrapping_sub(self.highest as u16);
+            match d {
+                1..=2_999 => {
+                    self.ring.move_on(usize::from(d));
+                    self.highest += i64::from(d);
+                }
+                0 | 65_437..=65_535 => self.duplicates += u64::from(self.ring.mark(usize::from(d.wrapping_neg()))),
+                _ => return 7,
+            }
+        }
+        self.arrivals += 1;
+        self.marks[usize::from(mark)] += 1;
+        0
+    }
+
+    /// Counts a block's records and gives the jumps, or minus 10.
+    #[inline(always)]
+    pub fn count_block(&mut self, records: &[u8]) -> i64 {
+        let n = records.len() / 8;
+        if records.len() % 8 != 0 || !(1..=62).contains(&n) || records.chunks_exact(8).any(|record| record[6] > 3) {
+            return -10;
+        }
+        let mut jumps = 0;
+        for record in records.chunks_exact(8) {
+            jumps += i64::from(self.arrive(u16::from_be_bytes([record[4], record[5]]), record[6]) == 7);
+        }
+        jumps
+    }
+
+    /// Base, highest, the four marks and the duplicates.
+    pub fn words(&self) -> [u64; 7] {
+        let [notect, ect1, ect0, ce] = self.marks;
+        [self.base as u64, self.highest as u64, notect, ect1, ect0, ce, self.duplicates]
+    }
+}

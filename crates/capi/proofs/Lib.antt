@@ -1,0 +1,7 @@
+-- What the functions' proofs share.
+pub mod Answers
+pub mod Records
+pub mod Fronts
+pub mod Readings
+pub mod Steps
+pub mod Chained

@@ -1,0 +1,74 @@
+-- `capi::blocks::flasknib_read_block` meets its contract. Assumes nothing.
+use borrow.Author.Needs.{needs}
+use mathlib.Core.Path.{sym, ap, _∙_}
+use denote.Ref.{now}
+use Rattle.words.proofs.Stores.{wrote-refused}
+use Rattle.trace.specs.Layout.{first}
+use Rattle.trace.specs.Reading.{blockOf}
+use Rattle.capi.specs.Codes.{refusalCode}
+use Rattle.capi.specs.Blocks.{blockFault, foundWords}
+use Rattle.capi.proofs.blocks.flasknib_read_block.Statement.{statement}
+use Rattle.capi.proofs.blocks.flasknib_read_block.Tie as tie
+
+read-block-requires : tie.Need-read-block-requires
+read-block-requires c κs = search needs
+
+enum-known-length : tie.Need-enum-known-length
+enum-known-length c = search needs
+
+put-found-requires : tie.Need-put-found-requires
+put-found-requires c κs = search needs
+
+enum-known-count : tie.Need-enum-known-count
+enum-known-count c = search needs
+
+put-found-requires-2 : tie.Need-put-found-requires-2
+put-found-requires-2 c κs = search needs
+
+enum-known-refusal : tie.Need-enum-known-refusal
+enum-known-refusal c = search needs
+
+number-requires : tie.Need-number-requires
+number-requires c κs = search needs
+
+same-length : tie.Need-same-length
+same-length c = search needs
+
+returns : tie.Need-returns
+returns c =
+    let told = sym (c .before .before .before .before .before .before .before .read-block .ensures) ∙ c .before .before .before .before .before .length .given .1 in
+    let e = c .before .before .put-found .ensures in
+    (rw told (e .0), rw told (e .1))
+
+same-length-2 : tie.Need-same-length-2
+same-length-2 c = search needs
+
+returns-2 : tie.Need-returns-2
+returns-2 c =
+    let told = sym (c .before .before .before .before .before .before .before .read-block .ensures) ∙ c .before .before .before .before .before .count .given .1 in
+    let e = c .before .before .put-found2 .ensures in
+    (rw told (e .0), rw told (e .1))
+
+returns-3 : tie.Need-returns-3
+returns-3 c =
+    let a = c .before .before .before .before .before .before .before .args in
+    let told = sym (c .before .before .before .before .read-block .ensures) ∙ c .before .before .refusal .given .1 in
+    let w = wrote-refused (foundWords (blockOf first (now (a .block)))) (now (a .found)) (ap blockFault told) in
+    (c .number .ensures ∙ ap refusalCode (w .answers), w .stores)
+
+pub flasknib-read-block-spec : {M : Type 1} → statement M
+flasknib-read-block-spec =
+    tie.close
+    (tie.spec
+    read-block-requires
+    enum-known-length
+    put-found-requires
+    enum-known-count
+    put-found-requires-2
+    enum-known-refusal
+    number-requires
+    same-length
+    returns
+    same-length-2
+    returns-2
+    returns-3)

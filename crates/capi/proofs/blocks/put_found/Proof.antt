@@ -1,0 +1,48 @@
+-- `capi::blocks::put_found` meets its contract. Assumes nothing.
+use borrow.Author.Needs.{needs}
+use mathlib.Core.Path.{refl, ap}
+use mathlib.Core.List.{[], _∷_}
+use native.Mathlib.Omega.{arith}
+use denote.Ref.{now}
+use lib.ListN.{length-set}
+use Rattle.words.proofs.Stores.{wrote-short, wrote-all}
+use Rattle.capi.specs.Codes.{refusalCode}
+use Rattle.capi.proofs.blocks.put_found.Statement.{statement}
+use Rattle.capi.proofs.blocks.put_found.Tie as tie
+
+returns : tie.Need-returns
+returns c =
+    let a = c .before .args in
+    let w = wrote-short (a .kind ∷ a .count ∷ a .ssrc ∷ []) (now (a .found)) refl (c .if1 .taken) in
+    (ap refusalCode (w .answers), w .stores)
+
+slice-write-found : tie.Need-slice-write-found
+slice-write-found c = search needs
+
+slice-write-found-2 : tie.Need-slice-write-found-2
+slice-write-found-2 c =
+    let a = c .before .args in
+    omega (arith, length-set (now (a .found)) 0 (a .kind), c .if1 .left)
+
+slice-write-found-3 : tie.Need-slice-write-found-3
+slice-write-found-3 c = search needs
+
+same-length : tie.Need-same-length
+same-length c = search needs
+
+returns-2 : tie.Need-returns-2
+returns-2 c =
+    let a = c .before .args in
+    let w = wrote-all (a .kind ∷ a .count ∷ a .ssrc ∷ []) (now (a .found)) refl (c .if1 .left) refl refl in
+    (ap refusalCode (w .answers), w .stores)
+
+pub put-found-spec : {M : Type 1} → statement M
+put-found-spec =
+    tie.close
+    (tie.spec
+    returns
+    slice-write-found
+    slice-write-found-2
+    slice-write-found-3
+    same-length
+    returns-2)

@@ -1,0 +1,57 @@
+-- `capi::circuit::flasknib_breaker_report` meets its contract. Assumes nothing.
+use borrow.Author.Needs.{needs}
+use mathlib.Core.Path.{ap, _∙_}
+use denote.Ref.{now}
+use Rattle.words.proofs.Conditions.{was-false, was-true}
+use Rattle.lent.specs.declared.breaker_words.Loaded.{Loaded}
+use Rattle.capi.specs.BreakerCalls.{reports}
+use Rattle.capi.proofs.Steps.{record-sized, call-malformed, call-made}
+use Rattle.capi.proofs.circuit.flasknib_breaker_report.Statement.{statement}
+use Rattle.capi.proofs.circuit.flasknib_breaker_report.Tie as tie
+
+record-in-requires : tie.Need-record-in-requires
+record-in-requires c κs = search needs
+
+code-requires : tie.Need-code-requires
+code-requires c κs = search needs
+
+same-length : tie.Need-same-length
+same-length c = search needs
+
+returns : tie.Need-returns
+returns c =
+    let a = c .before .before .before .before .before .before .args in
+    let fit = ap (λ (g : Loaded). g .ok) (c .before .before .before .record-in .ensures) in
+    call-malformed (reports (a .time) (a .highest) (a .fraction) (a .rtt) (a .size) (a .rate)) (now (a .breaker)) (was-false fit (c .before .if1 .taken)) (c .code .ensures)
+
+report-requires : tie.Need-report-requires
+report-requires c κs = search needs
+
+put-back-requires : tie.Need-put-back-requires
+put-back-requires c κs =
+    let given = c .before .before .before .before .before .record-in .ensures in
+    record-sized (now (c .before .before .before .before .before .before .before .before .args .breaker)) (was-true (ap (λ (g : Loaded). g .ok) given) (c .before .before .before .if1 .left))
+
+same-length-2 : tie.Need-same-length-2
+same-length-2 c = search needs
+
+returns-2 : tie.Need-returns-2
+returns-2 c =
+    let a = c .before .before .before .before .before .before .before .before .before .before .before .args in
+    let given = c .before .before .before .before .before .before .before .before .record-in .ensures in
+    let fit = was-true (ap (λ (g : Loaded). g .ok) given) (c .before .before .before .before .before .before .if1 .left) in
+    let made = c .before .before .before .before .report .ensures ∙ ap (λ (g : Loaded). reports (a .time) (a .highest) (a .fraction) (a .rtt) (a .size) (a .rate) (g .breaker)) given in
+    call-made (reports (a .time) (a .highest) (a .fraction) (a .rtt) (a .size) (a .rate)) (now (a .breaker)) fit made (c .before .before .put-back .ensures .0) (c .before .before .put-back .ensures .1)
+
+pub flasknib-breaker-report-spec : {M : Type 1} → statement M
+flasknib-breaker-report-spec =
+    tie.close
+    (tie.spec
+    record-in-requires
+    code-requires
+    same-length
+    returns
+    report-requires
+    put-back-requires
+    same-length-2
+    returns-2)

@@ -1,0 +1,43 @@
+-- `capi::circuit::flasknib_breaker_start` meets its contract. Assumes nothing.
+use borrow.Author.Needs.{needs}
+use mathlib.Core.Path.{refl, ap}
+use mathlib.Core.Bool.{not}
+use denote.Ref.{now}
+use borrow.Author.Tests.{lt-leb, le-leb}
+use Rattle.words.proofs.Conditions.{cond-ends, cond-goes}
+use Rattle.breaker.specs.Calls.{unstarted}
+use Rattle.capi.specs.BreakerCalls.{starts}
+use Rattle.capi.proofs.Steps.{start-is, start-refused}
+use Rattle.capi.proofs.circuit.flasknib_breaker_start.Statement.{statement}
+use Rattle.capi.proofs.circuit.flasknib_breaker_start.Tie as tie
+
+code-requires : tie.Need-code-requires
+code-requires c κs = search needs
+
+returns : tie.Need-returns
+unfolding starts
+returns c =
+    let a = c .before .before .before .args in
+    let t = lt-leb (a .reduce) 1 (c .before .if1 .taken) in
+    start-is (now (a .breaker)) (cond-ends _ _ _ unstarted (ap not t) refl) (start-refused unstarted (now (a .breaker)) refl (c .code .ensures))
+
+start-requires : tie.Need-start-requires
+start-requires c κs = search needs
+
+put-front-requires : tie.Need-put-front-requires
+put-front-requires c κs = search needs
+
+same-length : tie.Need-same-length
+same-length c = search needs
+
+returns-2 : tie.Need-returns-2
+unfolding starts
+returns-2 c =
+    let a = c .before .before .before .before .before .before .before .args in
+    let t = le-leb (a .reduce) 1 (c .before .before .before .before .before .if1 .left) in
+    start-is (now (a .breaker)) (cond-goes _ _ _ _ (ap not t) (c .before .before .before .before .start .ensures)) (c .before .before .put-front .ensures)
+
+pub flasknib-breaker-start-spec : {M : Type 1} → statement M
+flasknib-breaker-start-spec =
+    tie.close
+    (tie.spec code-requires returns start-requires put-front-requires same-length returns-2)

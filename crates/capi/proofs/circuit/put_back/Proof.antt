@@ -1,0 +1,48 @@
+-- `capi::circuit::put_back` meets its contract. Assumes nothing.
+use borrow.Author.Needs.{needs}
+use mathlib.Core.Path.{_≡_, sym, _∙_}
+use denote.Ref.{now}
+use lib.ListN.{length}
+use Rattle.breaker.proofs.Places.{length-mapped}
+use Rattle.capi.proofs.Steps.{back-stored}
+use Rattle.capi.proofs.circuit.put_back.Statement.{statement}
+use Rattle.capi.proofs.circuit.put_back.Tie as tie
+
+long : (c : tie.Start) → length (c .args .step .breaker .window .intervals) ≡ 32
+long c = search (needs, length-mapped)
+
+is-refused-requires : tie.Need-is-refused-requires
+is-refused-requires c κs = search needs
+
+code-requires : tie.Need-code-requires
+code-requires c κs = search needs
+
+returns : tie.Need-returns
+returns c = search needs
+
+store-requires : tie.Need-store-requires
+store-requires c κs = search needs
+
+code-requires-2 : tie.Need-code-requires-2
+code-requires-2 c κs = search needs
+
+same-length : tie.Need-same-length
+same-length c = search needs
+
+returns-2 : tie.Need-returns-2
+returns-2 c =
+    let s = c .before .before .before .before .before .before .before .before .before in
+    let kept = sym (c .before .before .before .before .before .before .is-refused .ensures) ∙ c .before .before .before .before .before .if1 .left in
+    (c .code2 .ensures, back-stored (s .args .step) (now (s .args .words)) kept (s .pre) (long s) (c .before .before .before .store .ensures))
+
+pub put-back-spec : {M : Type 1} → statement M
+put-back-spec =
+    tie.close
+    (tie.spec
+    is-refused-requires
+    code-requires
+    returns
+    store-requires
+    code-requires-2
+    same-length
+    returns-2)

@@ -1,0 +1,39 @@
+-- `capi::codes::length` meets its contract. Assumes nothing.
+use borrow.Author.Needs.{needs}
+use mathlib.Core.Path.{sym, ap, _∙_}
+use native.Mathlib.Omega.{arith}
+use mir.Syntax.{w64}
+use mir.ValLaws.{toZ-pos}
+use Rattle.words.proofs.Signed.{seen-is}
+use Rattle.capi.specs.Codes.{lengthCode, lengthIn}
+use Rattle.capi.proofs.codes.length.Statement.{statement}
+use Rattle.capi.proofs.codes.length.Tie as tie
+
+enum-known-answer : tie.Need-enum-known-answer
+enum-known-answer c = search needs
+
+cast-result : tie.Need-cast-result
+cast-result c =
+    let told = c .before .answer .given in
+    record { sfits = omega (arith, ap lengthIn (told .1), c .before .before .before .pre) }
+
+enum-known-answer-2 : tie.Need-enum-known-answer-2
+enum-known-answer-2 c = search needs
+
+minus-requires : tie.Need-minus-requires
+minus-requires c κs = search needs
+
+returns : tie.Need-returns
+returns c =
+    let told = c .before .answer .given in
+    toZ-pos w64 (told .0 .0) (omega (arith, ap lengthIn (told .1), c .before .before .before .pre)) ∙ sym (ap lengthCode (told .1))
+
+returns-2 : tie.Need-returns-2
+returns-2 c =
+    let told = c .before .before .answer2 .given in
+    seen-is (c .minus .result) (search needs) ∙ c .minus .ensures ∙ sym (ap lengthCode (told .1))
+
+pub length-spec : {M : Type 1} → statement M
+length-spec =
+    tie.close
+    (tie.spec enum-known-answer cast-result enum-known-answer-2 minus-requires returns returns-2)

@@ -1,0 +1,5 @@
+pub mod Codes
+pub mod Counting
+pub mod Blocks
+pub mod CompoundCalls
+pub mod BreakerCalls

@@ -1,0 +1,154 @@
+// The circuit breaker for C. A record is lent as 75 words; what a call answers is one number.
+ghost use mathlib.Core.Path.{_≡_};
+ghost use lib.ListN.{length};
+ghost use Rattle.capi.specs.BreakerCalls.{answerCode, isRefused, recordIn, leftBy, callAnswer, callLeft, reports, ticks, starts, startAnswer, startLeft};
+use breaker::Answer;
+use breaker::Breaker;
+use breaker::Report;
+use breaker::Settings;
+use breaker::Step;
+use lent::breaker_words;
+use lent::breaker_words::Loaded;
+use words::Refusal;
+
+// What a call answers, added to the reason or the refusal.
+const STOP: u16 = 256;
+
+const REFUSED: u16 = 512;
+
+// The number of an answer.
+fn code(answer: Answer) -> u16
+    ensures { λ r. ⌜ r ≡ answerCode answer ⌝ }
+{
+    match answer {
+        Answer::Go => 0,
+        Answer::Reduce => 1,
+        Answer::Stop(reason) => STOP + reason.number() as u16,
+        Answer::Refused(refusal) => REFUSED + refusal.number() as u16,
+    }
+}
+
+// Whether an answer is a refusal.
+fn is_refused(answer: Answer) -> bool
+    ensures { λ r. ⌜ r ≡ isRefused answer ⌝ }
+{
+    match answer {
+        Answer::Go => false,
+        Answer::Reduce => false,
+        Answer::Stop(_) => false,
+        Answer::Refused(_) => true,
+    }
+}
+
+// The record that the words are read as, and whether they are one: 75 words that fit.
+fn record_in(words: &[u64]) -> Loaded
+    ensures { λ r. ⌜ r ≡ recordIn (now (words .entry)) ⌝ }
+{
+    let given = breaker_words::load(words);
+    if words.len() != breaker_words::WORDS {
+        let breaker = given.breaker;
+        return Loaded { ok: false, breaker };
+    }
+    given
+}
+
+// Stores the next record in the place of the last, unless the call is refused, and gives the answer's number.
+fn put_back(step: Step, words: &mut [u64]) -> u16
+    requires { ⌜ length (now words) ≡ 75 ⌝ }
+    ensures answers { λ r. ⌜ r ≡ answerCode (step .answer) ⌝ }
+    ensures stores { λ _. ⌜ now (words .exit) ≡ leftBy step (now (words .entry)) ⌝ }
+{
+    let answer = step.answer;
+    let next = step.breaker;
+    if is_refused(answer) {
+        return code(answer);
+    }
+    breaker_words::store(next, words);
+    code(answer)
+}
+
+// Stores a started record at the front of the words, if there are enough, and gives the answer's number.
+fn put_front(step: Step, words: &mut [u64]) -> u16
+    ensures answers { λ r. ⌜ r ≡ startAnswer step (now (words .entry)) ⌝ }
+    ensures stores { λ _. ⌜ now (words .exit) ≡ startLeft step (now (words .entry)) ⌝ }
+{
+    let answer = step.answer;
+    let next = step.breaker;
+    if is_refused(answer) {
+        return code(answer);
+    }
+    if words.len() < breaker_words::WORDS {
+        return code(Answer::Refused(Refusal::Room));
+    }
+    breaker_words::store(next, words);
+    code(answer)
+}
+
+// Starts a breaker: Go and the record at the front of `breaker`, or refusal 10, or 12 where there are fewer than 75 words.
+#[no_mangle]
+pub extern "C" fn flasknib_breaker_start(
+    k: u64,
+    m: u64,
+    timeout: u64,
+    reduce: u8,
+    time: u64,
+    breaker: &mut [u64],
+) -> u16
+    ensures answers { λ r. ⌜ r ≡ startAnswer (starts k m timeout reduce time) (now (breaker .entry)) ⌝ }
+    ensures stores { λ _. ⌜ now (breaker .exit) ≡ startLeft (starts k m timeout reduce time) (now (breaker .entry)) ⌝ }
+{
+    if 1 < reduce {
+        return code(Answer::Refused(Refusal::Limits));
+    }
+    let settings = Settings {
+        k: k as usize,
+        m,
+        timeout,
+        reduce: reduce == 1,
+    };
+    put_front(Breaker::start(settings, time), breaker)
+}
+
+// A report on the record in `breaker`: the answer, and the next record in its place.
+#[no_mangle]
+pub extern "C" fn flasknib_breaker_report(
+    breaker: &mut [u64],
+    time: u64,
+    highest: u32,
+    fraction: u64,
+    rtt: u64,
+    size: u64,
+    rate: u64,
+) -> u16
+    ensures answers { λ r. ⌜ r ≡ callAnswer (reports time highest fraction rtt size rate) (now (breaker .entry)) ⌝ }
+    ensures stores { λ _. ⌜ now (breaker .exit) ≡ callLeft (reports time highest fraction rtt size rate) (now (breaker .entry)) ⌝ }
+{
+    let given = record_in(breaker);
+    if !given.ok {
+        return code(Answer::Refused(Refusal::Malformed));
+    }
+    let b = given.breaker;
+    let report = Report {
+        time,
+        highest,
+        fraction,
+        rtt,
+        size,
+        rate,
+    };
+    put_back(b.report(report), breaker)
+}
+
+// A tick on the record in `breaker`: the answer, and the next record in its place.
+#[no_mangle]
+pub extern "C" fn flasknib_breaker_tick(breaker: &mut [u64], time: u64) -> u16
+    ensures answers { λ r. ⌜ r ≡ callAnswer (ticks time) (now (breaker .entry)) ⌝ }
+    ensures stores { λ _. ⌜ now (breaker .exit) ≡ callLeft (ticks time) (now (breaker .entry)) ⌝ }
+{
+    let given = record_in(breaker);
+    if !given.ok {
+        return code(Answer::Refused(Refusal::Malformed));
+    }
+    let b = given.breaker;
+    put_back(b.tick(time), breaker)
+}

@@ -1,0 +1,8 @@
+// The functions of include/flasknib.h. A slice is a pointer and then its length; each function takes what it was lent apart, calls the proved
+// call of another crate, and puts the answer back.
+pub mod blocks;
+pub mod circuit;
+mod codes;
+pub mod compound;
+pub mod counting;
+pub mod rows;

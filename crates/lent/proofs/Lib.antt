@@ -1,0 +1,5 @@
+-- The laws of lent words, and the proofs of the theorems.
+pub mod SourceLaws
+pub mod Pairs
+pub mod Restored
+pub mod Parts

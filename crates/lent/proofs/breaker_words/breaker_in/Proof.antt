@@ -1,0 +1,70 @@
+-- `lent::breaker_words::breaker_in` meets its contract. Assumes nothing.
+use borrow.Author.Needs.{needs}
+use mathlib.Core.Path.{ap, _∙_}
+use Prim.Native.Nat.{_%_, _^_}
+use lib.Dec.{eqb}
+use Rattle.lent.specs.BreakerWords.{stateOf, breakerOf}
+use Rattle.lent.proofs.breaker_words.breaker_in.Statement.{statement}
+use Rattle.lent.proofs.breaker_words.breaker_in.Tie as tie
+
+settings-in-requires : tie.Need-settings-in-requires
+settings-in-requires c κs = search needs
+
+word-at-requires : tie.Need-word-at-requires
+word-at-requires c κs = search needs
+
+state-of-requires : tie.Need-state-of-requires
+state-of-requires c κs = search needs
+
+word-at-requires-2 : tie.Need-word-at-requires-2
+word-at-requires-2 c κs = search needs
+
+word-at-requires-3 : tie.Need-word-at-requires-3
+word-at-requires-3 c κs = search needs
+
+word-at-requires-4 : tie.Need-word-at-requires-4
+word-at-requires-4 c κs = search needs
+
+word-at-requires-5 : tie.Need-word-at-requires-5
+word-at-requires-5 c κs = search needs
+
+word-at-requires-6 : tie.Need-word-at-requires-6
+word-at-requires-6 c κs = search needs
+
+window-in-requires : tie.Need-window-in-requires
+window-in-requires c κs = search needs
+
+cast-t12 : tie.Need-cast-t12
+cast-t12 c = search needs
+
+returns : tie.Need-returns
+unfolding breakerOf
+returns c =
+    let state = c .before .before .before .before .before .before .state-of .ensures ∙ ap stateOf (c .before .before .before .before .before .before .before .word-at .ensures) in
+    λ i.
+    record {
+      settings = c .before .before .before .before .before .before .before .before .settings-in .ensures i;
+      state = state i;
+      last = c .before .before .before .before .before .word-at2 .ensures i;
+      reported = eqb (c .before .before .before .before .word-at3 .ensures i) 1;
+      highest = c .before .before .before .word-at4 .ensures i % 2 ^ 32;
+      run = c .before .before .word-at5 .ensures i;
+      trial = eqb (c .before .word-at6 .ensures i) 1;
+      window = c .window-in .ensures i;
+    }
+
+pub breaker-in-spec : {M : Type 1} → statement M
+breaker-in-spec =
+    tie.close
+    (tie.spec
+    settings-in-requires
+    word-at-requires
+    state-of-requires
+    word-at-requires-2
+    word-at-requires-3
+    word-at-requires-4
+    word-at-requires-5
+    word-at-requires-6
+    window-in-requires
+    cast-t12
+    returns)

@@ -1,0 +1,28 @@
+-- `lent::breaker_words::settings_in` meets its contract. Assumes nothing.
+use borrow.Author.Needs.{needs}
+use lib.Dec.{eqb}
+use Rattle.lent.specs.BreakerWords.{settingsOf}
+use Rattle.lent.proofs.breaker_words.settings_in.Statement.{statement}
+use Rattle.lent.proofs.breaker_words.settings_in.Tie as tie
+
+word-at-requires : tie.Need-word-at-requires
+word-at-requires c κs = search needs
+
+word-at-requires-2 : tie.Need-word-at-requires-2
+word-at-requires-2 c κs = search needs
+
+word-at-requires-3 : tie.Need-word-at-requires-3
+word-at-requires-3 c κs = search needs
+
+word-at-requires-4 : tie.Need-word-at-requires-4
+word-at-requires-4 c κs = search needs
+
+returns : tie.Need-returns
+unfolding settingsOf
+returns c =
+    λ i. record { k = c .before .before .before .word-at .ensures i; m = c .before .before .word-at2 .ensures i; timeout = c .before .word-at3 .ensures i; reduce = eqb (c .word-at4 .ensures i) 1 }
+
+pub settings-in-spec : {M : Type 1} → statement M
+settings-in-spec =
+    tie.close
+    (tie.spec word-at-requires word-at-requires-2 word-at-requires-3 word-at-requires-4 returns)

@@ -1,0 +1,71 @@
+-- `lent::breaker_words::store` meets its contract. Assumes nothing.
+use borrow.Author.Needs.{needs}
+use mathlib.Core.Path.{_≡_, refl, ap, _∙_}
+use mathlib.Core.Bool.{Bool, true, false}
+use mir.Val.{boolByte}
+use mathlib.Core.List.{List, [], _∷_}
+use Prim.Native.Nat.{ℕ}
+use denote.Ref.{now}
+use lib.Seq.{sets}
+use Rattle.lent.specs.BreakerWords.{flag, intervalWords, breakerWords}
+use Rattle.lent.proofs.breaker_words.store.Statement.{statement}
+use Rattle.lent.proofs.breaker_words.store.Tie as tie
+
+state-number-requires : tie.Need-state-number-requires
+state-number-requires c κs = search needs
+
+cast-t10 : tie.Need-cast-t10
+cast-t10 c = search needs
+
+cast-t11 : tie.Need-cast-t11
+cast-t11 c = search needs
+
+cast-t12 : tie.Need-cast-t12
+cast-t12 c = search needs
+
+cast-t13 : tie.Need-cast-t13
+cast-t13 c = search needs
+
+slice-aggregate-put-all : tie.Need-slice-aggregate-put-all
+slice-aggregate-put-all c = search needs
+
+put-all-requires : tie.Need-put-all-requires
+put-all-requires c κs = search needs
+
+store-intervals-requires : tie.Need-store-intervals-requires
+store-intervals-requires c κs = search needs
+
+same-length : tie.Need-same-length
+same-length c = search needs
+
+-- the cast of a bool to a number
+as-flag : (t : Bool) → boolByte t ≡ flag t
+as-flag true = refl
+as-flag false = refl
+
+returns : tie.Need-returns
+unfolding breakerWords
+returns c =
+    let a = c .before .before .before .before .before .before .before .before .before .before .before .before .before .before .before .before .before .before .args in
+    let b = a .b in
+    let old = now (a .words) in
+    let state = c .before .before .before .before .before .before .before .before .before .before .before .before .before .state-number .ensures in
+    let head : _ ≡ _ =
+    λ i. b .settings .k ∷ b .settings .m ∷ b .settings .timeout ∷ as-flag (b .settings .reduce) i ∷ state i ∷ b .last ∷ as-flag (b .reported) i ∷ b .highest ∷ b .run ∷ as-flag (b .trial) i ∷ b .window .used ∷ [] in
+    c .before .before .store-intervals .ensures
+    ∙ ap (λ (o : List ℕ). sets o 11 (intervalWords (b .window .intervals))) (c .before .before .before .before .before .before .put-all .ensures ∙ ap (sets old 0) head)
+
+pub store-spec : {M : Type 1} → statement M
+store-spec =
+    tie.close
+    (tie.spec
+    state-number-requires
+    cast-t10
+    cast-t11
+    cast-t12
+    cast-t13
+    slice-aggregate-put-all
+    put-all-requires
+    store-intervals-requires
+    same-length
+    returns)

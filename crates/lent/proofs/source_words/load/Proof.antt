@@ -1,0 +1,75 @@
+-- `lent::source_words::load` meets its contract. Assumes nothing.
+use borrow.Author.Needs.{needs}
+use mathlib.Core.Path.{ap, _∙_}
+use Rattle.words.specs.Since.{signed}
+use Rattle.words.proofs.Signed.{seen-is}
+use Rattle.lent.specs.SourceWords.{sourceOf}
+use Rattle.lent.proofs.source_words.load.Statement.{statement}
+use Rattle.lent.proofs.source_words.load.Tie as tie
+
+word-at-requires : tie.Need-word-at-requires
+word-at-requires c κs = search needs
+
+number-requires : tie.Need-number-requires
+number-requires c κs = search needs
+
+word-at-requires-2 : tie.Need-word-at-requires-2
+word-at-requires-2 c κs = search needs
+
+number-requires-2 : tie.Need-number-requires-2
+number-requires-2 c κs = search needs
+
+word-at-requires-3 : tie.Need-word-at-requires-3
+word-at-requires-3 c κs = search needs
+
+word-at-requires-4 : tie.Need-word-at-requires-4
+word-at-requires-4 c κs = search needs
+
+word-at-requires-5 : tie.Need-word-at-requires-5
+word-at-requires-5 c κs = search needs
+
+word-at-requires-6 : tie.Need-word-at-requires-6
+word-at-requires-6 c κs = search needs
+
+word-at-requires-7 : tie.Need-word-at-requires-7
+word-at-requires-7 c κs = search needs
+
+word-at-requires-8 : tie.Need-word-at-requires-8
+word-at-requires-8 c κs = search needs
+
+word-at-requires-9 : tie.Need-word-at-requires-9
+word-at-requires-9 c κs = search needs
+
+returns : tie.Need-returns
+unfolding sourceOf
+returns c =
+    let base = c .before .before .before .before .before .before .before .before .before in
+    let highest = c .before .before .before .before .before .before .before in
+    λ i.
+    record {
+      base = record { 0 = (seen-is (base .number .result) (search needs) ∙ base .number .ensures ∙ ap (signed 64) (base .before .word-at .ensures)) i };
+      highest = record { 0 = (seen-is (highest .number2 .result) (search needs) ∙ highest .number2 .ensures ∙ ap (signed 64) (highest .before .word-at2 .ensures)) i };
+      notect = c .before .before .before .before .before .before .word-at3 .ensures i;
+      ect1 = c .before .before .before .before .before .word-at4 .ensures i;
+      ect0 = c .before .before .before .before .word-at5 .ensures i;
+      ce = c .before .before .before .word-at6 .ensures i;
+      duplicates = c .before .before .word-at7 .ensures i;
+      history = record { recent = c .before .word-at8 .ensures i; older = c .word-at9 .ensures i };
+    }
+
+pub load-spec : {M : Type 1} → statement M
+load-spec =
+    tie.close
+    (tie.spec
+    word-at-requires
+    number-requires
+    word-at-requires-2
+    number-requires-2
+    word-at-requires-3
+    word-at-requires-4
+    word-at-requires-5
+    word-at-requires-6
+    word-at-requires-7
+    word-at-requires-8
+    word-at-requires-9
+    returns)

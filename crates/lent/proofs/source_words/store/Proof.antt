@@ -1,0 +1,48 @@
+-- `lent::source_words::store` meets its contract. Assumes nothing.
+use borrow.Author.Needs.{needs}
+use mathlib.Core.Path.{ap, ap₂, _∙_}
+use mathlib.Core.List.{[], _∷_}
+use Prim.Native.Nat.{ℕ, _^_}
+use denote.Ref.{now}
+use lib.Seq.{sets}
+use Rattle.words.specs.Integers.{modulo}
+use Rattle.words.proofs.Signed.{seen-is}
+use Rattle.lent.specs.SourceWords.{sourceWords}
+use Rattle.lent.proofs.source_words.store.Statement.{statement}
+use Rattle.lent.proofs.source_words.store.Tie as tie
+
+complement-requires : tie.Need-complement-requires
+complement-requires c κs = search needs
+
+complement-requires-2 : tie.Need-complement-requires-2
+complement-requires-2 c κs = search needs
+
+slice-aggregate-put-all : tie.Need-slice-aggregate-put-all
+slice-aggregate-put-all c = search needs
+
+put-all-requires : tie.Need-put-all-requires
+put-all-requires c κs = search needs
+
+same-length : tie.Need-same-length
+same-length c = search needs
+
+returns : tie.Need-returns
+unfolding sourceWords
+returns c =
+    let a = c .before .before .before .before .before .before .before .before .before .before .before .before .before .args in
+    let s = a .s in
+    let base = c .before .before .before .before .before .before .before .complement .ensures ∙ ap (modulo (2 ^ 64)) (seen-is (s .base .0) (search needs)) in
+    let highest = c .before .before .before .before .before .complement2 .ensures ∙ ap (modulo (2 ^ 64)) (seen-is (s .highest .0) (search needs)) in
+    let tail = s .notect ∷ s .ect1 ∷ s .ect0 ∷ s .ce ∷ s .duplicates ∷ s .history .recent ∷ s .history .older ∷ [] in
+    c .before .before .put-all .ensures ∙ ap₂ (λ (x y : ℕ). sets (now (a .words)) 0 (x ∷ y ∷ tail)) base highest
+
+pub store-spec : {M : Type 1} → statement M
+store-spec =
+    tie.close
+    (tie.spec
+    complement-requires
+    complement-requires-2
+    slice-aggregate-put-all
+    put-all-requires
+    same-length
+    returns)

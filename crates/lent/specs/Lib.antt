@@ -1,0 +1,3 @@
+pub mod SourceWords
+pub mod CompoundWords
+pub mod BreakerWords

@@ -1,0 +1,102 @@
+//! The decision at its boundary: the greatest rate that goes, and one above it; equality where it exists.
+use crate::calls::{Settings, GO, REDUCE, STOP};
+use crate::circuit::{report, start};
+use crate::compare::Compare;
+use crate::lent::Lent;
+use draw::Draw;
+use model::breaker::*;
+
+/// A link whose k intervals are known; the rate of the last report decides.
+struct Link {
+    intervals: Vec<(u64, u64)>,
+    rtt: u64,
+    size: u64,
+}
+
+pub fn decisions(compare: &Compare, draw: &Draw) {
+    for _ in 0..4_000 {
+        at_the_greatest_rate(compare, draw);
+        at_equality(compare, draw);
+    }
+}
+
+fn at_the_greatest_rate(compare: &Compare, draw: &Draw) {
+    let k = draw.edge(1, 32);
+    let longest = draw.of(&[10, 6_000, 599_999]);
+    let link = Link {
+        intervals: (0..k).map(|_| (draw.edge(1, longest), draw.edge(0, 255))).collect(),
+        rtt: draw.edge(1, draw.of(&[300, MOST_RTT])),
+        size: draw.edge(1, draw.of(&[1_500, MOST_SIZE])),
+    };
+    let greatest = greatest_rate(&link);
+    if greatest > 0 {
+        link.decides(compare, greatest, true);
+    }
+    if greatest < MOST_RATE {
+        link.decides(compare, greatest + 1, false);
+    }
+}
+
+/// By halving over the square root: the greatest rate with rate^2 at most 38,400,000,000 s^2 W / (Tr^2 P).
+fn greatest_rate(link: &Link) -> u64 {
+    let (mut goes, mut stops) = (0, MOST_RATE + 1);
+    while stops - goes > 1 {
+        let rate = (goes + stops) / 2;
+        if congested(&link.intervals, link.rtt, link.size, rate) {
+            stops = rate
+        } else {
+            goes = rate
+        }
+    }
+    goes
+}
+
+/// With 6 j^2 as the mean fraction lost, both sides are equal where rate Tr j = 80,000 s.
+fn at_equality(compare: &Compare, draw: &Draw) {
+    let (j, pairs) = (draw.within(1, 6), draw.within(1, 16));
+    let intervals = (0..pairs).flat_map(|_| {
+        let (length, off) = (draw.edge(1, 599_999), draw.below(6 * j * j + 1).min(255 - 6 * j * j));
+        [(length, 6 * j * j + off), (length, 6 * j * j - off)]
+    });
+    let intervals = intervals.collect();
+    let size = draw.edge(1, MOST_SIZE);
+    let rtt = draw.of(&[1, 2, 5, 16, 20, 100, 128, 1_000, 3_200, 40_000]);
+    let size = size - size % (rtt * j).min(size);
+    if size == 0 || 80_000 * size % (rtt * j) != 0 || 80_000 * size / (rtt * j) >= MOST_RATE {
+        return;
+    }
+    let link = Link { intervals, rtt, size };
+    let rate = 80_000 * size / (rtt * j);
+    for (rate, goes) in [(rate - 1, true), (rate, true), (rate + 1, false)] {
+        if rate > 0 {
+            link.decides(compare, rate, goes);
+        }
+    }
+}
+
+impl Link {
+    /// k + 1 reports from a start, the last with `rate`: it goes, or it stops or reduces.
+    fn decides(&self, compare: &Compare, rate: u64, goes: bool) {
+        for reduce in [0, 1] {
+            let settings = Settings { k: self.intervals.len() as u64, m: 1, timeout: MOST_TIMEOUT, reduce };
+            let mut breaker = Lent::new(&[0; WORDS]);
+            start(compare, &mut breaker, settings, 0);
+            let mut last = Report { time: 1, number: 0, fraction: 255, rtt: self.rtt, size: self.size, rate: MOST_RATE };
+            let mut answers = vec![report(compare, &mut breaker, &last)];
+            for (place, &(length, fraction)) in self.intervals.iter().enumerate() {
+                let is_last = place + 1 == self.intervals.len();
+                let rate = if is_last { rate } else { MOST_RATE };
+                last = Report { time: last.time + length, number: last.number + 1, fraction, rate, ..last };
+                answers.push(report(compare, &mut breaker, &last));
+            }
+            let decision = answers.pop().unwrap();
+            let wanted = match (goes, reduce) {
+                (true, _) => GO,
+                (false, 1) => REDUCE,
+                (false, _) => STOP + 3,
+            };
+            let as_wanted = answers.iter().all(|&answer| answer == 0) && decision == i64::from(wanted);
+            compare.hold(as_wanted, &format!("{:?} with {last:?} answers {decision}", self.intervals));
+        }
+    }
+}

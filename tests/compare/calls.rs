@@ -1,0 +1,47 @@
+//! The calls of include/flasknib.h over slices, and the answers that each can give.
+
+pub trait Calls {
+    fn arrive(&self, source: &mut [u64], wire: u16, mark: u8) -> u8;
+    fn count_block(&self, source: &mut [u64], records: &[u8], width: usize) -> i64;
+    fn write_feedback(&self, source: &[u64], sender: u32, media: u32, out: &mut [u8]) -> i64;
+    fn write_summary(&self, source: &[u64], media: u32, out: &mut [u8]) -> i64;
+    fn read_compound(&self, bytes: &[u8], media: u32, found: &mut [u64]) -> u8;
+    fn breaker_start(&self, settings: Settings, time: u64, breaker: &mut [u64]) -> u16;
+    fn breaker_report(&self, breaker: &mut [u64], report: &model::breaker::Report) -> u16;
+    fn breaker_tick(&self, breaker: &mut [u64], time: u64) -> u16;
+    fn read_block(&self, block: &[u8], found: &mut [u64]) -> u8;
+    fn write_label(&self, label: &[u8], ssrc: u32, out: &mut [u8]) -> i64;
+    fn write_arrivals(&self, times: &[u32], numbers: &[u16], marks: &[u8], ssrc: u32, out: &mut [u8]) -> i64;
+    fn write_head(&self, out: &mut [u8]) -> i64;
+    fn write_row(&self, label: &[u8], ssrc: u32, source: &[u64], jumped: u64, out: &mut [u8]) -> i64;
+}
+
+#[derive(Clone, Copy, Debug)]
+pub struct Settings {
+    pub k: u64,
+    pub m: u64,
+    pub timeout: u64,
+    pub reduce: u8,
+}
+
+pub const GO: u16 = 0;
+pub const REDUCE: u16 = 1;
+pub const STOP: u16 = 0x100;
+pub const REFUSED: u16 = 0x200;
+
+/// Every function with every answer it can give; a length or a number of jumps counts as 0.
+pub const FUNCTIONS: [(&str, &[i64]); 13] = [
+    ("flasknib_arrive", &[0, 7, 8, 9, 10]),
+    ("flasknib_count_block", &[0, -9, -10]),
+    ("flasknib_write_feedback", &[0, -9, -12]),
+    ("flasknib_write_summary", &[0, -9, -12]),
+    ("flasknib_read_compound", &[0, 1, 2, 3, 4, 5, 6, 10, 12]),
+    ("flasknib_breaker_start", &[0, 0x20A, 0x20C]),
+    ("flasknib_breaker_report", &[0, 1, 0x101, 0x102, 0x103, 0x209, 0x20A, 0x20B]),
+    ("flasknib_breaker_tick", &[0, 0x101, 0x102, 0x103, 0x209, 0x20A, 0x20B]),
+    ("flasknib_read_block", &[0, 1, 12, 13, 14]),
+    ("flasknib_write_label", &[0, -10, -12]),
+    ("flasknib_write_arrivals", &[0, -10, -12]),
+    ("flasknib_write_head", &[0, -12]),
+    ("flasknib_write_row", &[0, -9, -10, -12]),
+];

@@ -1,0 +1,85 @@
+//! The library: declarations that mirror include/flasknib.h, and safe calls over them.
+use crate::calls::{Calls, Settings};
+use model::breaker::Report;
+
+#[rustfmt::skip]
+extern "C" {
+    fn flasknib_arrive(source: *mut u64, words: usize, wire: u16, mark: u8) -> u8;
+    fn flasknib_count_block(source: *mut u64, words: usize, records: *const u8, length: usize, width: usize) -> i64;
+    fn flasknib_write_feedback(source: *const u64, words: usize, sender: u32, media: u32, out: *mut u8, room: usize) -> i64;
+    fn flasknib_write_summary(source: *const u64, words: usize, media: u32, out: *mut u8, room: usize) -> i64;
+    fn flasknib_read_compound(bytes: *const u8, length: usize, media: u32, found: *mut u64, words: usize) -> u8;
+    fn flasknib_breaker_start(k: u64, m: u64, timeout: u64, reduce: u8, time: u64, breaker: *mut u64, words: usize) -> u16;
+    fn flasknib_breaker_report(breaker: *mut u64, words: usize, time: u64, highest: u32, fraction: u64, rtt: u64, size: u64, rate: u64) -> u16;
+    fn flasknib_breaker_tick(breaker: *mut u64, words: usize, time: u64) -> u16;
+    fn flasknib_read_block(block: *const u8, length: usize, found: *mut u64, words: usize) -> u8;
+    fn flasknib_write_label(label: *const u8, length: usize, ssrc: u32, out: *mut u8, room: usize) -> i64;
+    fn flasknib_write_arrivals(times: *const u32, n_times: usize, numbers: *const u16, n_numbers: usize, marks: *const u8, n_marks: usize,
+                               ssrc: u32, out: *mut u8, room: usize) -> i64;
+    fn flasknib_write_head(out: *mut u8, room: usize) -> i64;
+    fn flasknib_write_row(label: *const u8, length: usize, ssrc: u32, source: *const u64, words: usize, jumped: u64, out: *mut u8,
+                          room: usize) -> i64;
+}
+
+pub struct Library;
+
+/// Each pointer goes with the length of its own slice.
+impl Calls for Library {
+    fn arrive(&self, source: &mut [u64], wire: u16, mark: u8) -> u8 {
+        unsafe { flasknib_arrive(source.as_mut_ptr(), source.len(), wire, mark) }
+    }
+
+    fn count_block(&self, source: &mut [u64], records: &[u8], width: usize) -> i64 {
+        unsafe { flasknib_count_block(source.as_mut_ptr(), source.len(), records.as_ptr(), records.len(), width) }
+    }
+
+    fn write_feedback(&self, source: &[u64], sender: u32, media: u32, out: &mut [u8]) -> i64 {
+        unsafe { flasknib_write_feedback(source.as_ptr(), source.len(), sender, media, out.as_mut_ptr(), out.len()) }
+    }
+
+    fn write_summary(&self, source: &[u64], media: u32, out: &mut [u8]) -> i64 {
+        unsafe { flasknib_write_summary(source.as_ptr(), source.len(), media, out.as_mut_ptr(), out.len()) }
+    }
+
+    fn read_compound(&self, bytes: &[u8], media: u32, found: &mut [u64]) -> u8 {
+        unsafe { flasknib_read_compound(bytes.as_ptr(), bytes.len(), media, found.as_mut_ptr(), found.len()) }
+    }
+
+    fn breaker_start(&self, settings: Settings, time: u64, breaker: &mut [u64]) -> u16 {
+        let Settings { k, m, timeout, reduce } = settings;
+        unsafe { flasknib_breaker_start(k, m, timeout, reduce, time, breaker.as_mut_ptr(), breaker.len()) }
+    }
+
+    fn breaker_report(&self, breaker: &mut [u64], report: &Report) -> u16 {
+        let &Report { time, number, fraction, rtt, size, rate } = report;
+        unsafe { flasknib_breaker_report(breaker.as_mut_ptr(), breaker.len(), time, number, fraction, rtt, size, rate) }
+    }
+
+    fn breaker_tick(&self, breaker: &mut [u64], time: u64) -> u16 {
+        unsafe { flasknib_breaker_tick(breaker.as_mut_ptr(), breaker.len(), time) }
+    }
+
+    fn read_block(&self, block: &[u8], found: &mut [u64]) -> u8 {
+        unsafe { flasknib_read_block(block.as_ptr(), block.len(), found.as_mut_ptr(), found.len()) }
+    }
+
+    fn write_label(&self, label: &[u8], ssrc: u32, out: &mut [u8]) -> i64 {
+        unsafe { flasknib_write_label(label.as_ptr(), label.len(), ssrc, out.as_mut_ptr(), out.len()) }
+    }
+
+    fn write_arrivals(&self, times: &[u32], numbers: &[u16], marks: &[u8], ssrc: u32, out: &mut [u8]) -> i64 {
+        let (times_at, numbers_at, marks_at) = (times.as_ptr(), numbers.as_ptr(), marks.as_ptr());
+        let (n_times, n_numbers, n_marks) = (times.len(), numbers.len(), marks.len());
+        let (at, room) = (out.as_mut_ptr(), out.len());
+        unsafe { flasknib_write_arrivals(times_at, n_times, numbers_at, n_numbers, marks_at, n_marks, ssrc, at, room) }
+    }
+
+    fn write_head(&self, out: &mut [u8]) -> i64 {
+        unsafe { flasknib_write_head(out.as_mut_ptr(), out.len()) }
+    }
+
+    fn write_row(&self, label: &[u8], ssrc: u32, source: &[u64], jumped: u64, out: &mut [u8]) -> i64 {
+        let (label_at, source_at, at) = (label.as_ptr(), source.as_ptr(), out.as_mut_ptr());
+        unsafe { flasknib_write_row(label_at, label.len(), ssrc, source_at, source.len(), jumped, at, out.len()) }
+    }
+}

@@ -1,0 +1,48 @@
+//! compare [--only NAME,..] [--table FILE] [SEED]
+//! The library through its C interface against the model: each call's answer and all that it was lent. --only names functions of the
+//! header; the others are answered by the model alone. --table writes the number of calls and answers of each function.
+mod blocks;
+mod boundary;
+mod calls;
+mod circuit;
+mod compare;
+mod counting;
+mod expected;
+mod lent;
+mod library;
+mod lists;
+mod reading;
+mod reports;
+mod rows;
+mod worked;
+
+use compare::Compare;
+use draw::Draw;
+
+const SEED: u64 = 20_260_801;
+
+fn main() {
+    let (mut only, mut table, mut seed) = (None, None, SEED);
+    let mut words = std::env::args().skip(1);
+    while let Some(word) = words.next() {
+        match word.as_str() {
+            "--only" => only = words.next(),
+            "--table" => table = words.next(),
+            _ => seed = word.parse().expect("the seed is a number"),
+        }
+    }
+    let compare = &Compare::new(seed, only.as_deref());
+    let draw = &Draw::seeded(seed);
+    worked::examples(compare);
+    counting::calls(compare, draw);
+    reports::calls(compare, draw);
+    reading::calls(compare, draw);
+    circuit::calls(compare, draw);
+    boundary::decisions(compare, draw);
+    blocks::calls(compare, draw);
+    rows::calls(compare, draw);
+    let (lists, orders) = lists::lists(compare, draw);
+    compare.close(table.as_deref());
+    let (calls, functions) = (compare.calls(), compare.functions());
+    println!("compare: {calls} calls of {functions} functions, {lists} lists and {orders} other orders of them, seed {seed}: as the model");
+}

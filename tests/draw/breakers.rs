@@ -1,0 +1,103 @@
+//! Breaker records, and the arguments of reports.
+use crate::Draw;
+use model::breaker::*;
+
+pub fn sound(draw: &Draw) -> Breaker {
+    let k = draw.edge(1, 32);
+    let number = (!draw.one_in(8)).then(|| draw.edge(0, u64::from(u32::MAX)));
+    let m = draw.edge(1, 32);
+    let stopped = if draw.one_in(6) { draw.within(1, 3) } else { 0 };
+    let longest = draw.of(&[3, 6_000, 599_999]);
+    let count = if draw.one_in(2) { k - draw.below(2) } else { draw.within(0, k) };
+    Breaker {
+        k,
+        m,
+        timeout: draw.edge(1, MOST_TIMEOUT),
+        reduce: draw.one_in(2),
+        stopped,
+        time: if draw.one_in(2) { draw.below(1_000_000) } else { draw.edge(0, TIMES - 1) },
+        number,
+        run: if draw.one_in(2) { m - 1 } else { draw.below(m) },
+        trial: draw.one_in(3),
+        window: (0..count).map(|_| (draw.edge(1, longest), draw.edge(0, MOST_FRACTION))).collect(),
+    }
+}
+
+/// Any record: now and then damaged, or of another number of words.
+pub fn any(draw: &Draw) -> Vec<u64> {
+    let breaker = sound(draw);
+    let mut words = breaker.to_words().to_vec();
+    match draw.below(10) {
+        0 => damage(draw, &mut words),
+        1 => pass_a_limit(draw, &mut words),
+        2 if draw.one_in(4) => words.resize(draw.index(80), 0),
+        _ => {}
+    }
+    words
+}
+
+fn damage(draw: &Draw, words: &mut [u64]) {
+    let place = if draw.one_in(2) { draw.index(11) } else { draw.index(words.len()) };
+    words[place] = match draw.below(4) {
+        0 => words[place].wrapping_add(1),
+        1 => words[place].wrapping_sub(1),
+        2 => words[place] ^ 1 << draw.below(64),
+        _ => draw.any_size(),
+    };
+}
+
+/// One condition of a sound record, passed by as little as can be, or held with nothing to spare.
+fn pass_a_limit(draw: &Draw, words: &mut [u64]) {
+    let more = draw.below(2);
+    let count = words[10] as usize;
+    match draw.below(12) {
+        0 => words[0] = 32 + more,
+        1 => words[1] = 32 + more,
+        2 => words[2] = MOST_TIMEOUT + more,
+        3 => words[draw.of(&[3, 6, 9])] = 1 + more,
+        4 => words[4] = 3 + more,
+        5 => words[5] = TIMES - 1 + more,
+        6 => words[7] = u64::from(u32::MAX) + more,
+        7 => words[8] = words[1] - 1 + more,
+        8 => words[10] = words[0] + more,
+        9 => words[11] = 599_999 * more + draw.below(2),
+        10 => words[12] = 255 + more,
+        _ => words[11 + 2 * count.min(31) + draw.index(2)] = more,
+    }
+}
+
+/// A report to follow `breaker`, mostly within the limits and near the rules' edges.
+pub fn report(draw: &Draw, breaker: &Breaker) -> Report {
+    let last = breaker.number.unwrap_or_else(|| draw.u64()) as u32;
+    Report {
+        time: time(draw, breaker),
+        number: number(draw, last),
+        fraction: draw.astray(0, MOST_FRACTION),
+        rtt: if draw.one_in(2) { draw.below(400) } else { draw.astray(0, MOST_RTT) },
+        size: if draw.one_in(2) { draw.within(1, 1_500) } else { draw.astray(1, MOST_SIZE) },
+        rate: if draw.one_in(2) { draw.below(2_000_000) } else { draw.astray(0, MOST_RATE) },
+    }
+}
+
+/// Times around the last one, around the timeout, and between.
+pub fn time(draw: &Draw, breaker: &Breaker) -> u64 {
+    match draw.below(20) {
+        0 => draw.any_size(),
+        1 => draw.astray(0, TIMES - 1),
+        2 => breaker.time.saturating_sub(draw.below(3)),
+        3 => breaker.time.wrapping_add(breaker.timeout).wrapping_sub(draw.below(3)),
+        4 => breaker.time.wrapping_add(draw.below(3)),
+        _ => breaker.time.wrapping_add(draw.within(1, breaker.timeout.saturating_sub(1).clamp(1, 10_000))),
+    }
+}
+
+pub fn number(draw: &Draw, last: u32) -> u32 {
+    let half = 1 << 31;
+    let step = match draw.below(8) {
+        0 => 0,
+        1 => draw.of(&[half - 1, half, half + 1, u32::MAX]),
+        2 => draw.u64() as u32,
+        _ => draw.below(5_000) as u32,
+    };
+    last.wrapping_add(step)
+}

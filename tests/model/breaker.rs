@@ -1,0 +1,202 @@
+//! Document 01, "The breaker": the record, judged and stepped.
+use crate::refusal::*;
+
+pub const WORDS: usize = 75;
+pub const MOST_INTERVALS: u64 = 32;
+pub const MOST_TIMEOUT: u64 = 600_000;
+pub const TIMES: u64 = 1 << 48;
+pub const MOST_FRACTION: u64 = 255;
+pub const MOST_RTT: u64 = 60_000;
+pub const MOST_SIZE: u64 = 65_535;
+pub const MOST_RATE: u64 = 125_000_000;
+
+#[derive(Clone, Copy, Debug, PartialEq)]
+pub enum Answer {
+    Go,
+    Reduce,
+    Stop(u64),
+}
+
+pub const TIMEOUT: u64 = 1;
+pub const MEDIA: u64 = 2;
+pub const CONGESTION: u64 = 3;
+
+#[derive(Clone, Debug, PartialEq)]
+pub struct Breaker {
+    pub k: u64,
+    pub m: u64,
+    pub timeout: u64,
+    pub reduce: bool,
+    /// 0 while running, else the reason of the stop.
+    pub stopped: u64,
+    pub time: u64,
+    /// The highest number of the last report, if there was one.
+    pub number: Option<u64>,
+    pub run: u64,
+    pub trial: bool,
+    /// Length and fraction lost, newest first.
+    pub window: Vec<(u64, u64)>,
+}
+
+#[derive(Clone, Copy, Debug)]
+pub struct Report {
+    pub time: u64,
+    pub number: u32,
+    pub fraction: u64,
+    pub rtt: u64,
+    pub size: u64,
+    pub rate: u64,
+}
+
+impl Report {
+    fn within_limits(&self) -> bool {
+        self.time < TIMES
+            && self.fraction <= MOST_FRACTION
+            && self.rtt <= MOST_RTT
+            && (1..=MOST_SIZE).contains(&self.size)
+            && self.rate <= MOST_RATE
+    }
+}
+
+/// rate^2 Tr^2 P > 38,400,000,000 s^2 W over the intervals of the window. The largest values fit 128 bits, as the next item computes.
+pub fn congested(window: &[(u64, u64)], rtt: u64, size: u64, rate: u64) -> bool {
+    let [rtt, size, rate] = [rtt, size, rate].map(u128::from);
+    let w: u128 = window.iter().map(|&(length, _)| u128::from(length)).sum();
+    let p: u128 = window.iter().map(|&(length, fraction)| u128::from(fraction) * u128::from(length)).sum();
+    rate * rate * rtt * rtt * p > 38_400_000_000 * size * size * w
+}
+
+/// Does not compile if a product passes 128 bits.
+pub const LARGEST_PRODUCTS: [u128; 2] = {
+    let w = 32 * 599_999_u128;
+    let (rate, rtt, size) = (MOST_RATE as u128, MOST_RTT as u128, MOST_SIZE as u128);
+    [rate * rate * rtt * rtt * (255 * w), 38_400_000_000 * size * size * w]
+};
+
+impl Breaker {
+    pub fn start(k: u64, m: u64, timeout: u64, reduce: u8, time: u64) -> Result<Breaker, Refusal> {
+        require(settings_within_limits(k, m, timeout) && reduce <= 1 && time < TIMES, LIMITS)?;
+        Ok(Breaker { k, m, timeout, reduce: reduce == 1, stopped: 0, time, number: None, run: 0, trial: false, window: Vec::new() })
+    }
+
+    /// The record is sound. Stopped, 10, 11, then the rules in order.
+    pub fn report(&mut self, report: &Report) -> Result<Answer, Refusal> {
+        if self.stopped != 0 {
+            return Ok(Answer::Stop(self.stopped));
+        }
+        require(report.within_limits(), LIMITS)?;
+        require(report.time > self.time, TIME)?;
+        let next = if report.rate == 0 { Ok((self.idle(), Answer::Go)) } else { self.judged(report) };
+        Ok(match next {
+            Err(reason) => self.stop(reason),
+            Ok((next, answer)) => {
+                *self = Breaker { time: report.time, number: Some(u64::from(report.number)), ..next };
+                answer
+            }
+        })
+    }
+
+    pub fn tick(&mut self, time: u64) -> Result<Answer, Refusal> {
+        if self.stopped != 0 {
+            return Ok(Answer::Stop(self.stopped));
+        }
+        require(time < TIMES, LIMITS)?;
+        require(time >= self.time, TIME)?;
+        Ok(if time - self.time >= self.timeout { self.stop(TIMEOUT) } else { Answer::Go })
+    }
+
+    fn stop(&mut self, reason: u64) -> Answer {
+        self.stopped = reason;
+        Answer::Stop(reason)
+    }
+
+    /// After a report with rate 0: the window is empty and the media run 0; it is not tested.
+    fn idle(&self) -> Breaker {
+        Breaker { window: Vec::new(), run: 0, ..self.clone() }
+    }
+
+    /// Timeout, media, congestion: the next record and the answer, or the reason of a stop.
+    fn judged(&self, report: &Report) -> Result<(Breaker, Answer), u64> {
+        let length = report.time - self.time;
+        if length >= self.timeout {
+            return Err(TIMEOUT);
+        }
+        let mut next = self.clone();
+        next.run = if self.behind(report.number) { self.run + 1 } else { 0 };
+        if next.run == self.m {
+            return Err(MEDIA);
+        }
+        if self.number.is_none() {
+            // The first report closes no interval, so nothing is tested, even on a record that comes with a full window.
+            return Ok((next, Answer::Go));
+        }
+        next.window.insert(0, (length, report.fraction));
+        next.window.truncate(self.k as usize);
+        if next.window.len() as u64 != self.k {
+            return Ok((next, Answer::Go));
+        }
+        if !congested(&next.window, report.rtt, report.size, report.rate) {
+            return Ok((Breaker { trial: false, ..next }, Answer::Go));
+        }
+        if self.reduce && !self.trial {
+            return Ok((Breaker { window: Vec::new(), trial: true, ..next }, Answer::Reduce));
+        }
+        Err(CONGESTION)
+    }
+
+    /// The number is not ahead of the last one modulo 2^32.
+    fn behind(&self, number: u32) -> bool {
+        self.number.is_some_and(|last| {
+            let ahead = (u64::from(number) + (1 << 32) - last) % (1 << 32);
+            ahead == 0 || ahead >= 1 << 31
+        })
+    }
+
+    pub fn from_words(words: &[u64]) -> Result<Breaker, Refusal> {
+        require(words.len() == WORDS && sound(words), MALFORMED)?;
+        Ok(Breaker {
+            k: words[0],
+            m: words[1],
+            timeout: words[2],
+            reduce: words[3] == 1,
+            stopped: words[4],
+            time: words[5],
+            number: (words[6] == 1).then_some(words[7]),
+            run: words[8],
+            trial: words[9] == 1,
+            window: words[11..].chunks(2).take(words[10] as usize).map(|interval| (interval[0], interval[1])).collect(),
+        })
+    }
+
+    pub fn to_words(&self) -> [u64; WORDS] {
+        let mut words = [0; WORDS];
+        words[..5].copy_from_slice(&[self.k, self.m, self.timeout, u64::from(self.reduce), self.stopped]);
+        words[5..8].copy_from_slice(&[self.time, u64::from(self.number.is_some()), self.number.unwrap_or(0)]);
+        words[8..11].copy_from_slice(&[self.run, u64::from(self.trial), self.window.len() as u64]);
+        for (place, &(length, fraction)) in self.window.iter().enumerate() {
+            words[11 + 2 * place] = length;
+            words[12 + 2 * place] = fraction;
+        }
+        words
+    }
+}
+
+fn settings_within_limits(k: u64, m: u64, timeout: u64) -> bool {
+    (1..=MOST_INTERVALS).contains(&k) && (1..=MOST_INTERVALS).contains(&m) && (1..=MOST_TIMEOUT).contains(&timeout)
+}
+
+/// The run of a stopped record is not judged; the number before the first report is an unused place.
+fn sound(words: &[u64]) -> bool {
+    let [k, m, timeout, reduce, stopped, time, reported, number, run, trial, count] = words[..11].try_into().unwrap();
+    settings_within_limits(k, m, timeout)
+        && [reduce, reported, trial].iter().all(|&flag| flag <= 1)
+        && stopped <= 3
+        && time < TIMES
+        && number < if reported == 1 { 1 << 32 } else { 1 }
+        && (stopped != 0 || run < m)
+        && count <= k
+        && words[11..].chunks(2).enumerate().all(|(place, interval)| match (place as u64) < count {
+            true => (1..=599_999).contains(&interval[0]) && interval[1] <= MOST_FRACTION,
+            false => interval == [0, 0],
+        })
+}

@@ -1,0 +1,58 @@
+//! Document 01, "Table": the whole run of ecntable over a trace.
+use crate::refusal::*;
+use crate::source::{Source, MOST_ARRIVALS};
+use crate::table::{row, HEAD};
+use crate::trace::{read, Contents, BLOCK};
+
+/// What a run has after some blocks.
+#[derive(Default)]
+pub struct Run {
+    pub label: Option<(u32, Vec<u8>)>,
+    pub source: Source,
+    pub jumped: u64,
+}
+
+impl Run {
+    /// Takes the next block; gives whether a row follows.
+    pub fn block(&mut self, bytes: &[u8]) -> Result<bool, Refusal> {
+        let (ssrc, contents) = read(bytes)?;
+        match (&self.label, contents) {
+            (None, Contents::Label(label)) => {
+                self.label = Some((ssrc, label));
+                Ok(false)
+            }
+            (Some((first, _)), Contents::Arrivals(records)) if *first == ssrc => {
+                for record in records {
+                    if self.source.arrive(record.wire, record.mark) == Err(JUMP) {
+                        self.jumped = MOST_ARRIVALS.min(self.jumped + 1);
+                    }
+                }
+                Ok(true)
+            }
+            _ => Err(CONTENTS),
+        }
+    }
+
+    pub fn row(&self) -> Vec<u8> {
+        let (ssrc, label) = self.label.as_ref().unwrap();
+        row(label, *ssrc, &self.source, self.jumped).unwrap()
+    }
+}
+
+/// The standard output of ecntable.
+pub fn table(trace: &[u8]) -> Vec<u8> {
+    let mut table = HEAD.to_vec();
+    let mut run = Run::default();
+    let blocks: Vec<&[u8]> = if trace.is_empty() { vec![trace] } else { trace.chunks(BLOCK).collect() };
+    for (index, block) in blocks.into_iter().enumerate() {
+        match run.block(block) {
+            Ok(true) => table.extend(run.row()),
+            Ok(false) => {}
+            Err(refusal) => {
+                table.extend(format!("refused {refusal} block {index}\r\n").bytes());
+                break;
+            }
+        }
+    }
+    table
+}
