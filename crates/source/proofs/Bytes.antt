@@ -25,6 +25,14 @@ byte-raised n (suc j) (suc k) h =
     let not-full : byte j (n / 256) < 255 = rw (byte-next j n) at h in
     byte-next k (n + 256 ^ suc j) ∙ ap (byte k) high ∙ byte-raised (n / 256) j k not-full ∙ rw (eqb·suc-suc j k, byte-next k n)
 
+-- one in the byte of a mark, as the shift makes it
+pub shifted-one : (mark : ℕ) → mark ≤ 3 → (1 * 2 ^ (8 * mark) % 2 ^ 64 ≡ 256 ^ mark) × (1 * 2 ^ (8 * mark) % 2 ^ 64 ≤ 16777216)
+shifted-one zero m = (refl, omega arith)
+shifted-one (suc zero) m = (refl, omega arith)
+shifted-one (suc (suc zero)) m = (refl, omega arith)
+shifted-one (suc (suc (suc zero))) m = (refl, omega arith)
+shifted-one (suc (suc (suc (suc mark)))) m = absurd (omega arith)
+
 -- what an arrival with a mark adds to the counts, and 1 to the duplicates where it is one
 abbrev pub units : ℕ → Bool → ℕ
 units mark again = 256 ^ mark + bit again * 256 ^ 4

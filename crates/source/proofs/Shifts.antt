@@ -105,38 +105,47 @@ module _ (h : History) (fits-recent : h .recent < 2 ^ 64) (fits-older : h .older
   in-older : (k : ℕ) → 64 ≤ k → marks h k ≡ place (h .older) (k - 64)
   in-older k l = ap (marks h) (omega arith) ∙ marks-older h (k - 64)
 
-  -- moved up by d places, d below 64, and place 0 marked: `older` takes the bits that leave `recent`
-  moved-recent : (d : ℕ) → d < 64 → (k : ℕ) → k < 64 → place (bitOr (h .recent * 2 ^ d % 2 ^ 64) 1) k ≡ added 0 (moved d (marks h)) k
+  -- moved up by `up` places and place j marked, both below 64: `older` takes the bits that leave `recent`
+  near-recent : (up j : ℕ) → up < 64 → (k : ℕ) → k < 64 → place (bitOr (h .recent * 2 ^ up % 2 ^ 64) (2 ^ j)) k ≡ added j (moved up (marks h)) k
   unfolding moved added
-  moved-recent d l k g =
-      place-or (h .recent * 2 ^ d % 2 ^ 64) 1 k
-      ∙ ap₂ _||_ (place-mod 64 (h .recent * 2 ^ d) k g ∙ place-mul d (h .recent) k ∙ ap (λ (t : Bool). leb d k && t) (sym (marks-recent h (k - d) (omega arith)))) (place-one k)
-      ∙ or-comm (leb d k && marks h (k - d)) (eqb k 0)
+  near-recent up j l k g =
+      place-or (h .recent * 2 ^ up % 2 ^ 64) (2 ^ j) k
+      ∙ ap₂ _||_ (place-mod 64 (h .recent * 2 ^ up) k g ∙ place-mul up (h .recent) k ∙ ap (λ (t : Bool). leb up k && t) (sym (marks-recent h (k - up) (omega arith)))) (place-bit j k)
+      ∙ or-comm (leb up k && marks h (k - up)) (eqb k j)
 
-  moved-older : (d : ℕ) → 1 ≤ d → d < 64 → (k : ℕ) → k < 36
-      → place (bitOr (h .older * 2 ^ d % 2 ^ 64) (h .recent / 2 ^ (64 - d)) % 2 ^ 36) k ≡ added 0 (moved d (marks h)) (64 + k)
+  near-older : (up j : ℕ) → up < 64 → j < 64 → (k : ℕ) → k < 36
+      → place (bitOr (h .older * 2 ^ up % 2 ^ 64) (h .recent / 2 / 2 ^ (63 - up)) % 2 ^ 36) k ≡ added j (moved up (marks h)) (64 + k)
   unfolding moved added
-  moved-older d p l k g =
-      place-mod 36 (bitOr (h .older * 2 ^ d % 2 ^ 64) (h .recent / 2 ^ (64 - d))) k g ∙ place-or (h .older * 2 ^ d % 2 ^ 64) (h .recent / 2 ^ (64 - d)) k
-      ∙ ap₂ _||_ (place-mod 64 (h .older * 2 ^ d) k (omega arith) ∙ place-mul d (h .older) k) (place-div (64 - d) (h .recent) k) ∙ go (decLe d k)
+  near-older up j l m k g =
+      place-mod 36 (bitOr (h .older * 2 ^ up % 2 ^ 64) (h .recent / 2 / 2 ^ (63 - up))) k g ∙ place-or (h .older * 2 ^ up % 2 ^ 64) (h .recent / 2 / 2 ^ (63 - up)) k
+      ∙ ap₂ _||_ (place-mod 64 (h .older * 2 ^ up) k (omega arith) ∙ place-mul up (h .older) k)
+      (place-div (63 - up) (h .recent / 2) k ∙ sym (place-next (h .recent) (63 - up + k)))
+      ∙ go (decLe up k)
     where
-      go : Dec (d ≤ k) → ((leb d k && place (h .older) (k - d)) || place (h .recent) (64 - d + k)) ≡ (eqb (64 + k) 0 || (leb d (64 + k) && marks h (64 + k - d)))
-      go (yes q) = rw (le-leb d k q, place-above 64 (h .recent) (64 - d + k) fits-recent (omega arith), ne-eqb (64 + k) 0 (omega arith), le-leb d (64 + k) (omega arith))
-          (or-false (place (h .older) (k - d)) ∙ sym (in-older (64 + k - d) (omega arith) ∙ ap (place (h .older)) (omega arith)))
-      go (no q) = rw (lt-leb d k (omega arith), ne-eqb (64 + k) 0 (omega arith), le-leb d (64 + k) (omega arith))
-          (ap (place (h .recent)) (omega arith) ∙ sym (marks-recent h (64 + k - d) (omega arith)))
+      go : Dec (up ≤ k) → ((leb up k && place (h .older) (k - up)) || place (h .recent) (suc (63 - up + k))) ≡ (eqb (64 + k) j || (leb up (64 + k) && marks h (64 + k - up)))
+      go (yes q) = rw (le-leb up k q, place-above 64 (h .recent) (suc (63 - up + k)) fits-recent (omega arith), ne-eqb (64 + k) j (omega arith), le-leb up (64 + k) (omega arith))
+          (or-false (place (h .older) (k - up)) ∙ sym (in-older (64 + k - up) (omega arith) ∙ ap (place (h .older)) (omega arith)))
+      go (no q) = rw (lt-leb up k (omega arith), ne-eqb (64 + k) j (omega arith), le-leb up (64 + k) (omega arith))
+          (ap (place (h .recent)) (omega arith) ∙ sym (marks-recent h (64 + k - up) (omega arith)))
 
-  pub moved-near : (d : ℕ) → 1 ≤ d → d < 64
+  pub near-words : (up j : ℕ) → up < 64 → j < 64
       → _≡_ {A = History}
       (record {
-        recent = bitOr (h .recent * 2 ^ d % 2 ^ 64) 1;
-        older = bitOr (h .older * 2 ^ d % 2 ^ 64) (h .recent / 2 ^ (64 - d)) % 2 ^ 36;
+        recent = bitOr (h .recent * 2 ^ up % 2 ^ 64) (2 ^ j);
+        older = bitOr (h .older * 2 ^ up % 2 ^ 64) (h .recent / 2 / 2 ^ (63 - up)) % 2 ^ 36;
       })
-      (history (added 0 (moved d (marks h))))
-  moved-near d p l =
-      words-are (bitOr (h .recent * 2 ^ d % 2 ^ 64) 1) (bitOr (h .older * 2 ^ d % 2 ^ 64) (h .recent / 2 ^ (64 - d)) % 2 ^ 36) (added 0 (moved d (marks h)))
-      (or-lt 64 (h .recent * 2 ^ d % 2 ^ 64) 1 (mod-lt (h .recent * 2 ^ d) (pow-pos 64)) (omega arith))
-      (mod-lt (bitOr (h .older * 2 ^ d % 2 ^ 64) (h .recent / 2 ^ (64 - d))) (pow-pos 36)) (moved-recent d l) (moved-older d p l)
+      (history (added j (moved up (marks h))))
+  near-words up j l m =
+      words-are (bitOr (h .recent * 2 ^ up % 2 ^ 64) (2 ^ j)) (bitOr (h .older * 2 ^ up % 2 ^ 64) (h .recent / 2 / 2 ^ (63 - up)) % 2 ^ 36) (added j (moved up (marks h)))
+      (or-lt 64 (h .recent * 2 ^ up % 2 ^ 64) (2 ^ j) (mod-lt (h .recent * 2 ^ up) (pow-pos 64)) (pow-lt m))
+      (mod-lt (bitOr (h .older * 2 ^ up % 2 ^ 64) (h .recent / 2 / 2 ^ (63 - up))) (pow-pos 36)) (near-recent up j l) (near-older up j l m)
+
+  -- and whether place j was marked
+  pub near-was : (up j : ℕ) → up < 64 → j < 64 → h .recent * 2 ^ up % 2 ^ 64 / 2 ^ j % 2 ≡ bit (moved up (marks h) j)
+  unfolding moved place
+  near-was up j l m =
+      digit (h .recent * 2 ^ up % 2 ^ 64 / 2 ^ j) (eqb (h .recent * 2 ^ up % 2 ^ 64 / 2 ^ j % 2) 1) refl
+      ∙ ap bit (place-mod 64 (h .recent * 2 ^ up) j m ∙ place-mul up (h .recent) j ∙ ap (λ (t : Bool). leb up j && t) (sym (marks-recent h (j - up) (omega arith))))
 
   -- moved up by 64 places or more: of `recent` only place 0 is left
   only-first : (d : ℕ) → 64 ≤ d → (k : ℕ) → k < 64 → place 1 k ≡ added 0 (moved d (marks h)) k
@@ -163,15 +172,7 @@ module _ (h : History) (fits-recent : h .recent < 2 ^ 64) (fits-older : h .older
       words-are 1 0 (added 0 (moved d (marks h))) (omega arith) (omega arith) (only-first d (omega arith))
       (λ k g. place-zero k ∙ rw (ne-eqb (64 + k) 0 (omega arith), lt-leb d (64 + k) (omega arith)))
 
-  -- place j marked too, in the one word or the other
-  pub added-recent : (j : ℕ) → j < 64
-      → _≡_ {A = History} (record { recent = bitOr (h .recent) (2 ^ j); older = h .older }) (history (added j (marks h)))
-  unfolding added
-  added-recent j l =
-      words-are (bitOr (h .recent) (2 ^ j)) (h .older) (added j (marks h)) (or-lt 64 (h .recent) (2 ^ j) fits-recent (pow-lt l)) fits-older
-      (λ k g. place-or (h .recent) (2 ^ j) k ∙ ap₂ _||_ (sym (marks-recent h k g)) (place-bit j k) ∙ or-comm (marks h k) (eqb k j))
-      (λ k g. rw (ne-eqb (64 + k) j (omega arith)) (sym (marks-older h k)))
-
+  -- place j marked too, in the older word
   pub added-older : (j : ℕ) → 64 ≤ j → j < 100
       → _≡_ {A = History} (record { recent = h .recent; older = bitOr (h .older) (2 ^ (j - 64)) }) (history (added j (marks h)))
   unfolding added
@@ -187,6 +188,11 @@ module _ (h : History) (fits-recent : h .recent < 2 ^ 64) (fits-older : h .older
       shift k = same-test (eqb k (j - 64)) (eqb (64 + k) j)
           (λ t. let z = eqb→eq k (j - 64) t in true-is (eqb (64 + k) j) (eq-eqb (64 + k) j (omega arith)))
           (λ t. let z = eqb→eq (64 + k) j t in true-is (eqb k (j - 64)) (eq-eqb k (j - 64) (omega arith)))
+
+-- moved up by no place
+pub moved-none : (row : ℕ → Bool) → moved 0 row ≡ row
+unfolding moved
+moved-none row = λ i k. ap₂ (λ (t : Bool) (j : ℕ). t && row j) (leb·zero k) (sub-zero k) i
 
 -- the history of a first arrival
 pub first-history : _≡_ {A = History} (record { recent = 1; older = 0 }) (history (λ k. eqb k 0))

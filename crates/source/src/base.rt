@@ -1,4 +1,4 @@
-// The first arrival, which sets base and highest.
+// A record with one arrival more, and the first, which sets base and highest.
 use crate::Extended;
 use crate::History;
 use crate::Source;
@@ -19,7 +19,7 @@ fn raised(n: u64, mark: u8, kind: u8) -> u64
 }
 
 // The record with one arrival more.
-fn counted(
+pub fn counted(
     s: Source,
     mark: u8,
     base: Extended,

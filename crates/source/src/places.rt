@@ -3,7 +3,7 @@ use crate::History;
 ghost use mathlib.Core.Path.{_≡_};
 ghost use Prim.Native.Nat.{_^_, _<_, _≤_};
 ghost use lib.Dec.{leb};
-ghost use Rattle.source.specs.Places.{places, marks, history, moved, added};
+ghost use Rattle.source.specs.Places.{bit, places, marks, history, moved, added};
 
 // 2^36: the older word has 36 places.
 pub const OLDER: u64 = 0x10_0000_0000;
@@ -46,16 +46,31 @@ pub fn with_mark(h: History, k: u64) -> History
     ensures { λ r. ⌜ r ≡ history (added k (marks h)) ⌝ }
 {
     if k < 64 {
-        History {
-            recent: h.recent | (1 << k),
-            older: h.older,
-        }
-    } else {
-        History {
-            recent: h.recent,
-            older: h.older | (1 << (k - 64)),
-        }
+        return near(h, 0, k);
     }
+    History {
+        recent: h.recent,
+        older: h.older | (1 << (k - 64)),
+    }
+}
+
+// Every place moved up by `up`, and place k marked, both below 64. (Nothing is chosen: packets that come out of order cost no branch.)
+pub fn near(h: History, up: u64, k: u64) -> History
+    requires { ⌜ (up < 64) × (k < 64) × (h .older < 2 ^ 36) ⌝ }
+    ensures { λ r. ⌜ r ≡ history (added k (moved up (marks h))) ⌝ }
+{
+    History {
+        recent: (h.recent << up) | (1 << k),
+        older: ((h.older << up) | (h.recent >> 1 >> (63 - up))) % OLDER,
+    }
+}
+
+// 1 where place k is marked, once every place is moved up by `up`.
+pub fn near_mark(h: History, up: u64, k: u64) -> u64
+    requires { ⌜ (up < 64) × (k < 64) × (h .older < 2 ^ 36) ⌝ }
+    ensures { λ r. ⌜ (r ≡ bit (moved up (marks h) k)) × (r ≤ 1) ⌝ }
+{
+    (h.recent << up >> k) % 2
 }
 
 // Every place moved up by d, one at least, and place 0 marked.
@@ -64,10 +79,7 @@ pub fn moved_on(h: History, d: u64) -> History
     ensures { λ r. ⌜ r ≡ history (added 0 (moved d (marks h))) ⌝ }
 {
     if d < 64 {
-        return History {
-            recent: (h.recent << d) | 1,
-            older: ((h.older << d) | (h.recent >> (64 - d))) % OLDER,
-        };
+        return near(h, d, 0);
     }
     if d < 100 {
         return History {

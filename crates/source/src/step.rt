@@ -1,34 +1,77 @@
-// One arrival, counted as a block of one record.
+// One arrival counted in a record that is known to be sound.
 use crate::Arrival;
-use crate::BlockCount;
 use crate::Source;
 use crate::Wire;
-use crate::block;
+use crate::base::counted;
+use crate::base::first;
+use crate::numbers;
+use crate::places;
 use crate::soundness::MOST;
 use words::Refusal;
 ghost use mathlib.Core.Path.{_≡_};
 ghost use mathlib.Core.Bool.{true};
-ghost use Prim.Native.Nat.{_≤_};
-ghost use Rattle.source.specs.Record.{sound};
-ghost use Rattle.source.specs.Arrivals.{arrival};
+ghost use Prim.Native.Nat.{_^_, _<_, _≤_};
+ghost use Rattle.source.specs.Record.{arrivals, counting, sound};
+ghost use Rattle.source.specs.Arrivals.{ahead, behind, later, arrival};
 
-// An arrival with a mark of at most 3, in a sound record.
+// An arrival d numbers above the highest.
+fn ahead(s: Source, d: u64, mark: u8) -> Source
+    requires { ⌜ (counting s ≡ true) × (arrivals s < 2 ^ 48) × (1 ≤ d) × (d < 65536) ⌝ }
+    ensures { λ r. ⌜ r ≡ ahead s d mark ⌝ }
+{
+    let base = s.base;
+    let highest = s.highest;
+    let history = s.history;
+    let next = numbers::plus(highest, d);
+    let moved = places::moved_on(history, d);
+    counted(s, mark, base, next, s.duplicates, moved)
+}
+
+// An arrival k numbers below the highest.
+fn behind(s: Source, k: u64, mark: u8) -> Source
+    requires { ⌜ (counting s ≡ true) × (arrivals s < 2 ^ 48) × (k < 100) ⌝ }
+    ensures { λ r. ⌜ r ≡ behind s k mark ⌝ }
+{
+    let base = s.base;
+    let highest = s.highest;
+    let history = s.history;
+    let duplicates = s.duplicates;
+    let added = places::with_mark(history, k);
+    if places::marked(history, k) {
+        return counted(s, mark, base, highest, duplicates + 1, added);
+    }
+    counted(s, mark, base, highest, duplicates, added)
+}
+
+// An arrival after the first, by its distance d from the highest.
+fn later(s: Source, d: u64, mark: u8) -> Arrival
+    requires { ⌜ (counting s ≡ true) × (arrivals s < 2 ^ 48) × (d < 65536) ⌝ }
+    ensures { λ r. ⌜ r ≡ later s d mark ⌝ }
+{
+    if d == 0 {
+        return Arrival::Accepted(behind(s, 0, mark));
+    }
+    if d <= 2999 {
+        return Arrival::Accepted(ahead(s, d, mark));
+    }
+    if 65437 <= d {
+        return Arrival::Accepted(behind(s, 65536 - d, mark));
+    }
+    Arrival::Refused(Refusal::Jump, s)
+}
+
+// An arrival with a mark of at most 3.
 pub fn step(s: Source, wire: Wire, mark: u8) -> Arrival
     requires { ⌜ (sound s ≡ true) × (mark ≤ 3) ⌝ }
     ensures { λ r. ⌜ r ≡ arrival s wire mark ⌝ }
 {
-    if MOST <= s.notect + s.ect1 + s.ect0 + s.ce {
+    let n = s.notect + s.ect1 + s.ect0 + s.ce;
+    if MOST <= n {
         return Arrival::Refused(Refusal::Full, s);
     }
-    let number = wire.0;
-    let record = [(number / 256) as u8, (number % 256) as u8, mark, 0];
-    match block::count(s, &record, 4) {
-        BlockCount::Counted(next, jumps) => {
-            if jumps == 0 {
-                return Arrival::Accepted(next);
-            }
-            Arrival::Refused(Refusal::Jump, s)
-        }
-        BlockCount::Refused(refusal, same) => Arrival::Refused(refusal, same),
+    if n == 0 {
+        return Arrival::Accepted(first(s, wire, mark));
     }
+    let highest = s.highest;
+    later(s, numbers::distance(highest, wire), mark)
 }

@@ -7,15 +7,13 @@ use crate::numbers;
 use crate::places;
 use crate::soundness::MOST;
 ghost use mathlib.Core.Path.{_≡_};
-ghost use mathlib.Core.Bool.{true};
-ghost use Prim.Native.Nat.{_+_, _*_, _^_, _<_, _≤_};
-ghost use lib.Dec.{T};
-ghost use lib.IntN.{pos, natAbs, _+ℤ_};
+ghost use mathlib.Core.Bool.{cond};
+ghost use Prim.Native.Nat.{_+_, _-_, _%_, _^_, _<_, _≤_};
+ghost use lib.Dec.{T, ltb};
+ghost use lib.IntN.{natAbs};
 ghost use lib.Signed.{nonNeg};
-ghost use Rattle.source.specs.Places.{bit, history, marks, moved, added};
-ghost use Rattle.source.specs.Record.{arrivals, sound};
-ghost use Rattle.source.specs.Arrivals.{extended};
-ghost use Rattle.source.specs.Tallied.{byte, begun, raised, jumped, ahead, behind, taken, restored};
+ghost use Rattle.source.specs.Record.{arrivals};
+ghost use Rattle.source.specs.Tallied.{byte, begun, raised, jumped, ahead, behind, takenBy, taken, restored};
 
 // The highest number, the history, how many arrivals may still be counted, and the block's counts, a byte each: arrivals with the marks 0 to 3,
 // duplicates, jumps.
@@ -46,17 +44,12 @@ pub fn begun(s: Source) -> Tally
     }
 }
 
-// One in the byte of a mark.
+// One in the byte of a mark. (A shift and no match: marks come in no order that a branch could foresee.)
 fn unit(mark: u8) -> u64
     requires { ⌜ mark ≤ 3 ⌝ }
     ensures { λ r. ⌜ (r ≡ 256 ^ mark) × (r ≤ 16777216) ⌝ }
 {
-    match mark {
-        0 => 1,
-        1 => 256,
-        2 => 65536,
-        _ => 16777216,
-    }
+    1 << (8 * mark as u64)
 }
 
 // One arrival more, with what it adds to the counts.
@@ -99,6 +92,36 @@ fn behind(t: Tally, k: u64, mark: u8) -> Tally
     raised(t, highest, added, units)
 }
 
+// How many numbers above the highest an arrival is, by its distance: 0 where it is not above.
+fn rise(d: u64) -> u64
+    ensures { λ r. ⌜ (r ≡ cond (ltb d 64) d 0) × (r < 64) ⌝ }
+{
+    if d < 64 { d } else { 0 }
+}
+
+// And how many below it.
+fn fall(d: u64) -> u64
+    requires { ⌜ (d < 65536) × ((d + 63) % 65536 < 127) ⌝ }
+    ensures { λ r. ⌜ (r ≡ cond (ltb d 64) 0 (65536 - d)) × (r < 64) ⌝ }
+{
+    if d < 64 { 0 } else { 65536 - d }
+}
+
+// An arrival at most 63 numbers above or below the highest.
+fn near(t: Tally, d: u64, mark: u8) -> Tally
+    requires { ⌜ (T (nonNeg (t .highest .0))) × (natAbs (t .highest .0) < 2 ^ 62) × (t .history .older < 2 ^ 36) × (t .counts < 2 ^ 60) × (1 ≤ t .left) × (d < 65536) × ((d + 63) % 65536 < 127) × (mark ≤ 3) ⌝ }
+    ensures { λ r. ⌜ r ≡ takenBy t d mark ⌝ }
+{
+    let highest = t.highest;
+    let history = t.history;
+    let up = rise(d);
+    let k = fall(d);
+    let next = numbers::plus(highest, up);
+    let moved = places::near(history, up, k);
+    let again = places::near_mark(history, up, k);
+    raised(t, next, moved, unit(mark) + again * DUPLICATE)
+}
+
 // A jump, which is left out.
 fn jumped(t: Tally) -> Tally
     requires { ⌜ t .counts < 2 ^ 60 ⌝ }
@@ -114,7 +137,7 @@ fn jumped(t: Tally) -> Tally
     }
 }
 
-// One arrival of a block. It is left out where the record is full.
+// One arrival of a block, left out where the record is full. (The next number is tested first since most arrivals have it.)
 pub fn take(t: Tally, wire: Wire, mark: u8) -> Tally
     requires { ⌜ (T (nonNeg (t .highest .0))) × (natAbs (t .highest .0) < 2 ^ 62) × (t .history .older < 2 ^ 36) × (t .counts < 2 ^ 60) × (mark ≤ 3) ⌝ }
     ensures { λ r. ⌜ r ≡ taken t wire mark ⌝ }
@@ -124,12 +147,17 @@ pub fn take(t: Tally, wire: Wire, mark: u8) -> Tally
     }
     let highest = t.highest;
     let d = numbers::distance(highest, wire);
-    let k = (65536 - d) % 65536;
-    if k < 100 {
-        return behind(t, k, mark);
+    if d == 1 {
+        return near(t, 1, mark);
+    }
+    if (d + 63) % 65536 < 127 {
+        return near(t, d, mark);
     }
     if d <= 2999 {
         return ahead(t, d, mark);
+    }
+    if 65437 <= d {
+        return behind(t, 65536 - d, mark);
     }
     jumped(t)
 }

@@ -1,20 +1,21 @@
 -- `source::places::with_mark` meets its contract. Assumes nothing.
 use borrow.Author.Needs.{needs}
-use Prim.Native.Nat.{_-_}
-use Rattle.source.proofs.Shifts.{one-shl, added-recent, added-older}
+use mathlib.Core.Path.{ap, _∙_}
+use mathlib.Core.Bool.{Bool}
+use Prim.Native.Nat.{ℕ, _-_}
+use Rattle.source.specs.Places.{history, marks, added}
+use Rattle.source.proofs.Shifts.{one-shl, added-older, moved-none}
 use Rattle.source.proofs.places.with_mark.Statement.{statement}
 use Rattle.source.proofs.places.with_mark.Tie as tie
 
-shl-t5 : tie.Need-shl-t5
-shl-t5 c = search needs
-
-shl-t8 : tie.Need-shl-t8
-shl-t8 c = search needs
+near-requires : tie.Need-near-requires
+near-requires c κs = search needs
 
 returns : tie.Need-returns
-returns c =
-    let a = c .before .before .args in
-    rw (one-shl (a .k) (search needs)) (added-recent (a .h) (search needs) (search needs) (a .k) (search needs))
+returns c = let a = c .before .before .args in c .near .ensures ∙ ap (λ (row : ℕ → Bool). history (added (a .k) row)) (moved-none (marks (a .h)))
+
+shl-t5 : tie.Need-shl-t5
+shl-t5 c = search needs
 
 returns-2 : tie.Need-returns-2
 returns-2 c =
@@ -22,4 +23,4 @@ returns-2 c =
     rw (one-shl (a .k - 64) (search needs)) (added-older (a .h) (search needs) (search needs) (a .k) (search needs) (search needs))
 
 pub with-mark-spec : {M : Type 1} → statement M
-with-mark-spec = tie.close (tie.spec shl-t5 shl-t8 returns returns-2)
+with-mark-spec = tie.close (tie.spec near-requires returns shl-t5 returns-2)
