@@ -28,9 +28,13 @@ def write_pcap(path, payloads):
             file.write(struct.pack("!IIII", second, 0, len(packet), len(packet)) + packet)
 
 
-def tshark(path, *words):
-    command = ["tshark", "-r", path, "-d", f"udp.port=={PORT},rtcp", *words]
-    return subprocess.run(command, capture_output=True, check=True, text=True).stdout.splitlines()
+def tshark(*words):
+    return subprocess.run(["tshark", *words], capture_output=True, check=True, text=True).stdout.splitlines()
+
+
+def packets(path, *words):
+    """What tshark shows of the capture, read as RTCP."""
+    return tshark("-r", path, "-d", f"udp.port=={PORT},rtcp", *words)
 
 
 def expected(sender, media):
@@ -47,10 +51,10 @@ def expected(sender, media):
 
 def compare(path, wanted):
     """Gives the fields that tshark names and shows; each has the values that were written."""
-    known = {line.split("\t")[2] for line in tshark(path, "-G", "fields") if line.startswith("F\t")}
+    known = {line.split("\t")[2] for line in tshark("-G", "fields") if line.startswith("F\t")}
     names = [name for name in wanted[0] if name in known]
     words = [word for name in names for word in ("-e", name)]
-    rows = tshark(path, "-T", "fields", "-E", "occurrence=a", "-E", "aggregator=,", "-E", "separator=|", *words)
+    rows = packets(path, "-T", "fields", "-E", "occurrence=a", "-E", "aggregator=,", "-E", "separator=|", *words)
     if len(rows) != len(wanted):
         sys.exit(f"capture: FAILED, tshark shows {len(rows)} packets of {len(wanted)}")
     shown = set()
@@ -70,7 +74,7 @@ def main(lines, path):
     if shutil.which("tshark") is None:
         print(f"capture: {len(written)} compounds written; SKIPPED, tshark is not installed, nothing read them")
         return
-    marked = tshark(path, "-Y", "_ws.malformed")
+    marked = packets(path, "-Y", "_ws.malformed")
     if marked:
         sys.exit(f"capture: FAILED, tshark marks {len(marked)} packets as malformed: {marked[0]}")
     shown = compare(path, [expected(int(sender), int(media)) for _, sender, media in written])
