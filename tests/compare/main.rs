@@ -36,7 +36,7 @@ fn main() {
     worked::examples(compare);
     counting::calls(compare, draw);
     reports::calls(compare, draw);
-    reading::calls(compare, draw);
+    let mutations = reading::calls(compare, draw);
     circuit::calls(compare, draw);
     boundary::decisions(compare, draw);
     blocks::calls(compare, draw);
@@ -44,5 +44,8 @@ fn main() {
     let (lists, orders) = lists::lists(compare, draw);
     compare.close(table.as_deref());
     let (calls, functions) = (compare.calls(), compare.functions());
-    println!("compare: {calls} calls of {functions} functions, {lists} lists and {orders} other orders of them, seed {seed}: as the model");
+    println!(
+        "compare: {calls} calls of {functions} functions, {mutations} mutations of compounds, {lists} lists and {orders} other orders of them, \
+         seed {seed}: as the model"
+    );
 }

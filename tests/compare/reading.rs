@@ -6,15 +6,19 @@ use draw::compounds::{RR, XR};
 use draw::{compounds, sources, Draw};
 use model::compound::WORDS;
 
-pub fn calls(compare: &Compare, draw: &Draw) {
+/// Gives how many of the compounds were damaged ones.
+pub fn calls(compare: &Compare, draw: &Draw) -> usize {
+    let mut mutations = 0;
     for _ in 0..250_000 {
-        let bytes = compounds::any(draw);
+        let (bytes, damaged) = compounds::any(draw);
+        mutations += usize::from(damaged);
         let found: Vec<u64> = (0..draw.room(WORDS)).map(|_| draw.u64()).collect();
         read(compare, &bytes, compounds::ssrc(draw), &found);
     }
     for _ in 0..5_000 {
         read_back(compare, draw);
     }
+    mutations
 }
 
 /// Gives the answer and the words of `found` after the call.

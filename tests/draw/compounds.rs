@@ -21,19 +21,19 @@ pub fn sound(draw: &Draw) -> Vec<u8> {
     packets.concat()
 }
 
-/// Any input: sound, damaged in one or two places, at the size limit, or of any bytes.
-pub fn any(draw: &Draw) -> Vec<u8> {
+/// Any input: sound, damaged in one or two places, at the size limit, or of any bytes; and whether it is a damaged one.
+pub fn any(draw: &Draw) -> (Vec<u8>, bool) {
     let mut bytes = sound(draw);
     match draw.below(100) {
-        0 => return (0..draw.below(60)).map(|_| draw.u64() as u8).collect(),
-        1 => return at_the_size_limit(draw),
-        2..=45 => return bytes,
+        0 => return ((0..draw.below(60)).map(|_| draw.u64() as u8).collect(), false),
+        1 => return (at_the_size_limit(draw), false),
+        2..=45 => return (bytes, false),
         _ => {}
     }
     for _ in 0..draw.within(1, 2) {
         damage(draw, &mut bytes);
     }
-    bytes
+    (bytes, true)
 }
 
 /// A packet with this header and body, which is filled up to whole words.

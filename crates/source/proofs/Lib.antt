@@ -7,6 +7,7 @@ pub mod Kept
 pub mod Packets
 pub mod Bytes
 pub mod Simulated
+pub mod Chosen
 pub mod Turns
 pub mod Opened
 pub mod Losses

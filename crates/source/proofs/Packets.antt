@@ -6,22 +6,18 @@ use Prim.Native.Nat.{ℕ, zero, suc, _+_, _-_, _*_, _/_, _%_, _≤_, _<_}
 use native.Mathlib.Nat.{suc-mul, div-add-mod', div-le-self, mul-mod-left, mul-div-cancel, le-div-iff-mul-le}
 use native.Mathlib.Omega.{arith}
 use borrow.Author.Tests.{le-leb, lt-leb, leb-true, eqb-true}
-use lib.Dec.{eqb, leb}
+use lib.Dec.{leb}
 use lib.ListN.{length, getD, drop, length-drop}
 use lib.Seq.{getD-drop, drop-drop}
 use Rattle.words.specs.BigEndian.{word}
 use Rattle.words.proofs.BigEndian.{word-two, word-drop}
-use Rattle.words.specs.Refusals.{numberOf}
 use Rattle.words.specs.Conditions.{all}
 use Rattle.words.proofs.Conditions.{all-true, and-left, and-right}
 use Rattle.source.specs.declared.Source.{Source}
-use Rattle.source.specs.declared.Arrival.{Arrival}
-use Rattle.source.specs.declared.Arrival.the-variants.{Accepted, Refused}
 use Rattle.source.specs.declared.BlockCount.the-variants.{Counted}
 use Rattle.source.specs.Record.{sound}
 use Rattle.source.specs.Arrivals.{arrival, after}
 use Rattle.source.specs.Blocks.{Packet, packets, marksFit, inLimits, jump, counting}
-use Rattle.source.proofs.Rows.{bit-le}
 
 -- the record of `width` bytes at a place
 abbrev pub packet : ℕ → List ℕ → ℕ → Packet

@@ -171,13 +171,6 @@ module _ (h : History) where
   unfolding places
   places-most low high = omega (arith, ones-le 64 (h .recent) low, ones-le 36 (h .older) high)
 
--- a history is told by its row
-pub history-is : (h : History) (row : ℕ → Bool) → h .recent < 2 ^ 64 → h .older < 2 ^ 36 → ((k : ℕ) → k < 100 → marks h k ≡ row k) → h ≡ history row
-history-is h row low high e = λ i. record {
-  recent = pack-unique 64 (h .recent) row low (λ k l. sym (marks-recent h k l) ∙ e k (omega arith)) i;
-  older = pack-unique 36 (h .older) (λ k. row (64 + k)) high (λ k l. sym (marks-older h k) ∙ e (64 + k) (omega arith)) i;
-}
-
 module _ (row : ℕ → Bool) where
   pub marks-history : (k : ℕ) → k < 100 → marks (history row) k ≡ row k
   unfolding marks

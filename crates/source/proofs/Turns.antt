@@ -1,5 +1,5 @@
 -- The turns of the loop over a block's records. Assumes nothing.
-use mathlib.Core.Path.{_≡_, refl, sym, ap, subst, _∙_}
+use mathlib.Core.Path.{_≡_, sym, ap, subst, _∙_}
 use mathlib.Core.Bool.{true}
 use mathlib.Core.List.{List}
 use Prim.Native.Nat.{ℕ, _+_, _-_, _*_, _/_, _%_, _^_, _≤_, _<_}
@@ -12,7 +12,7 @@ use Rattle.source.specs.Record.{arrivals, sound, counting}
 use Rattle.source.specs.Arrivals.{arrival}
 use Rattle.source.specs.Blocks.{packets, marksFit}
 use Rattle.source.specs.Tallied.{byte, begun, taken, restored}
-use Rattle.source.proofs.Facts.{Facts, facts, counting-sound, counted-some}
+use Rattle.source.proofs.Facts.{Facts, facts, counted-some}
 use Rattle.source.proofs.Kept.{sound-stays}
 use Rattle.source.proofs.Packets.{packet, all-left, CountLeft, count-start, count-next, next, mark-here}
 use Rattle.source.proofs.Simulated.{Stands, taken-follows}

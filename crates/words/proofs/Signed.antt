@@ -36,10 +36,6 @@ le-not-lt (negsuc a) (negsuc b) = nat-le-not-lt b a (ltb a b) refl
 pub lt-seen : (a b : ℤ) (t : Bool) → SFits w64 a → SFits w64 b → ltZ (seen a) (seen b) ≡ t → leZ b a ≡ not t
 lt-seen a b t f g e = le-not-lt b a ∙ ap not (rw (seen-is a f, seen-is b g) at e)
 
--- the value of `a <= b`
-pub le-seen : (a b : ℤ) → SFits w64 a → SFits w64 b → leZ (seen a) (seen b) ≡ leZ a b
-le-seen a b f g = rw (seen-is a f, seen-is b g)
-
 -- ---- casts
 
 natural-fits : (z : ℤ) → SFits w64 z → T (nonNeg z) → T (nonNeg z) × Fits w64 (natAbs z)

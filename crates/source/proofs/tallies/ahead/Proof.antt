@@ -3,7 +3,7 @@ use borrow.Author.Needs.{needs}
 use mathlib.Core.Path.{_∙_}
 use Prim.Native.Nat.{_-_}
 use Rattle.source.specs.Tallied.{ahead}
-use Rattle.source.proofs.Simulated.{raised-same}
+use Rattle.source.proofs.Chosen.{raised-same}
 use Rattle.source.proofs.tallies.ahead.Statement.{statement}
 use Rattle.source.proofs.tallies.ahead.Tie as tie
 

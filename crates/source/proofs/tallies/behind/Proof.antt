@@ -6,7 +6,7 @@ use Prim.Native.Nat.{ℕ, _+_, _-_, _*_, _^_}
 use native.Mathlib.Nat.{add-zero}
 use Rattle.source.specs.Places.{bit}
 use Rattle.source.specs.Tallied.{behind}
-use Rattle.source.proofs.Simulated.{raised-same}
+use Rattle.source.proofs.Chosen.{raised-same}
 use Rattle.source.proofs.tallies.behind.Statement.{statement}
 use Rattle.source.proofs.tallies.behind.Tie as tie
 

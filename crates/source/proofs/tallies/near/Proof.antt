@@ -3,7 +3,7 @@ use borrow.Author.Needs.{needs}
 use mathlib.Core.Path.{ap₂, _∙_}
 use Prim.Native.Nat.{ℕ, _+_, _-_, _*_, _^_}
 use native.Mathlib.Omega.{arith}
-use Rattle.source.proofs.Simulated.{raised-same, nearBy, near-taken}
+use Rattle.source.proofs.Chosen.{raised-same, nearBy, near-taken}
 use Rattle.source.proofs.tallies.near.Statement.{statement}
 use Rattle.source.proofs.tallies.near.Tie as tie
 

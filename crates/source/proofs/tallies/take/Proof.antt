@@ -5,7 +5,7 @@ use Prim.Native.Nat.{ℕ, _-_, _<_}
 use native.Mathlib.Omega.{arith}
 use Rattle.source.specs.Tallied.{takenBy}
 use Rattle.source.proofs.Kept.{distance-lt}
-use Rattle.source.proofs.Simulated.{taken-full, taken-near, taken-ahead, taken-behind, taken-jump}
+use Rattle.source.proofs.Chosen.{taken-full, taken-by, taken-ahead, taken-behind, taken-jump}
 use Rattle.source.proofs.tallies.take.Statement.{statement}
 use Rattle.source.proofs.tallies.take.Tie as tie
 
@@ -22,7 +22,7 @@ returns-2 : tie.Need-returns-2
 returns-2 c =
     let a = c .before .before .before .before .before .before .args in
     let d = c .before .before .distance in
-    c .near .ensures ∙ ap (λ (n : ℕ). takenBy (a .t) n (a .mark)) (sym (c .before .if2 .taken)) ∙ taken-near (a .t) (a .wire) (a .mark) (d .result) (d .ensures) (subst (λ (n : ℕ). n < 65536) (sym (d .ensures)) (distance-lt (a .t .highest) (a .wire))) (omega arith)
+    c .near .ensures ∙ ap (λ (n : ℕ). takenBy (a .t) n (a .mark)) (sym (c .before .if2 .taken)) ∙ taken-by (a .t) (a .wire) (a .mark) (d .result) (d .ensures) (subst (λ (n : ℕ). n < 65536) (sym (d .ensures)) (distance-lt (a .t .highest) (a .wire))) (omega arith)
 
 add-if3 : tie.Need-add-if3
 add-if3 c = let l = distance-lt (c .before .before .before .before .before .args .t .highest) (c .before .before .before .before .before .args .wire) in omega (arith, c .before .distance .ensures)
@@ -37,7 +37,7 @@ returns-3 : tie.Need-returns-3
 returns-3 c =
     let a = c .before .before .before .before .before .before .before .args in
     let d = c .before .before .before .distance in
-    c .near2 .ensures ∙ taken-near (a .t) (a .wire) (a .mark) (d .result) (d .ensures) (subst (λ (n : ℕ). n < 65536) (sym (d .ensures)) (distance-lt (a .t .highest) (a .wire))) (omega arith)
+    c .near2 .ensures ∙ taken-by (a .t) (a .wire) (a .mark) (d .result) (d .ensures) (subst (λ (n : ℕ). n < 65536) (sym (d .ensures)) (distance-lt (a .t .highest) (a .wire))) (omega arith)
 
 ahead-requires : tie.Need-ahead-requires
 ahead-requires c κs = search needs
