@@ -5,8 +5,8 @@ use Prim.Native.Nat.{ℕ, _-_, _<_}
 use native.Mathlib.Omega.{arith}
 use borrow.Author.Tests.{leb-false, not-false}
 use lib.Dec.{leb, ltb, eqb}
-use Rattle.words.specs.declared.Refusal.{Refusal}
-use Rattle.words.specs.declared.Refusal.the-variants.{Malformed, Limits, Time}
+use Rattle.answers.specs.declared.Refusal.{Refusal}
+use Rattle.answers.specs.declared.Refusal.the-variants.{Malformed, Limits, Time}
 use Rattle.breaker.specs.declared.Reason.{Reason}
 use Rattle.breaker.specs.declared.Reason.the-variants.{Timeout, Media, Congestion}
 use Rattle.breaker.specs.declared.State.{State}

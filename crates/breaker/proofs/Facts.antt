@@ -8,8 +8,8 @@ use native.Mathlib.Omega.{arith}
 use borrow.Author.Tests.{leb-true, ltb-true, le-leb}
 use lib.Dec.{leb}
 use lib.ListN.{length, getD, take}
-use Rattle.words.specs.Conditions.{all}
-use Rattle.words.proofs.Conditions.{and-left, and-right, all-true}
+use Rattle.answers.specs.Conditions.{all}
+use Rattle.answers.proofs.Conditions.{and-left, and-right, all-true}
 use Rattle.breaker.specs.declared.State.{State}
 use Rattle.breaker.specs.declared.State.the-variants.{Running}
 use Rattle.breaker.specs.declared.Settings.{Settings}

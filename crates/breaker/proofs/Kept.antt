@@ -7,8 +7,8 @@ use native.Mathlib.Omega.{arith}
 use borrow.Author.Tests.{le-leb, lt-ltb}
 use lib.ListN.{length, take, replicate, length-append, length-replicate}
 use lib.Seq.{length-take-le}
-use Rattle.words.specs.Conditions.{all}
-use Rattle.words.proofs.Conditions.{all-true}
+use Rattle.answers.specs.Conditions.{all}
+use Rattle.answers.proofs.Conditions.{all-true}
 use Rattle.breaker.specs.declared.Reason.{Reason}
 use Rattle.breaker.specs.declared.State.{State}
 use Rattle.breaker.specs.declared.State.the-variants.{Running, Stopped}

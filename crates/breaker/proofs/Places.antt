@@ -1,6 +1,6 @@
 -- Laws of the window's places: a part of them by its first place, and one place more in front. Assumes nothing.
 use mathlib.Core.Path.{_≡_, refl, sym, _∙_, ap}
-use mathlib.Core.Bool.{Bool, true, false, _&&_}
+use mathlib.Core.Bool.{Bool, true, false, _&&_, and-true}
 use mathlib.Core.List.{List, [], _∷_, _++_, map}
 use Prim.Native.Nat.{ℕ, zero, suc, _+_, _-_, _*_, _≤_, _<_, zero-le, min}
 use native.Mathlib.Nat.{mul-le-mul, le-of-suc-le-suc, not-suc-le-zero}
@@ -10,8 +10,8 @@ use borrow.Author.Tests.{leb-true, leb-false, le-leb}
 use lib.Dec.{leb, eqb, leb·zero, leb·suc-zero, eqb·suc-zero}
 use lib.ListN.{length, length-map, getD, take, drop, set, replicate}
 use lib.Seq.{slice, slice-cons, set-at, take-suc, slice-empty, append-snoc, length-take-le, take-append-le, drop-append-le, take-take}
-use Rattle.words.specs.Conditions.{all}
-use Rattle.words.proofs.Conditions.{and-left, and-right}
+use Rattle.answers.specs.Conditions.{all}
+use Rattle.answers.proofs.Conditions.{and-left, and-right}
 use Rattle.breaker.specs.declared.Interval.{Interval}
 use Rattle.breaker.specs.Windows.{zeroInterval, inFront, fractionOk, lengthOk, isZero, sumOf}
 use Rattle.breaker.specs.Private.{between, roomy}
@@ -78,10 +78,6 @@ used-limits (x ∷ xs) =
 zero-only : (n : ℕ) → leb n 0 ≡ eqb n 0
 zero-only zero = refl
 zero-only (suc n) = leb·suc-zero n ∙ sym (eqb·suc-zero n)
-
-pub and-true : (t : Bool) → (t && true) ≡ t
-and-true true = refl
-and-true false = refl
 
 pub zero-limits : (xs : List Interval) → all (map (between zeroInterval zeroInterval) xs) ≡ all (map isZero xs)
 zero-limits [] = refl

@@ -5,7 +5,7 @@ use mathlib.Core.List.{List, [], _∷_, map}
 use Prim.Native.Nat.{ℕ, zero-le}
 use native.Mathlib.Omega.{arith}
 use borrow.Author.Tests.{not-false, lt-ltb, le-leb}
-use Rattle.words.specs.declared.Refusal.the-variants.{Malformed}
+use Rattle.answers.specs.declared.Refusal.the-variants.{Malformed}
 use Rattle.breaker.specs.declared.Reason.{Reason}
 use Rattle.breaker.specs.declared.State.{State}
 use Rattle.breaker.specs.declared.Settings.{Settings}

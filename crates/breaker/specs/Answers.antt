@@ -1,6 +1,6 @@
 -- Document 01, "The breaker": what a call answers.
 use Prim.Native.Nat.{ℕ}
-use Rattle.words.specs.declared.Refusal.{Refusal}
+use Rattle.answers.specs.declared.Refusal.{Refusal}
 use Rattle.breaker.specs.declared.Reason.{Reason}
 use Rattle.breaker.specs.declared.Reason.the-variants.{Timeout, Media, Congestion}
 use Rattle.breaker.specs.declared.State.the-variants.{Stopped}

@@ -2,7 +2,7 @@
 use mathlib.Core.Bool.{false, not, cond}
 use Prim.Native.Nat.{ℕ}
 use lib.Dec.{leb, ltb}
-use Rattle.words.specs.declared.Refusal.the-variants.{Malformed, Limits, Time}
+use Rattle.answers.specs.declared.Refusal.the-variants.{Malformed, Limits, Time}
 use Rattle.breaker.specs.declared.Reason.the-variants.{Timeout}
 use Rattle.breaker.specs.declared.State.{State}
 use Rattle.breaker.specs.declared.State.the-variants.{Running, Stopped}
@@ -42,26 +42,32 @@ startOf s time =
     (cond (not (timeOk time)) unstarted
     (goes (fresh s time)))
 
+-- the preset settings: k = 3, m = 3, t = 15,000 ms, no reduction
+abbrev pub preset : Settings
+preset = record { k = 3; m = 3; timeout = 15000; reduce = false }
+
 -- stopped stays stopped: the first reason and the same state
 abbrev pub unlessStopped : State → Breaker → Step → Step
 unlessStopped (Stopped reason) b next = answers (Stop reason) b
 unlessStopped Running b next = next
 
--- 9, stopped, 10, 11, then the rules in order
+-- every call on a record opens with 9, then stopped
+abbrev pub opened : Breaker → Step → Step
+opened b next = cond (not (sound b)) (refuses Malformed b) (unlessStopped (b .state) b next)
+
+-- then 10, 11, and the rules in order
 unfoldable pub reportOf : Breaker → Report → Step
 reportOf b r =
-    cond (not (sound b)) (refuses Malformed b)
-    (unlessStopped (b .state) b
+    opened b
     (cond (not (reportOk r)) (refuses Limits b)
     (cond (leb (r .time) (b .last)) (refuses Time b)
-    (ruled b r))))
+    (ruled b r)))
 
--- 9, stopped, 10, 11, then the timeout; a tick changes nothing else
+-- then 10, 11, and the timeout; a tick changes nothing else
 unfoldable pub tickOf : Breaker → ℕ → Step
 tickOf b time =
-    cond (not (sound b)) (refuses Malformed b)
-    (unlessStopped (b .state) b
+    opened b
     (cond (not (timeOk time)) (refuses Limits b)
     (cond (ltb time (b .last)) (refuses Time b)
     (cond (late b time) (stops Timeout b)
-    (goes b)))))
+    (goes b))))

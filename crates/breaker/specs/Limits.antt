@@ -3,7 +3,7 @@ use mathlib.Core.Bool.{Bool, _&&_}
 use mathlib.Core.List.{[], _∷_}
 use Prim.Native.Nat.{ℕ, _^_}
 use lib.Dec.{leb, ltb}
-use Rattle.words.specs.Conditions.{all}
+use Rattle.answers.specs.Conditions.{all}
 use Rattle.breaker.specs.declared.Settings.{Settings}
 use Rattle.breaker.specs.declared.Report.{Report}
 

@@ -4,12 +4,17 @@ use mathlib.Core.Bool.{Bool, true, _&&_}
 use mathlib.Core.List.{List, [], _∷_}
 use Prim.Native.Nat.{_-_, _<_}
 use lib.Dec.{leb}
-use Rattle.words.specs.Conditions.{all}
+use Rattle.answers.specs.Conditions.{all}
 use Rattle.breaker.specs.declared.State.the-variants.{Running}
 use Rattle.breaker.specs.declared.Interval.{Interval}
 use Rattle.breaker.specs.declared.intervals.Sums.{Sums}
+use Rattle.breaker.specs.declared.Opening.{Opening}
+use Rattle.breaker.specs.declared.Opening.the-variants.{Answered, Open}
 use Rattle.breaker.specs.declared.Breaker.{Breaker}
 use Rattle.breaker.specs.declared.Report.{Report}
+use Rattle.breaker.specs.declared.Step.{Step}
+use Rattle.breaker.specs.Answers.{answers}
+use Rattle.breaker.specs.Calls.{opened}
 use Rattle.breaker.specs.Limits.{reportOk}
 use Rattle.breaker.specs.Windows.{W, P}
 use Rattle.breaker.specs.Soundness.{sound}
@@ -33,6 +38,12 @@ roomy x = leb (x .length) 10000000 && leb (x .fraction) 255
 -- both sums
 abbrev pub sumsOf : List Interval → Sums
 sumsOf xs = record { w = W xs; p = P xs }
+
+-- ---- the opening of a call: its answer, whatever would follow, or a record that is sound and runs
+
+abbrev pub Opens : Breaker → Opening → Type 0
+Opens b (Answered answer) = (next : Step) → answers answer b ≡ opened b next
+Opens b Open = (sound b ≡ true) × (b .state ≡ Running)
 
 -- ---- the rules
 

@@ -4,7 +4,7 @@ use mathlib.Core.Bool.{Bool, true, _||_}
 use mathlib.Core.List.{List, [], _∷_, map}
 use Prim.Native.Nat.{ℕ}
 use lib.Dec.{leb, ltb, eqb}
-use Rattle.words.specs.Conditions.{all}
+use Rattle.answers.specs.Conditions.{all}
 use Rattle.breaker.specs.declared.State.{State}
 use Rattle.breaker.specs.declared.State.the-variants.{Running, Stopped}
 use Rattle.breaker.specs.declared.Breaker.{Breaker}

@@ -5,7 +5,7 @@ ghost use mathlib.Core.List.{map};
 ghost use Prim.Native.Nat.{_≤_};
 ghost use lib.ListN.{take};
 ghost use lib.Seq.{slice};
-ghost use Rattle.words.specs.Conditions.{all};
+ghost use Rattle.answers.specs.Conditions.{all};
 ghost use Rattle.breaker.specs.Windows.{emptyWindow, inFront, pushed};
 ghost use Rattle.breaker.specs.Private.{between, roomy, sumsOf};
 use crate::Interval;

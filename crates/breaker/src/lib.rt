@@ -2,8 +2,9 @@
 ghost use mathlib.Core.Path.{_≡_};
 ghost use Rattle.breaker.specs.Answers.{reasonNumber, answers, stops};
 ghost use Rattle.breaker.specs.Rules.{stored};
-ghost use Rattle.breaker.specs.Calls.{fresh, unstarted, startOf, reportOf, tickOf};
-use words::Refusal;
+ghost use Rattle.breaker.specs.Calls.{fresh, unstarted, preset, startOf, reportOf, tickOf};
+ghost use Rattle.breaker.specs.Private.{Opens};
+use answers::Refusal;
 
 mod intervals;
 mod limits;
@@ -16,16 +17,6 @@ pub struct Settings {
     pub m: u64,
     pub timeout: u64,
     pub reduce: bool,
-}
-
-impl Settings {
-    // The preset settings.
-    pub const PRESET: Settings = Settings {
-        k: 3,
-        m: 3,
-        timeout: 15_000,
-        reduce: false,
-    };
 }
 
 // Why the breaker stops.
@@ -107,6 +98,12 @@ pub struct Step {
     pub breaker: Breaker,
 }
 
+// Whether a call is answered before its arguments are looked at.
+enum Opening {
+    Answered(Answer),
+    Open,
+}
+
 impl Breaker {
     // The limits. A time is below TIME_LIMIT, 2^48 ms; a stored length is from 1 to MAX_LENGTH.
     pub const MAX_K: usize = 32;
@@ -127,6 +124,14 @@ impl Breaker {
 
     pub const MAX_LENGTH: u64 = 599_999;
 
+    // The preset settings.
+    pub const PRESET: Settings = Settings {
+        k: 3,
+        m: 3,
+        timeout: 15_000,
+        reduce: false,
+    };
+
     // A breaker that runs from `time` on, with the answer Go. Refused with 10, the record is all zero, which every call refuses with 9.
     pub fn start(settings: Settings, time: u64) -> Step
         ensures { λ r. ⌜ r ≡ startOf settings time ⌝ }
@@ -140,16 +145,19 @@ impl Breaker {
         Breaker::fresh(settings, time).answered(Answer::Go)
     }
 
+    // A start with the preset settings.
+    pub fn start_preset(time: u64) -> Step
+        ensures { λ r. ⌜ r ≡ startOf preset time ⌝ }
+    {
+        Breaker::start(Breaker::PRESET, time)
+    }
+
     // A report: refused with 9, answered by the stop, refused with 10 or 11, or judged by the rules.
     pub fn report(self, r: Report) -> Step
         ensures { λ s. ⌜ s ≡ reportOf self r ⌝ }
     {
-        if !soundness::is_sound(self) {
-            return self.answered(Answer::Refused(Refusal::Malformed));
-        }
-        let state = self.state;
-        if let State::Stopped(reason) = state {
-            return self.answered(Answer::Stop(reason));
+        if let Opening::Answered(answer) = self.opening() {
+            return self.answered(answer);
         }
         if !limits::report_ok(r) {
             return self.answered(Answer::Refused(Refusal::Limits));
@@ -164,12 +172,8 @@ impl Breaker {
     pub fn tick(self, time: u64) -> Step
         ensures { λ s. ⌜ s ≡ tickOf self time ⌝ }
     {
-        if !soundness::is_sound(self) {
-            return self.answered(Answer::Refused(Refusal::Malformed));
-        }
-        let state = self.state;
-        if let State::Stopped(reason) = state {
-            return self.answered(Answer::Stop(reason));
+        if let Opening::Answered(answer) = self.opening() {
+            return self.answered(answer);
         }
         if Breaker::TIME_LIMIT <= time {
             return self.answered(Answer::Refused(Refusal::Limits));
@@ -181,6 +185,20 @@ impl Breaker {
             return self.stopped(Reason::Timeout);
         }
         self.answered(Answer::Go)
+    }
+
+    // What every call begins with: refused with 9, or answered by the stop.
+    fn opening(self) -> Opening
+        ensures { λ r. ⌜ Opens self r ⌝ }
+    {
+        if !soundness::is_sound(self) {
+            return Opening::Answered(Answer::Refused(Refusal::Malformed));
+        }
+        let state = self.state;
+        match state {
+            State::Stopped(reason) => Opening::Answered(Answer::Stop(reason)),
+            State::Running => Opening::Open,
+        }
     }
 
     // The record that a start makes.

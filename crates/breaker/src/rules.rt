@@ -4,7 +4,7 @@ ghost use mathlib.Core.Bool.{true, _&&_, not};
 ghost use mathlib.Core.List.{map};
 ghost use Prim.Native.Nat.{_≤_};
 ghost use lib.ListN.{take};
-ghost use Rattle.words.specs.Conditions.{all};
+ghost use Rattle.answers.specs.Conditions.{all};
 ghost use Rattle.breaker.specs.Limits.{reportOk};
 ghost use Rattle.breaker.specs.Private.{roomy, Accepted, InTime};
 ghost use Rattle.breaker.specs.Rules.{notAhead, runAfter, windowAfter, holds, tested, ruled};
@@ -16,8 +16,8 @@ use crate::Report;
 use crate::Step;
 use crate::Window;
 use crate::intervals;
+use numbers::since;
 use wide::Wide;
-use words::since;
 
 // Ten times the simplified equation, squared: 10^2 · 1000^2 · 256 · 3 / 2, for a round trip in ms and fractions in 256ths.
 const SCALE: u64 = 38_400_000_000;

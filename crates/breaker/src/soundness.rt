@@ -3,7 +3,7 @@ ghost use mathlib.Core.Path.{_≡_};
 ghost use mathlib.Core.Bool.{_&&_};
 ghost use mathlib.Core.List.{map};
 ghost use Prim.Native.Nat.{_≤_};
-ghost use Rattle.words.specs.Conditions.{all};
+ghost use Rattle.answers.specs.Conditions.{all};
 ghost use Rattle.breaker.specs.Windows.{fractionOk, lengthOk, isZero, inUse, unused};
 ghost use Rattle.breaker.specs.Soundness.{runOk, numberOk, sound};
 use crate::Breaker;

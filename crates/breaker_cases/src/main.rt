@@ -15,55 +15,9 @@ use breaker::Settings;
 use breaker::State;
 use breaker::Step;
 use breaker::Window;
+use cases::number;
+use cases::number32;
 use libc::STDIN_FILENO;
-ghost use Prim.Native.Nat.{_≤_};
-ghost use lib.ListN.{length};
-
-// The end of the line that begins at `at`.
-fn line_end(text: &[u8], at: usize) -> usize
-    requires { ⌜ at ≤ length (now text) ⌝ }
-    ensures { λ r. ⌜ (at ≤ r) × (r ≤ length (now (text .entry))) ⌝ }
-{
-    let mut i = at;
-    while i < text.len() {
-        if text[i] == 10 {
-            return i;
-        }
-        i += 1;
-    }
-    i
-}
-
-// A number with one digit more; any other byte, and a digit past the eighteenth, leaves it as it is.
-fn appended(value: u64, c: u8) -> u64 {
-    if c < 48 {
-        return value;
-    }
-    if 57 < c {
-        return value;
-    }
-    if 1000000000000000000 <= value {
-        return value;
-    }
-    value * 10 + (c - 48) as u64
-}
-
-// The number behind the nth space.
-fn number(line: &[u8], n: u32) -> u64 {
-    let mut spaces: u32 = 0;
-    let mut value: u64 = 0;
-    let mut i: usize = 0;
-    while i < line.len() {
-        let c = line[i];
-        if c == 32 {
-            spaces = std::num::wrapping_add_u32(spaces, 1);
-        } else if spaces == n {
-            value = appended(value, c);
-        }
-        i += 1;
-    }
-    value
-}
 
 // 1 for true, 0 for false.
 fn bit(b: bool) -> u64 {
@@ -135,7 +89,7 @@ fn start_of(line: &[u8]) -> Step {
 fn report_of(line: &[u8]) -> Report {
     Report {
         time: number(line, 1),
-        highest: (number(line, 2) % 4294967296) as u32,
+        highest: number32(line, 2),
         fraction: number(line, 3),
         rtt: number(line, 4),
         size: number(line, 5),
@@ -195,9 +149,9 @@ fn placed(b: Breaker, place: u64, length: u64, fraction: u64) -> Breaker {
 }
 
 // What a line does.
-fn done(b: Breaker, line: &[u8], letter: u8) -> Breaker {
-    match letter {
-        b'd' => shown(Breaker::start(Settings::PRESET, number(line, 1))),
+fn done(b: Breaker, line: &[u8]) -> Breaker {
+    match cases::letter(line) {
+        b'd' => shown(Breaker::start_preset(number(line, 1))),
         b's' => shown(start_of(line)),
         b'r' => shown(b.report(report_of(line))),
         b't' => shown(b.tick(number(line, 1))),
@@ -209,29 +163,19 @@ fn done(b: Breaker, line: &[u8], letter: u8) -> Breaker {
 
 // All lines in turn.
 fn run(text: &[u8]) {
-    let mut b = Breaker::start(Settings::PRESET, 0).breaker;
-    let mut at: usize = 0;
+    let mut b = Breaker::start_preset(0).breaker;
+    let mut at = 0;
     while at < text.len() {
-        let end = line_end(text, at);
-        let line = &text[at..end];
+        let line = cases::line(text, at);
         show::text(line);
-        b = done(b, line, text[at]);
+        b = done(b, line);
         show::end();
-        at = end + 1;
-    }
-}
-
-// The first n bytes.
-fn run_part(text: &[u8; 65536], n: usize) {
-    let all: &[u8] = text;
-    let start = 0;
-    if n <= all.len() {
-        run(&all[start..n]);
+        at += line.len() + 1;
     }
 }
 
 fn main() {
     let mut text = io::large_buffer();
     let n = io::read_full(STDIN_FILENO, &mut text);
-    run_part(&text, n);
+    run(&text[..n]);
 }

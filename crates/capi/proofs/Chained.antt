@@ -6,8 +6,8 @@ use Prim.Native.Nat.{ℕ}
 use borrow.Author.Tests.{eq-eqb}
 use lib.Dec.{eqb}
 use lib.ListN.{length}
-use Rattle.words.specs.Conditions.{all}
-use Rattle.words.proofs.Conditions.{cond-ends, cond-goes, and-right, and-goes}
+use Rattle.answers.specs.Conditions.{all}
+use Rattle.answers.proofs.Conditions.{cond-ends, cond-goes, and-right, and-goes}
 use Rattle.lent.specs.BreakerWords.{breakerWords, breakerOf, wordsFit}
 use Rattle.lent.proofs.Pairs.{length-breaker}
 use Rattle.lent.proofs.Restored.{breaker-restored, words-restored}

@@ -2,6 +2,5 @@
 pub mod Answers
 pub mod Records
 pub mod Fronts
-pub mod Readings
 pub mod Steps
 pub mod Chained

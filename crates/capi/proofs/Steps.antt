@@ -1,22 +1,27 @@
 -- Laws of what the breaker's functions give and leave. Assumes nothing.
-use mathlib.Core.Path.{_≡_, refl, sym, ap, subst⁻¹, _∙_}
-use mathlib.Core.Bool.{true, false, not}
+use mathlib.Core.Path.{_≡_, refl, sym, ap, subst, _∙_}
+use mathlib.Core.Bool.{true, false, not, false≢true}
 use mathlib.Core.List.{List}
-use Prim.Native.Nat.{ℕ, _≤_, _<_}
-use borrow.Author.Tests.{eqb-true, lt-ltb, le-ltb}
+use mathlib.Core.Option.{none}
+use Prim.Native.Nat.{ℕ}
+use borrow.Author.Tests.{eqb-true}
 use lib.Dec.{eqb}
 use lib.ListN.{length}
 use lib.Seq.{sets}
-use Rattle.words.specs.declared.Refusal.the-variants.{Malformed, Room}
-use Rattle.words.specs.Conditions.{all}
-use Rattle.words.proofs.Conditions.{cond-ends, cond-goes, and-left}
+use Rattle.answers.specs.declared.Refusal.the-variants.{Malformed}
+use Rattle.answers.specs.Conditions.{all}
+use Rattle.answers.proofs.Conditions.{cond-ends, cond-goes, and-left}
+use Rattle.answers.proofs.Stores.{wrote-refused}
 use Rattle.breaker.specs.declared.Breaker.{Breaker}
 use Rattle.breaker.specs.declared.Step.{Step}
-use Rattle.breaker.specs.declared.Answer.the-variants.{Refused}
+use Rattle.breaker.specs.declared.Answer.{Answer}
+use Rattle.breaker.specs.declared.Answer.the-variants.{Go, Reduce, Stop, Refused}
 use Rattle.lent.specs.BreakerWords.{breakerWords, breakerOf, wordsFit}
 use Rattle.lent.proofs.Pairs.{length-breaker}
-use Rattle.capi.specs.BreakerCalls.{answerCode, isRefused, isRecord, callAnswer, leftBy, callLeft, startAnswer, startLeft}
-use Rattle.capi.proofs.Fronts.{sets-first, sets-whole}
+use Rattle.capi.specs.Codes.{Gives}
+use Rattle.capi.specs.BreakerCalls.{answerCode, isRefused, refusalIn, isRecord, callAnswer, leftBy, callLeft, startCode}
+use Rattle.capi.proofs.Answers.{gives}
+use Rattle.capi.proofs.Fronts.{sets-whole}
 
 -- ---- a report and a tick
 
@@ -44,32 +49,27 @@ module _ (call : Breaker → Step) (old : List ℕ) {r : ℕ} where
 -- what is stored in the place of the last record
 pub back-stored : (s : Step) (old : List ℕ) {left : List ℕ} → isRefused (s .answer) ≡ false → length old ≡ 75 → length (s .breaker .window .intervals) ≡ 32
     → left ≡ sets old 0 (breakerWords (s .breaker)) → left ≡ leftBy s old
-back-stored s old e n p k = cond-goes _ _ _ _ e (k ∙ sets-whole 75 old (breakerWords (s .breaker)) (length-breaker (s .breaker) p) n)
+back-stored s old e n p k = cond-goes _ _ _ _ e (k ∙ sets-whole old (breakerWords (s .breaker)) (n ∙ sym (length-breaker (s .breaker) p)))
 
 -- ---- a start
 
 abbrev pub Starts : Step → List ℕ → ℕ → List ℕ → Type 0
-Starts s old r left = (r ≡ startAnswer s old) × (left ≡ startLeft s old)
+Starts s old r left = Gives startCode (refusalIn (s .answer)) (breakerWords (s .breaker)) old r left
 
-module _ (s : Step) (old : List ℕ) {r : ℕ} where
-  pub start-refused : isRefused (s .answer) ≡ true → r ≡ answerCode (s .answer) → Starts s old r old
-  unfolding startAnswer startLeft
-  start-refused e h = (cond-ends _ _ _ _ e h, cond-ends _ _ _ _ e refl)
+-- a refused start
+pub start-refused : (a : Answer) (new old : List ℕ) {r : ℕ} → isRefused a ≡ true → r ≡ answerCode a → Gives startCode (refusalIn a) new old r old
+start-refused Go new old e h = absurd (false≢true e)
+start-refused Reduce new old e h = absurd (false≢true e)
+start-refused (Stop reason) new old e h = absurd (false≢true e)
+start-refused (Refused refusal) new old e h = gives startCode (wrote-refused new old refl) h
 
-  pub start-short : isRefused (s .answer) ≡ false → length old < 75 → r ≡ answerCode (Refused Room) → Starts s old r old
-  unfolding startAnswer startLeft
-  start-short e l h =
-      let t = lt-ltb (length old) 75 l in
-      (cond-goes _ _ _ _ e (cond-ends _ _ _ _ t h), cond-goes _ _ _ _ e (cond-ends _ _ _ _ t refl))
-
-  pub start-stored : {left : List ℕ} → isRefused (s .answer) ≡ false → 75 ≤ length old → length (s .breaker .window .intervals) ≡ 32
-      → r ≡ answerCode (s .answer) → left ≡ sets old 0 (breakerWords (s .breaker)) → Starts s old r left
-  unfolding startAnswer startLeft
-  start-stored e l p h k =
-      let t = le-ltb (length old) 75 l in
-      let first = sets-first 75 old (breakerWords (s .breaker)) (length-breaker (s .breaker) p) l in
-      (cond-goes _ _ _ _ e (cond-goes _ _ _ _ t h), cond-goes _ _ _ _ e (cond-goes _ _ _ _ t (k ∙ first)))
+-- and any other
+pub no-refusal : (a : Answer) → isRefused a ≡ false → refusalIn a ≡ none
+no-refusal Go e = refl
+no-refusal Reduce e = refl
+no-refusal (Stop reason) e = refl
+no-refusal (Refused refusal) e = absurd (false≢true (sym e))
 
 -- what is proved of one start holds of one that is equal
 pub start-is : {s s′ : Step} (old : List ℕ) {r : ℕ} {left : List ℕ} → s ≡ s′ → Starts s old r left → Starts s′ old r left
-start-is old {r} {left} e h = subst⁻¹ (λ (x : Step). Starts x old r left) (sym e) h
+start-is old {r} {left} e h = subst (λ (x : Step). Starts x old r left) e h

@@ -2,12 +2,16 @@
 use mathlib.Core.Path.{_≡_}
 use Prim.Native.Nat.{ℕ, _+_}
 use mathlib.Core.Bool.{Bool, true, false, _&&_, not, cond}
-use mathlib.Core.List.{List, _++_}
-use lib.Dec.{leb, ltb, eqb}
-use lib.ListN.{length, drop}
-use Rattle.words.specs.declared.Refusal.the-variants.{Malformed, Room}
-use Rattle.words.specs.Conditions.{all}
-use Rattle.words.specs.Refusals.{numberOf}
+use mathlib.Core.List.{List}
+use mathlib.Core.Option.{Option, none, some}
+use lib.Dec.{leb, eqb}
+use lib.ListN.{length}
+use Rattle.answers.specs.declared.Refusal.{Refusal}
+use Rattle.answers.specs.declared.Refusal.the-variants.{Malformed}
+use Rattle.answers.specs.declared.Written.{Written}
+use Rattle.answers.specs.declared.Written.the-variants as writer
+use Rattle.answers.specs.Conditions.{all}
+use Rattle.answers.specs.Refusals.{numberOf}
 use Rattle.breaker.specs.declared.Breaker.{Breaker}
 use Rattle.breaker.specs.declared.Answer.{Answer}
 use Rattle.breaker.specs.declared.Answer.the-variants.{Go, Reduce, Stop, Refused}
@@ -29,6 +33,12 @@ isRefused Go = false
 isRefused Reduce = false
 isRefused (Stop reason) = false
 isRefused (Refused refusal) = true
+
+abbrev pub refusalIn : Answer → Option Refusal
+refusalIn Go = none
+refusalIn Reduce = none
+refusalIn (Stop reason) = none
+refusalIn (Refused refusal) = some refusal
 
 -- ---- a report and a tick: `call` is what they do to a record
 
@@ -66,19 +76,10 @@ starts k m timeout reduce time =
     cond (not (leb reduce 1)) unstarted
     (startOf (record { k = k; m = m; timeout = timeout; reduce = eqb reduce 1 }) time)
 
--- its refusal, then 12 where there are fewer than 75 words, else its answer, Go
-unfoldable pub startAnswer : Step → List ℕ → ℕ
-startAnswer s old =
-    cond (isRefused (s .answer)) (answerCode (s .answer))
-    (cond (ltb (length old) 75) (answerCode (Refused Room))
-    (answerCode (s .answer)))
-
--- a refused start leaves the words as they were; any other puts the record at the front
-unfoldable pub startLeft : Step → List ℕ → List ℕ
-startLeft s old =
-    cond (isRefused (s .answer)) old
-    (cond (ltb (length old) 75) old
-    (breakerWords (s .breaker) ++ drop 75 old))
+-- Go, or the refusal
+abbrev pub startCode : Written → ℕ
+startCode (writer.Length n) = answerCode Go
+startCode (writer.Refused refusal) = answerCode (Refused refusal)
 
 -- ---- what follows
 

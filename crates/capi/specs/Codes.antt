@@ -1,9 +1,14 @@
 -- The answers of include/flasknib.h as numbers: a refusal is its number in document 01's table, negative where a length could stand.
+use mathlib.Core.Path.{_≡_}
 use Prim.Native.Nat.{ℕ}
+use mathlib.Core.List.{List}
+use mathlib.Core.Option.{Option}
 use lib.IntN.{ℤ, pos, negℤ}
-use Rattle.words.specs.declared.Written.{Written}
-use Rattle.words.specs.declared.Written.the-variants.{Length, Refused}
-use Rattle.words.specs.Refusals.{numberOf}
+use Rattle.answers.specs.declared.Refusal.{Refusal}
+use Rattle.answers.specs.declared.Written.{Written}
+use Rattle.answers.specs.declared.Written.the-variants.{Length, Refused}
+use Rattle.answers.specs.Refusals.{numberOf}
+use Rattle.answers.specs.Writers.{written, stored}
 
 -- a writer's length, or minus its refusal
 abbrev pub lengthCode : Written → ℤ
@@ -15,7 +20,8 @@ abbrev pub refusalCode : Written → ℕ
 refusalCode (Length n) = 0
 refusalCode (Refused refusal) = numberOf refusal
 
--- the bytes that a writer wrote
-abbrev pub lengthIn : Written → ℕ
-lengthIn (Length n) = n
-lengthIn (Refused refusal) = 0
+-- what a function answers, and leaves in the lent output `old`, that puts the bytes or words `new` at its front; `fault` is the refusal of its
+-- values, if there is one
+pub record Gives {A : Type 0} (code : Written → A) (fault : Option Refusal) (new old : List ℕ) (r : A) (out : List ℕ) : Type 0 where
+  pub answers : r ≡ code (written fault new old)
+  pub stores : out ≡ stored fault new old

@@ -1,5 +1,5 @@
 pub mod Codes
-pub mod Counting
+pub mod Sources
 pub mod Blocks
 pub mod CompoundCalls
 pub mod BreakerCalls

@@ -1,7 +1,10 @@
 // The circuit breaker for C. A record is lent as 75 words; what a call answers is one number.
 ghost use mathlib.Core.Path.{_≡_};
 ghost use lib.ListN.{length};
-ghost use Rattle.capi.specs.BreakerCalls.{answerCode, isRefused, recordIn, leftBy, callAnswer, callLeft, reports, ticks, starts, startAnswer, startLeft};
+ghost use Rattle.lent.specs.BreakerWords.{breakerWords};
+ghost use Rattle.capi.specs.Codes.{Gives};
+ghost use Rattle.capi.specs.BreakerCalls.{answerCode, isRefused, refusalIn, recordIn, leftBy, callAnswer, callLeft, reports, ticks, starts, startCode};
+use answers::Refusal;
 use breaker::Answer;
 use breaker::Breaker;
 use breaker::Report;
@@ -9,7 +12,6 @@ use breaker::Settings;
 use breaker::Step;
 use lent::breaker_words;
 use lent::breaker_words::Loaded;
-use words::Refusal;
 
 // What a call answers, added to the reason or the refusal.
 const STOP: u16 = 256;
@@ -67,10 +69,9 @@ fn put_back(step: Step, words: &mut [u64]) -> u16
     code(answer)
 }
 
-// Stores a started record at the front of the words, if there are enough, and gives the answer's number.
+// Stores the record of a start at the front of the words, if there are enough, and gives the number of Go or of the refusal.
 fn put_front(step: Step, words: &mut [u64]) -> u16
-    ensures answers { λ r. ⌜ r ≡ startAnswer step (now (words .entry)) ⌝ }
-    ensures stores { λ _. ⌜ now (words .exit) ≡ startLeft step (now (words .entry)) ⌝ }
+    ensures { λ r. ⌜ Gives startCode (refusalIn (step .answer)) (breakerWords (step .breaker)) (now (words .entry)) r (now (words .exit)) ⌝ }
 {
     let answer = step.answer;
     let next = step.breaker;
@@ -81,7 +82,7 @@ fn put_front(step: Step, words: &mut [u64]) -> u16
         return code(Answer::Refused(Refusal::Room));
     }
     breaker_words::store(next, words);
-    code(answer)
+    code(Answer::Go)
 }
 
 // Starts a breaker: Go and the record at the front of `breaker`, or refusal 10, or 12 where there are fewer than 75 words.
@@ -94,8 +95,7 @@ pub extern "C" fn flasknib_breaker_start(
     time: u64,
     breaker: &mut [u64],
 ) -> u16
-    ensures answers { λ r. ⌜ r ≡ startAnswer (starts k m timeout reduce time) (now (breaker .entry)) ⌝ }
-    ensures stores { λ _. ⌜ now (breaker .exit) ≡ startLeft (starts k m timeout reduce time) (now (breaker .entry)) ⌝ }
+    ensures { λ r. ⌜ Gives startCode (refusalIn (starts k m timeout reduce time .answer)) (breakerWords (starts k m timeout reduce time .breaker)) (now (breaker .entry)) r (now (breaker .exit)) ⌝ }
 {
     if 1 < reduce {
         return code(Answer::Refused(Refusal::Limits));

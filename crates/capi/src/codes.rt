@@ -1,11 +1,12 @@
 // Answers as numbers.
-use words::Refusal;
-use words::Written;
+use answers::Refusal;
+use answers::Written;
 ghost use mathlib.Core.Path.{_≡_};
 ghost use Prim.Native.Nat.{_^_, _<_};
 ghost use lib.IntN.{pos, negℤ};
-ghost use Rattle.words.specs.Refusals.{numberOf};
-ghost use Rattle.capi.specs.Codes.{lengthIn, lengthCode};
+ghost use Rattle.answers.specs.Refusals.{numberOf};
+ghost use Rattle.answers.specs.Writers.{lengthIn};
+ghost use Rattle.capi.specs.Codes.{lengthCode};
 
 // Minus the refusal's number.
 pub fn minus(refusal: Refusal) -> i64

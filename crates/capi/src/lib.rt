@@ -4,5 +4,5 @@ pub mod blocks;
 pub mod circuit;
 mod codes;
 pub mod compound;
-pub mod counting;
 pub mod rows;
+pub mod sources;

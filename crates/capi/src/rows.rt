@@ -1,23 +1,20 @@
 // The table's head line and rows.
 use crate::codes;
+use answers::Refusal;
 use lent::source_words::WORDS;
 use lent::source_words::load;
+use source::Totals;
 use table::write_head;
 use table::write_row;
-use words::Refusal;
-ghost use mathlib.Core.Path.{_≡_};
 ghost use mathlib.Core.Option.{none};
-ghost use Rattle.words.specs.Writers.{written, stored};
 ghost use Rattle.table.specs.Lines.{headBytes, rowFault, rowBytes};
-ghost use Rattle.lent.specs.SourceWords.{sourceOf};
-ghost use Rattle.capi.specs.Codes.{lengthCode};
-ghost use Rattle.capi.specs.Counting.{recordFault};
+ghost use Rattle.capi.specs.Codes.{lengthCode, Gives};
+ghost use Rattle.capi.specs.Sources.{recordFault, totalsOf};
 
 // Writes the table's head line. Gives its length, or minus refusal 12.
 #[no_mangle]
 pub extern "C" fn flasknib_write_head(out: &mut [u8]) -> i64
-    ensures { λ r. ⌜ r ≡ lengthCode (written none headBytes (now (out .entry))) ⌝ }
-    ensures { λ _. ⌜ now (out .exit) ≡ stored none headBytes (now (out .entry)) ⌝ }
+    ensures { λ r. ⌜ Gives lengthCode none headBytes (now (out .entry)) r (now (out .exit)) ⌝ }
 {
     codes::length(write_head(out))
 }
@@ -31,11 +28,11 @@ pub extern "C" fn flasknib_write_row(
     jumped: u64,
     out: &mut [u8],
 ) -> i64
-    ensures { λ r. ⌜ r ≡ lengthCode (written (recordFault (now (words .entry)) (rowFault (now (label .entry)) (sourceOf (now (words .entry))) jumped)) (rowBytes (now (label .entry)) ssrc (sourceOf (now (words .entry))) jumped) (now (out .entry))) ⌝ }
-    ensures { λ _. ⌜ now (out .exit) ≡ stored (recordFault (now (words .entry)) (rowFault (now (label .entry)) (sourceOf (now (words .entry))) jumped)) (rowBytes (now (label .entry)) ssrc (sourceOf (now (words .entry))) jumped) (now (out .entry)) ⌝ }
+    ensures { λ r. ⌜ Gives lengthCode (recordFault (now (words .entry)) (rowFault (now (label .entry)) (totalsOf (now (words .entry)) jumped))) (rowBytes (now (label .entry)) ssrc (totalsOf (now (words .entry)) jumped)) (now (out .entry)) r (now (out .exit)) ⌝ }
 {
     if words.len() != WORDS {
         return codes::minus(Refusal::Malformed);
     }
-    codes::length(write_row(label, ssrc, load(words), jumped, out))
+    let source = load(words);
+    codes::length(write_row(label, ssrc, Totals { source, jumped }, out))
 }

@@ -1,102 +1,140 @@
--- A sound run stays sound. Assumes nothing.
-use mathlib.Core.Path.{_≡_, refl, sym}
-use mathlib.Core.Bool.{true, and-true}
+-- A run that a block gives is sound. Assumes nothing.
+use mathlib.Core.Path.{_≡_, refl, sym, ap, _∙_, subst}
+use mathlib.Core.Bool.{Bool, true, false, cond, and-true}
 use mathlib.Core.List.{List, [], _∷_}
 use mathlib.Core.Option.{none}
-use Prim.Native.Nat.{ℕ, zero, suc, _+_, _-_, _*_, _^_, _≤_, _<_}
+use Prim.Native.Nat.{ℕ, _+_, _*_, _≤_}
 use native.Mathlib.Omega.{arith}
 use borrow.Author.Tests.{eqb-true, leb-true, le-leb, eq-eqb}
-use lib.Dec.{leb}
+use lib.Dec.{eqb, leb}
 use lib.ListN.{length, take, drop}
-use Rattle.words.proofs.BigEndian.{Octets, word-lt}
-use Rattle.words.proofs.Conditions.{all-true}
-use Rattle.source.specs.declared.Source.{Source}
-use Rattle.source.specs.declared.BlockCount.the-variants.{Counted}
+use Rattle.answers.specs.Conditions.{all}
+use Rattle.answers.specs.declared.Refusal.the-variants.{Contents}
+use Rattle.answers.proofs.Conditions.{all-true}
+use Rattle.numbers.proofs.BigEndian.{Octets}
+use Rattle.format.specs.Blocks.{blockBytes, bodyAt, bodyBytes}
+use Rattle.format.specs.Forms.{shapeOf, width, kindOf}
+use Rattle.format.specs.declared.Form.{Form}
+use Rattle.format.specs.declared.Kind.the-variants as kind
+use Rattle.format.proofs.Fits.{kind-label}
+use Rattle.numbers.specs.BigEndian.{word}
+use Rattle.source.specs.declared.BlockCount.{BlockCount}
+use Rattle.source.specs.declared.BlockCount.the-variants.{Counted, Refused}
+use Rattle.source.specs.declared.Totals.{Totals}
 use Rattle.source.specs.Record.{sound}
-use Rattle.source.specs.Arrivals.{arrival, after as afterArrival}
-use Rattle.source.specs.Blocks.{Packet, packets, jump, counting}
-use Rattle.source.proofs.Kept.{sound-stays}
-use Rattle.trace.specs.Layout.{Form, width}
+use Rattle.source.specs.Blocks.{blockCount}
+use Rattle.source.specs.Totals.{mostJumped, freshTotals, withBlock}
+use Rattle.source.proofs.Totalled.{SoundTotals, fresh-totals, next-sound}
 use Rattle.trace.specs.Contents.{labelOk}
+use Rattle.trace.specs.Reading.{blockOf}
+use Rattle.trace.specs.declared.Block.{Block}
+use Rattle.trace.specs.declared.Block.the-variants as read
 use Rattle.trace.proofs.Octets.{octets-take, octets-drop}
+use Rattle.trace.proofs.Accepted.{accepted}
 use Rattle.table.specs.Lines.{rowFault}
 use Rattle.table.proofs.Faults.{fault-none}
 use Rattle.convert.specs.declared.Run.{Run}
-use Rattle.convert.specs.Runs.{labelOf, runConditions, soundRun, arrived}
+use Rattle.convert.specs.declared.Begin.the-variants as begin
+use Rattle.convert.specs.Runs.{labelOf, startBy, startOf, arrived, goes, refuses, nextBy, nextOf, isLabel, ownLabel, soundTotals, runConditions, soundRun}
 
 -- ---- what is known of a sound run
 
-pub record Good (run : Run) (first : List ℕ) : Type 0 where
-  pub whole : length first ≡ 512
-  pub short : run .length ≤ 502
-  pub label : labelOk (labelOf run first) ≡ true
-  pub source : sound (run .source) ≡ true
-  pub jumped : run .jumped ≤ 2 ^ 48
+pub record Good (run : Run) (zeroth : List ℕ) : Type 0 where
+  pub own : all (ownLabel run zeroth) ≡ true
+  pub short : run .length ≤ bodyBytes
+  pub label : labelOk (labelOf run zeroth) ≡ true
+  pub totals : SoundTotals (run .totals)
 
-module _ (run : Run) (first : List ℕ) where
-  pub good : soundRun run first ≡ true → Good run first
+module _ {run : Run} {zeroth : List ℕ} where
+  pub good : soundRun run zeroth ≡ true → Good run zeroth
   unfolding soundRun
-  good e = record {
-    whole = eqb-true (length first) 512 (all-true (runConditions run first) 0 e);
-    short = leb-true (run .length) 502 (all-true (runConditions run first) 1 e);
-    label = all-true (runConditions run first) 2 e;
-    source = all-true (runConditions run first) 3 e;
-    jumped = leb-true (run .jumped) (2 ^ 48) (all-true (runConditions run first) 4 e);
-  }
+  good e =
+      let totals = all-true (runConditions run zeroth) 3 e in
+      record {
+        own = all-true (runConditions run zeroth) 0 e;
+        short = leb-true (run .length) bodyBytes (all-true (runConditions run zeroth) 1 e);
+        label = all-true (runConditions run zeroth) 2 e;
+        totals = record {
+          good = all-true (soundTotals (run .totals)) 0 totals;
+          few = leb-true (run .totals .jumped) mostJumped (all-true (soundTotals (run .totals)) 1 totals);
+        };
+      }
 
-  pub sound-good : Good run first → soundRun run first ≡ true
+  pub sound-good : Good run zeroth → soundRun run zeroth ≡ true
   unfolding soundRun
-  sound-good g = rw (eq-eqb (length first) 512 (g .whole), le-leb (run .length) 502 (g .short), g .label, g .source, le-leb (run .jumped) (2 ^ 48) (g .jumped))
+  sound-good g = rw (g .own, le-leb (run .length) bodyBytes (g .short), g .label, g .totals .good, le-leb (run .totals .jumped) mostJumped (g .totals .few))
 
-  -- the last condition decides
-  pub sound-last : length first ≡ 512 → run .length ≤ 502 → labelOk (labelOf run first) ≡ true → sound (run .source) ≡ true
-      → leb (run .jumped) (2 ^ 48) ≡ soundRun run first
-  unfolding soundRun
-  sound-last h l t g = rw (eq-eqb (length first) 512 h, le-leb (run .length) 502 l, t, g) (sym (and-true (leb (run .jumped) (2 ^ 48))))
+  pub whole : Good run zeroth → length zeroth ≡ blockBytes
+  whole g = eqb-true (length zeroth) blockBytes (all-true (ownLabel run zeroth) 0 (g .own))
 
   -- its row is not refused
-  pub row-fits : Good run first → rowFault (labelOf run first) (run .source) (run .jumped) ≡ none
-  row-fits g = fault-none (labelOf run first) (run .source) (run .jumped) (g .source) (g .label) (g .jumped)
+  pub row-fits : Good run zeroth → rowFault (labelOf run zeroth) (run .totals) ≡ none
+  row-fits g = fault-none (labelOf run zeroth) (run .totals) (g .totals .good) (g .label) (g .totals .few)
 
--- ---- the packets of a block
+-- ---- the last condition decides
 
--- each has a wire number of 16 bits
-Wires : List Packet → Type 0
-Wires [] = Unit {0}
-Wires (p ∷ ps) = (p .wire .0 < 65536) × Wires ps
+module _ (run : Run) (zeroth : List ℕ) where
+  pub own-last : length zeroth ≡ blockBytes → isLabel (kindOf (word 2 zeroth 0)) ≡ true → word 2 zeroth 2 ≡ run .length
+      → eqb (word 4 zeroth 4) (run .ssrc) ≡ all (ownLabel run zeroth)
+  own-last h k n = rw (eq-eqb (length zeroth) blockBytes h, k, eq-eqb (word 2 zeroth 2) (run .length) n) (sym (and-true (eqb (word 4 zeroth 4) (run .ssrc))))
 
-packets-wires : (w n : ℕ) (s : List ℕ) → Octets s → Wires (packets w n s)
-unfolding packets Wires
-packets-wires w zero s o = tt
-packets-wires w (suc n) s o = (word-lt s (w - 4) 2 o, packets-wires w n (drop w s) (octets-drop w s o))
+  pub sound-last : all (ownLabel run zeroth) ≡ true → run .length ≤ bodyBytes → labelOk (labelOf run zeroth) ≡ true
+      → all (soundTotals (run .totals)) ≡ soundRun run zeroth
+  unfolding soundRun
+  sound-last o l t = rw (o, le-leb (run .length) bodyBytes l, t) (sym (and-true (all (soundTotals (run .totals)))))
 
--- counting them gives a sound record
-record Tally (ps : List Packet) (s : Source) (jumps : ℕ) : Type 0 where
-  pub state : Source
-  pub more : ℕ
-  pub is : counting ps s jumps ≡ Counted state more
-  pub sound-state : sound state ≡ true
-
-tally : (ps : List Packet) (s : Source) (jumps : ℕ) → Wires ps → sound s ≡ true → Tally ps s jumps
-unfolding counting Wires
-tally [] s jumps w e = record { state = s; more = jumps; is = refl; sound-state = e }
-tally (p ∷ ps) s jumps w e =
-    let rest = tally ps (afterArrival (arrival s (p .wire) (p .mark))) (jumps + jump (arrival s (p .wire) (p .mark))) (w .1) (sound-stays s (p .wire) (p .mark) (w .0) e) in
-    record { state = rest .state; more = rest .more; is = rest .is; sound-state = rest .sound-state }
+pub totals-last : (t : Totals) → sound (t .source) ≡ true → leb (t .jumped) mostJumped ≡ all (soundTotals t)
+totals-last t e = rw e (sym (and-true (leb (t .jumped) mostJumped)))
 
 -- ---- the run after a block
 
-module _ (f : Form) (run : Run) (first : List ℕ) (n : ℕ) (b : List ℕ) (o : Octets b) where
-  pub arrived-good : Good run first → Good (arrived f run n b) first
-  unfolding arrived
-  arrived-good g =
-      let ps = packets (width f) n (take (n * width f) (drop 8 b)) in
-      let wires = packets-wires (width f) n (take (n * width f) (drop 8 b)) (octets-take (n * width f) (drop 8 b) (octets-drop 8 b o)) in
-      let t = tally ps (run .source) 0 wires (g .source) in
-      rw (t .is) (record {
-        whole = g .whole;
-        short = g .short;
-        label = g .label;
-        source = t .sound-state;
-        jumped = omega arith;
-      })
+block-totals : (t : Totals) (w : ℕ) (bytes : List ℕ) → Octets bytes → SoundTotals t → SoundTotals (withBlock t (blockCount (t .source) w bytes))
+block-totals t w bytes o g = go (blockCount (t .source) w bytes) refl
+  where
+    go : (c : BlockCount) → blockCount (t .source) w bytes ≡ c → SoundTotals (withBlock t c)
+    go (Counted next jumps) e = record { good = next-sound (t .source) w bytes e o; few = omega arith }
+    go (Refused refusal same) e = g
+
+pub arrived-good : (run : Run) (zeroth : List ℕ) (form : Form) (n : ℕ) (b : List ℕ) → Octets b → Good run zeroth → Good (arrived run form n b) zeroth
+unfolding arrived
+arrived-good run zeroth form n b o g = record {
+  own = g .own;
+  short = g .short;
+  label = g .label;
+  totals = block-totals (run .totals) (width (shapeOf form)) (take (n * width (shapeOf form)) (drop bodyAt b)) (octets-take (n * width (shapeOf form)) (drop bodyAt b) (octets-drop bodyAt b o)) (g .totals);
+}
+
+pub next-good : (run : Run) (zeroth b : List ℕ) (next : Run) → Octets b → Good run zeroth → nextOf run b ≡ goes next → Good next zeroth
+unfolding nextOf
+next-good run zeroth b next o g e = go (blockOf b) e
+  where
+    chosen : (t : Bool) (form : Form) (n : ℕ) → cond t (goes (arrived run form n b)) (refuses Contents) ≡ goes next → Good next zeroth
+    chosen true form n e = let same : arrived run form n b ≡ next = cc in subst (λ (r : Run). Good r zeroth) same (arrived-good run zeroth form n b o g)
+    chosen false form n e = let z : _≡_ {A = ℕ} 0 1 = cc in absurd (omega arith)
+
+    go : (r : Block) → nextBy run b r ≡ goes next → Good next zeroth
+    go (read.Label form n ssrc) e = let z : _≡_ {A = ℕ} 0 1 = cc in absurd (omega arith)
+    go (read.Arrivals form n ssrc) e = chosen (eqb ssrc (run .ssrc)) form n e
+    go (read.Refused refusal) e = let z : _≡_ {A = ℕ} 0 1 = cc in absurd (omega arith)
+
+-- ---- the run that block 0 starts
+
+pub start-good : (zeroth : List ℕ) (run : Run) → startOf zeroth ≡ begin.Started run → Good run zeroth
+unfolding startOf
+start-good zeroth run e = go (blockOf zeroth) refl e
+  where
+    go : (r : Block) → blockOf zeroth ≡ r → startBy r ≡ begin.Started run → Good run zeroth
+    go (read.Label form n ssrc) q e =
+        let a = accepted zeroth q in
+        let b = a .block in
+        let same : _≡_ {A = Run} (record { length = n; ssrc = ssrc; totals = freshTotals }) run = cc in
+        let told : kindOf (word 2 zeroth 0) ≡ kind.Label form = ap kindOf (b .its-kind) ∙ kind-label form in
+        subst (λ (r : Run). Good r zeroth) same
+        (record {
+          own = rw (eq-eqb (length zeroth) blockBytes (b .whole), told, eq-eqb (word 2 zeroth 2) n (b .its-count), eq-eqb (word 4 zeroth 4) ssrc (b .its-ssrc));
+          short = b .room;
+          label = ap labelOk (sym (b .place)) ∙ a .label;
+          totals = fresh-totals;
+        })
+    go (read.Arrivals form n ssrc) q e = let z : _≡_ {A = ℕ} 0 1 = cc in absurd (omega arith)
+    go (read.Refused refusal) q e = let z : _≡_ {A = ℕ} 0 1 = cc in absurd (omega arith)

@@ -1,6 +1,4 @@
--- The laws that the functions' proofs share, and those that other crates cite.
-pub mod Accepted
+-- The laws of a run, and the proof of its theorem.
 pub mod Kept
 pub mod Steps
 pub mod Whole
-pub mod Rooms

@@ -1,18 +1,22 @@
 -- What a block does to a run, case by case. Assumes nothing.
-use mathlib.Core.Path.{_≡_, refl, ap, _∙_}
+use mathlib.Core.Path.{_≡_, refl, sym, ap, _∙_}
 use mathlib.Core.Bool.{true, false}
 use mathlib.Core.Logic.{⊎-elim}
 use mathlib.Core.List.{List, [], _∷_}
 use mathlib.Core.Option.{none}
-use Prim.Native.Nat.{ℕ}
+use Prim.Native.Nat.{ℕ, _≤_}
 use native.Mathlib.Omega.{arith}
 use borrow.Author.Tests.{eq-eqb, ne-eqb}
 use denote.Enum.Declared.{tagOf}
+use lib.ListN.{length}
 use types.Run.{OneOf}
-use Rattle.words.specs.Writers.{written, stored}
-use Rattle.words.specs.declared.Refusal.{Refusal}
-use Rattle.words.specs.declared.Refusal.the-variants.{Malformed, Contents}
-use Rattle.trace.specs.Layout.{Form}
+use Rattle.answers.specs.Writers.{written, stored, Wrote}
+use Rattle.answers.specs.declared.Refusal.{Refusal}
+use Rattle.answers.specs.declared.Refusal.the-variants.{Malformed, Contents}
+use Rattle.answers.specs.declared.Written.{Written}
+use Rattle.answers.specs.declared.Written.the-variants as answer
+use Rattle.answers.proofs.Stores.{wrote-fits}
+use Rattle.format.specs.declared.Form.{Form}
 use Rattle.trace.specs.Reading.{blockOf}
 use Rattle.trace.specs.declared.Block.{Block}
 use Rattle.trace.specs.declared.Block.the-variants as read
@@ -21,61 +25,78 @@ use Rattle.convert.specs.declared.Run.{Run}
 use Rattle.convert.specs.declared.Begin.the-variants as begin
 use Rattle.convert.specs.declared.Step.{Step}
 use Rattle.convert.specs.declared.Step.the-variants as step
-use Rattle.convert.specs.Runs.{rowOf, soundRun, faultOf, startBy, startOf, arrived, goes, refuses, nextBy, nextOf, stepWith, stepOf, storedOf}
+use Rattle.convert.specs.Runs.{rowOf, soundRun, faultOf, startBy, startOf, arrived, Next, goes, refuses, nextBy, nextOf, callNext, faultIn, rowIn, takenBy, stepBy, Stepped}
+
+-- a block that was read is of the wrong kind
+pub fault-other : (r : Block) → OneOf (0 ∷ 1 ∷ []) (tagOf the-type r) → Contents ≡ faultOf r
+fault-other (read.Label form n ssrc) h = refl
+fault-other (read.Arrivals form n ssrc) h = refl
+fault-other (read.Refused refusal) h = ⊎-elim (λ z. absurd (omega arith)) (λ z. absurd (omega arith)) h
 
 -- ---- block 0
 
-module _ (f : Form) (b : List ℕ) where
-  pub start-other : (r : Block) → blockOf f b ≡ r → OneOf (1 ∷ 2 ∷ []) (tagOf the-type r) → startOf f b ≡ begin.Refused (faultOf r)
+module _ (b : List ℕ) where
+  pub start-other : (r : Block) → blockOf b ≡ r → OneOf (1 ∷ 2 ∷ []) (tagOf the-type r) → startOf b ≡ begin.Refused (faultOf r)
   unfolding startOf
   start-other r e h = ap startBy e ∙ go r h
     where
       go : (r : Block) → OneOf (1 ∷ 2 ∷ []) (tagOf the-type r) → startBy r ≡ begin.Refused (faultOf r)
-      go (read.Label n ssrc) h = ⊎-elim (λ z. absurd (omega arith)) (λ z. absurd (omega arith)) h
-      go (read.Arrivals n ssrc) h = refl
+      go (read.Label form n ssrc) h = ⊎-elim (λ z. absurd (omega arith)) (λ z. absurd (omega arith)) h
+      go (read.Arrivals form n ssrc) h = refl
       go (read.Refused refusal) h = refl
 
-  pub start-label : {n ssrc : ℕ} → blockOf f b ≡ read.Label n ssrc → startOf f b ≡ startBy (read.Label n ssrc)
+  pub start-label : {form : Form} {n ssrc : ℕ} → blockOf b ≡ read.Label form n ssrc → startOf b ≡ startBy (read.Label form n ssrc)
   unfolding startOf
   start-label e = ap startBy e
 
 -- ---- a later block
 
-module _ (f : Form) (run : Run) (b : List ℕ) where
-  pub next-other : (r : Block) → blockOf f b ≡ r → OneOf (0 ∷ 2 ∷ []) (tagOf the-type r) → nextOf f run b ≡ refuses (faultOf r)
-  unfolding nextOf
-  next-other r e h = ap (nextBy f run b) e ∙ go r h
+module _ (run : Run) (zeroth b : List ℕ) where
+  pub call-malformed : soundRun run zeroth ≡ false → callNext run zeroth b ≡ refuses Malformed
+  unfolding callNext
+  call-malformed e = rw e
+
+  module _ (g : soundRun run zeroth ≡ true) where
+    call-by : {r : Block} {next : Next} → blockOf b ≡ r → nextBy run b r ≡ next → callNext run zeroth b ≡ next
+    unfolding callNext nextOf
+    call-by e n = rw (g, e) n
+
+    pub call-other : (r : Block) → blockOf b ≡ r → OneOf (0 ∷ 2 ∷ []) (tagOf the-type r) → callNext run zeroth b ≡ refuses (faultOf r)
+    call-other r e h = call-by e (go r h)
+      where
+        go : (r : Block) → OneOf (0 ∷ 2 ∷ []) (tagOf the-type r) → nextBy run b r ≡ refuses (faultOf r)
+        go (read.Label form n ssrc) h = refl
+        go (read.Arrivals form n ssrc) h = ⊎-elim (λ z. absurd (omega arith)) (λ z. absurd (omega arith)) h
+        go (read.Refused refusal) h = refl
+
+    module _ {form : Form} {n ssrc : ℕ} (e : blockOf b ≡ read.Arrivals form n ssrc) where
+      pub call-source : (ssrc ≡ run .ssrc → ⊥) → callNext run zeroth b ≡ refuses Contents
+      call-source h = call-by e (rw (ne-eqb ssrc (run .ssrc) h))
+
+      pub call-goes : ssrc ≡ run .ssrc → callNext run zeroth b ≡ goes (arrived run form n b)
+      call-goes h = call-by e (rw (eq-eqb ssrc (run .ssrc) h))
+
+-- ---- what the call gives
+
+module _ (run : Run) (zeroth old : List ℕ) where
+  pub step-refuses : {next : Next} {refusal : Refusal} → next ≡ refuses refusal → Stepped run next zeroth old (step.Refused refusal run) old
+  unfolding written stored
+  step-refuses e = record { answers = rw e; stores = rw e }
+
+  pub step-goes : {next : Run} {w : Written} {out : List ℕ} {s : Step} → Wrote none (rowOf next zeroth) old w out → s ≡ stepBy run (goes next) w
+      → Stepped run (goes next) zeroth old s out
+  step-goes {next} w e = record { answers = e ∙ ap (stepBy run (goes next)) (w .answers); stores = w .stores }
+
+  -- a row that was written lies in the output
+  pub step-fits : {next : Next} {after : Run} {n : ℕ} {out : List ℕ} → Stepped run next zeroth old (step.Taken after n) out → n ≤ length old
+  step-fits {next} {after} {n} s = go (written (faultIn next) (rowIn zeroth next) old) refl (s .answers)
     where
-      go : (r : Block) → OneOf (0 ∷ 2 ∷ []) (tagOf the-type r) → nextBy f run b r ≡ refuses (faultOf r)
-      go (read.Label n ssrc) h = refl
-      go (read.Arrivals n ssrc) h = ⊎-elim (λ z. absurd (omega arith)) (λ z. absurd (omega arith)) h
-      go (read.Refused refusal) h = refl
+      by-next : (k : Next) (m : ℕ) → step.Taken after n ≡ takenBy run k m → n ≡ m
+      by-next (goes r) m e = cc
+      by-next (refuses r) m e = let z : _≡_ {A = ℕ} 0 1 = cc in absurd (omega arith)
 
-  pub next-source : {n ssrc : ℕ} → blockOf f b ≡ read.Arrivals n ssrc → (ssrc ≡ run .ssrc → ⊥) → nextOf f run b ≡ refuses Contents
-  unfolding nextOf
-  next-source {n} {ssrc} e h = ap (nextBy f run b) e ∙ rw (ne-eqb ssrc (run .ssrc) h)
-
-  pub next-goes : {n ssrc : ℕ} → blockOf f b ≡ read.Arrivals n ssrc → ssrc ≡ run .ssrc → nextOf f run b ≡ goes (arrived f run n b)
-  unfolding nextOf
-  next-goes {n} {ssrc} e h = ap (nextBy f run b) e ∙ rw (eq-eqb ssrc (run .ssrc) h)
-
-  -- ---- the call
-
-  module _ (first out : List ℕ) where
-    -- `answer` and `after` are what the call gives
-    pub record Stepped (answer : Step) (after : List ℕ) : Type 0 where
-      pub answers : answer ≡ stepOf f run first b out
-      pub stores : after ≡ storedOf f run first b out
-
-    pub step-malformed : soundRun run first ≡ false → Stepped (step.Refused Malformed run) out
-    unfolding stepOf storedOf
-    step-malformed e = record { answers = rw e; stores = rw e }
-
-    pub step-refuses : (refusal : Refusal) → soundRun run first ≡ true → nextOf f run b ≡ refuses refusal → Stepped (step.Refused refusal run) out
-    unfolding stepOf storedOf
-    step-refuses refusal e n = record { answers = rw (e, n); stores = rw (e, n) }
-
-    pub step-goes : (next : Run) {answer : Step} {after : List ℕ} → soundRun run first ≡ true → nextOf f run b ≡ goes next
-        → answer ≡ stepWith run next (written none (rowOf next first) out) → after ≡ stored none (rowOf next first) out → Stepped answer after
-    unfolding stepOf storedOf
-    step-goes next e n a s = record { answers = rw (e, n) a; stores = rw (e, n) s }
+      go : (w : Written) → written (faultIn next) (rowIn zeroth next) old ≡ w → step.Taken after n ≡ stepBy run next w → n ≤ length old
+      go (answer.Length m) q e =
+          let fits = wrote-fits {fault = faultIn next} {new = rowIn zeroth next} {old = old} {answer = answer.Length m} (record { answers = sym q; stores = refl }) in
+          omega (arith, fits, by-next next m e)
+      go (answer.Refused refusal) q e = let z : _≡_ {A = ℕ} 0 1 = cc in absurd (omega arith)

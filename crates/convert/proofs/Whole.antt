@@ -1,71 +1,42 @@
 -- The calls over a trace's blocks give what the whole run prints. Assumes nothing.
-use mathlib.Core.Path.{_≡_, refl, ap, subst}
-use mathlib.Core.Bool.{Bool, true, false, cond}
+use mathlib.Core.Path.{_≡_, refl, sym, ap, _∙_}
 use mathlib.Core.List.{List, [], _∷_, _++_}
 use mathlib.Core.Option.{none}
-use Prim.Native.Nat.{ℕ, suc, _+_, _≤_}
-use native.Mathlib.Omega.{arith}
+use Prim.Native.Nat.{ℕ, zero, suc, _≤_, _<_}
 use borrow.Author.Tests.{le-ltb}
-use lib.Dec.{eqb}
-use lib.ListN.{length, drop}
+use lib.ListN.{length, take, drop, getD}
 use lib.Seq.{take-append-seam}
-use Rattle.words.proofs.BigEndian.{Octets}
-use Rattle.words.specs.Writers.{written, stored}
-use Rattle.words.specs.declared.Refusal.the-variants.{Contents}
-use Rattle.words.specs.declared.Written.the-variants.{Length}
-use Rattle.source.specs.Record.{freshRecord, fresh, sound}
-use Rattle.trace.specs.Layout.{Form}
-use Rattle.trace.specs.Reading.{blockOf}
-use Rattle.trace.specs.declared.Block.{Block}
-use Rattle.trace.specs.declared.Block.the-variants as read
+use Rattle.answers.specs.Writers.{written, stored}
+use Rattle.answers.specs.declared.Written.the-variants.{Length}
+use Rattle.numbers.proofs.BigEndian.{Octets}
+use Rattle.format.specs.Blocks.{blockBytes}
+use Rattle.trace.proofs.Octets.{octets-take, octets-drop}
+use Rattle.answers.specs.Refusals.{numberOf}
+use Rattle.answers.specs.declared.Refusal.{Refusal}
+use Rattle.table.specs.Lines.{headBytes, refusedLine}
+use Rattle.walk.specs.Blocks.{Blocks, cut, blocksOf}
+use Rattle.walk.specs.Programs.{Printed, both, Run as Runs, turned, onward, walk, walked, closed, printedBy}
+use Rattle.walk.proofs.Walks.{closed-goes, closed-ends}
 use Rattle.convert.specs.declared.Run.{Run}
 use Rattle.convert.specs.declared.Begin.{Begin}
 use Rattle.convert.specs.declared.Begin.the-variants as begin
-use Rattle.convert.specs.declared.Step.the-variants as step
-use Rattle.convert.specs.Runs.{rowOf, startBy, startOf, arrived, goes, refuses, nextBy, nextOf}
-use Rattle.convert.specs.Traces.{rowsFrom, linesBy, linesOf}
-use Rattle.convert.specs.Theorems.{calls, callsBy, Enough, ended, refused, taken, EnoughBy, Bytes, CallsGiveLines}
-use Rattle.convert.proofs.Accepted.{read-label, label-most, label-good}
-use Rattle.convert.proofs.Kept.{Good, sound-good, arrived-good}
-use Rattle.convert.proofs.Steps.{step-refuses, step-goes}
+use Rattle.convert.specs.Runs.{rowOf, startOf, Next, goes, refuses, nextOf, callNext}
+use Rattle.convert.specs.Tables.{Kept, toOutput, begun, taken, ecntable, printed}
+use Rattle.convert.specs.Theorems.{calls, callsBy, Enough, ends, refused, taken as has-room, EnoughBy, CallsPrint}
+use Rattle.convert.proofs.Kept.{Good, sound-good, next-good, start-good}
 
--- ---- a run that a block gives is sound
+-- ---- a trace's bytes
 
-next-good : (f : Form) (run : Run) (first b : List ℕ) (next : Run) → Octets b → Good run first → nextOf f run b ≡ goes next → Good next first
-unfolding nextOf
-next-good f run first b next o g e = go (blockOf f b) e
-  where
-    chosen : (t : Bool) (n : ℕ) → cond t (goes (arrived f run n b)) (refuses Contents) ≡ goes next → Good next first
-    chosen true n e = let same : arrived f run n b ≡ next = cc in subst (λ (r : Run). Good r first) same (arrived-good f run first n b o g)
-    chosen false n e = let z : _≡_ {A = ℕ} 0 1 = cc in absurd (omega arith)
+AllOctets : List (List ℕ) → Type 0
+AllOctets [] = Unit {0}
+AllOctets (b ∷ bs) = Octets b × AllOctets bs
 
-    go : (r : Block) → nextBy f run b r ≡ goes next → Good next first
-    go (read.Label n ssrc) e = let z : _≡_ {A = ℕ} 0 1 = cc in absurd (omega arith)
-    go (read.Arrivals n ssrc) e = chosen (eqb ssrc (run .ssrc)) n e
-    go (read.Refused refusal) e = let z : _≡_ {A = ℕ} 0 1 = cc in absurd (omega arith)
-
-fresh-sound : sound freshRecord ≡ true
-unfolding sound fresh
-fresh-sound = refl
-
-start-good : (f : Form) (first : List ℕ) (run : Run) → startOf f first ≡ begin.Started run → Good run first
-unfolding startOf
-start-good f first run e = go (blockOf f first) refl e
-  where
-    go : (r : Block) → blockOf f first ≡ r → startBy r ≡ begin.Started run → Good run first
-    go (read.Label n ssrc) q e =
-        let body = read-label f first q in
-        let same : _≡_ {A = Run} (record { length = n; ssrc = ssrc; source = freshRecord; jumped = 0 }) run = cc in
-        subst (λ (r : Run). Good r first) same
-        (record {
-          whole = body .0;
-          short = label-most first n (body .1);
-          label = label-good first n (body .1) (body .0);
-          source = fresh-sound;
-          jumped = omega arith;
-        })
-    go (read.Arrivals n ssrc) q e = let z : _≡_ {A = ℕ} 0 1 = cc in absurd (omega arith)
-    go (read.Refused refusal) q e = let z : _≡_ {A = ℕ} 0 1 = cc in absurd (omega arith)
+cut-octets : (most : ℕ) (s : List ℕ) → Octets s → AllOctets (cut most s)
+unfolding cut AllOctets
+cut-octets zero s o = tt
+cut-octets (suc most) [] o = tt
+cut-octets (suc most) (c ∷ s) o =
+    (octets-take blockBytes (c ∷ s) o, cut-octets most (drop blockBytes (c ∷ s)) (octets-drop blockBytes (c ∷ s) o))
 
 -- ---- the calls
 
@@ -74,24 +45,83 @@ row-written : (row out : List ℕ) → length row ≤ length out → (written no
 unfolding written stored
 row-written row out h = let t = le-ltb (length out) (length row) h in (rw t, rw t)
 
-module _ (f : Form) (outs : ℕ → List ℕ) (first : List ℕ) where
-  calls-rows : (i : ℕ) (bs : List (List ℕ)) (run : Run) → Bytes bs → Good run first → Enough f outs first i bs run
-      → calls f outs first i bs run ≡ rowsFrom f first i bs run
-  unfolding calls rowsFrom
-  calls-rows i [] run o g ended = refl
-  calls-rows i (b ∷ bs) run o g (refused refusal n) =
-      let s = step-refuses f run b first (outs i) refusal (sound-good run first g) n in
-      rw (← s .answers, n)
-  calls-rows i (b ∷ bs) run o g (taken next n room more) =
-      let s = step-goes f run b first (outs i) next (sound-good run first g) n refl refl in
-      let w = row-written (rowOf next first) (outs i) room in
-      rw (← s .answers, ← s .stores, n, w .0, w .1, take-append-seam (rowOf next first) (drop (length (rowOf next first)) (outs i)))
-      (ap (λ (l : List ℕ). rowOf next first ++ l) (calls-rows (suc i) bs next (o .1) (next-good f run first b next (o .0) g n) more))
+abbrev kept : Run → List ℕ → Kept
+kept run zeroth = record { run = run; zeroth = zeroth }
 
-pub calls-give-lines : CallsGiveLines
-unfolding linesOf
-calls-give-lines f outs first bs o enough = go (startOf f first) refl enough
+-- what is printed from block i on
+abbrev rest : ℕ → List (List ℕ) → Run → List ℕ → Printed
+rest i bs run zeroth = closed ecntable (walk ecntable i bs (kept run zeroth))
+
+-- a block that is refused ends the run, and one that is not is followed by the rest
+module _ (zeroth : List ℕ) (i : ℕ) (b : List ℕ) (bs : List (List ℕ)) (run : Run) where
+  more : Kept → Runs Kept
+  more = walk ecntable (suc i) bs
+
+  by-next : {next : Next} → nextOf run b ≡ next → rest i (b ∷ bs) run zeroth ≡ closed ecntable (onward (turned i (taken (kept run zeroth) next)) more)
+  unfolding walk more
+  by-next e = ap (λ (n : Next). closed ecntable (onward (turned i (taken (kept run zeroth) n)) (walk ecntable (suc i) bs))) e
+
+  rest-ends : {refusal : Refusal} → nextOf run b ≡ refuses refusal → rest i (b ∷ bs) run zeroth ≡ toOutput (refusedLine (numberOf refusal) i)
+  unfolding closed
+  rest-ends {refusal} e =
+      by-next e ∙ closed-ends ecntable (turned i (taken (kept run zeroth) (refuses refusal))) more (record { refusal = refusal; block = i }) refl
+
+  rest-goes : {next : Run} → nextOf run b ≡ goes next → rest i (b ∷ bs) run zeroth ≡ both (toOutput (rowOf next zeroth)) (rest (suc i) bs next zeroth)
+  unfolding more
+  rest-goes {next} e = by-next e ∙ closed-goes ecntable (turned i (taken (kept run zeroth) (goes next))) more refl
+
+  -- and so it is with the calls
+  module _ (outs : ℕ → List ℕ) where
+    calls-end : {refusal : Refusal} → callNext run zeroth b ≡ refuses refusal → calls outs zeroth i (b ∷ bs) run ≡ refusedLine (numberOf refusal) i
+    unfolding calls written
+    calls-end e = rw e
+
+    calls-go : {next : Run} → callNext run zeroth b ≡ goes next → length (rowOf next zeroth) ≤ length (outs i)
+        → calls outs zeroth i (b ∷ bs) run ≡ rowOf next zeroth ++ calls outs zeroth (suc i) bs next
+    unfolding calls
+    calls-go {next} e room =
+        let w = row-written (rowOf next zeroth) (outs i) room in
+        rw (e, w .0, w .1, take-append-seam (rowOf next zeroth) (drop (length (rowOf next zeroth)) (outs i)))
+
+-- where a run is sound, the call does what the definition says
+call-next : (run : Run) (zeroth b : List ℕ) → Good run zeroth → callNext run zeroth b ≡ nextOf run b
+unfolding callNext
+call-next run zeroth b g = rw (sound-good g)
+
+-- `bytes` is all that is printed
+abbrev Prints : List ℕ → Printed → Type 0
+Prints bytes p = (bytes ≡ p .out) × (p .err ≡ [])
+
+prints-both : (front : List ℕ) {back : List ℕ} {p q : Printed} → p ≡ both (toOutput front) q → Prints back q → Prints (front ++ back) p
+prints-both front {back} {p} {q} e h = rw e (ap (λ (l : List ℕ). front ++ l) (h .0), h .1)
+
+module _ (outs : ℕ → List ℕ) (zeroth : List ℕ) where
+  rest-prints : (i : ℕ) (bs : List (List ℕ)) (run : Run) → AllOctets bs → Good run zeroth → Enough outs zeroth i bs run
+      → Prints (calls outs zeroth i bs run) (rest i bs run zeroth)
+  unfolding AllOctets calls walk closed
+  rest-prints i [] run o g ends = (refl, refl)
+  rest-prints i (b ∷ bs) run o g (refused refusal n) =
+      let e = rest-ends zeroth i b bs run n in
+      (calls-end zeroth i b bs run outs (call-next run zeroth b g ∙ n) ∙ ap (λ (p : Printed). p .out) (sym e), ap (λ (p : Printed). p .err) e)
+  rest-prints i (b ∷ bs) run o g (has-room next n room enough) =
+      let both-print = prints-both (rowOf next zeroth) (rest-goes zeroth i b bs run n) (rest-prints (suc i) bs next (o .1) (next-good run zeroth b next (o .0) g n) enough) in
+      (calls-go zeroth i b bs run outs (call-next run zeroth b g ∙ n) room ∙ both-print .0, both-print .1)
+
+pub calls-print : CallsPrint
+unfolding printed printedBy walked blocksOf closed
+calls-print outs trace o enough = go (startOf (blocksOf trace .zeroth)) refl enough
   where
-    go : (r : Begin) → startOf f first ≡ r → EnoughBy f outs first bs r → callsBy f outs first bs r ≡ linesBy f first bs r
-    go (begin.Started run) e more = calls-rows f outs first 1 bs run (o .1) (start-good f first run e) more
-    go (begin.Refused refusal) e more = refl
+    bs : Blocks
+    bs = blocksOf trace
+
+    by-start : (r : Begin) → startOf (bs .zeroth) ≡ r → printed trace ≡ closed ecntable (onward (turned 0 (begun (bs .zeroth) r)) (walk ecntable 1 (bs .others)))
+    by-start r e = ap (λ (r : Begin). closed ecntable (onward (turned 0 (begun (bs .zeroth) r)) (walk ecntable 1 (bs .others)))) e
+
+    go : (r : Begin) → startOf (bs .zeroth) ≡ r → EnoughBy outs bs r → Prints (headBytes ++ callsBy outs bs r) (printed trace)
+    go (begin.Started run) e room =
+        prints-both headBytes
+        (by-start (begin.Started run) e ∙ closed-goes ecntable (turned 0 (begun (bs .zeroth) (begin.Started run))) (walk ecntable 1 (bs .others)) refl)
+        (rest-prints outs (bs .zeroth) 1 (bs .others) run (cut-octets (length trace) (drop blockBytes trace) (octets-drop blockBytes trace o)) (start-good (bs .zeroth) run e) room)
+    go (begin.Refused refusal) e room =
+        let q = by-start (begin.Refused refusal) e ∙ closed-ends ecntable (turned 0 (begun (bs .zeroth) (begin.Refused refusal))) (walk ecntable 1 (bs .others)) (record { refusal = refusal; block = 0 }) refl in
+        (ap (λ (p : Printed). p .out) (sym q), ap (λ (p : Printed). p .err) q)

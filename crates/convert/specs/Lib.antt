@@ -1,3 +1,3 @@
 pub mod Runs
-pub mod Traces
+pub mod Tables
 pub mod Theorems

@@ -1,23 +1,20 @@
-// One run of the program, block by block (document 01, "Trace file" and "Table"). Block 0 holds the label; the caller keeps it, and lends it
-// again with each later block.
-use source::Source;
+// One run of the program ecntable, block by block (document 01, "Trace file" and "Table"). Block 0 holds the label; the caller keeps it, and
+// lends it again with each later block.
+use answers::Refusal;
+use source::Totals;
 use trace::Block;
 use trace::read::read_block;
-use words::Refusal;
 ghost use mathlib.Core.Path.{_≡_};
-ghost use Rattle.trace.specs.Layout.{first as form};
-ghost use Rattle.convert.specs.Runs.{faultOf, startOf, stepOf, storedOf};
+ghost use Rattle.convert.specs.Runs.{faultOf, startOf, callNext, Stepped};
 
-mod counting;
 mod rows;
 mod soundness;
 
-// What is kept between blocks: the length of the label in block 0, the SSRC, the record, and how many arrivals were refused as jumps.
+// What is kept between blocks: the length of the label in block 0, the SSRC, and the totals so far.
 pub struct Run {
     pub length: usize,
     pub ssrc: u32,
-    pub source: Source,
-    pub jumped: u64,
+    pub totals: Totals,
 }
 
 // The answer to block 0: the run, or why it is refused.
@@ -37,47 +34,49 @@ fn fault_of(block: Block) -> Refusal
     ensures { λ r. ⌜ r ≡ faultOf block ⌝ }
 {
     match block {
-        Block::Label { length: _, ssrc: _ } => Refusal::Contents,
-        Block::Arrivals { count: _, ssrc: _ } => Refusal::Contents,
         Block::Refused(refusal) => refusal,
+        _ => Refusal::Contents,
     }
 }
 
 impl Run {
     // Takes block 0, which must be a label block. Refusals: 1, 13 and 14, as `read_block` gives them, and 14 for arrivals.
-    pub fn start(first: &[u8]) -> Begin
-        ensures { λ r. ⌜ r ≡ startOf form (now (first .entry)) ⌝ }
+    pub fn start(zeroth: &[u8]) -> Begin
+        ensures { λ r. ⌜ r ≡ startOf (now (zeroth .entry)) ⌝ }
     {
-        let read = read_block(first);
-        let Block::Label { length, ssrc } = read else {
+        let read = read_block(zeroth);
+        let Block::Label {
+            form: _,
+            length,
+            ssrc,
+        } = read
+        else {
             return Begin::Refused(fault_of(read));
         };
-        let source = Source::fresh();
+        let totals = Totals::fresh();
         Begin::Started(Run {
             length,
             ssrc,
-            source,
-            jumped: 0,
+            totals,
         })
     }
 
-    // Takes a later block, which must hold arrivals of the label's SSRC, and writes the row after it at the front of out. `first` is block 0.
+    // Takes a later block, which must hold arrivals of the label's SSRC, and writes the row after it at the front of out. `zeroth` is block 0.
     // Refusals: 9 a malformed run, or a block 0 that is not its own; 1, 13 and 14, as `read_block` gives them, and 14 for a label or another
     // SSRC; 12 output too small.
-    pub fn block(self, first: &[u8], block: &[u8], out: &mut [u8]) -> Step
-        ensures { λ r. ⌜ r ≡ stepOf form self (now (first .entry)) (now (block .entry)) (now (out .entry)) ⌝ }
-        ensures { λ _. ⌜ now (out .exit) ≡ storedOf form self (now (first .entry)) (now (block .entry)) (now (out .entry)) ⌝ }
+    pub fn block(self, zeroth: &[u8], block: &[u8], out: &mut [u8]) -> Step
+        ensures { λ r. ⌜ Stepped self (callNext self (now (zeroth .entry)) (now (block .entry))) (now (zeroth .entry)) (now (out .entry)) r (now (out .exit)) ⌝ }
     {
-        if !soundness::is_sound(self, first) {
+        if !soundness::is_sound(self, zeroth) {
             return Step::Refused(Refusal::Malformed, self);
         }
         let read = read_block(block);
-        let Block::Arrivals { count, ssrc } = read else {
+        let Block::Arrivals { form, count, ssrc } = read else {
             return Step::Refused(fault_of(read), self);
         };
         if ssrc != self.ssrc {
             return Step::Refused(Refusal::Contents, self);
         }
-        rows::arrivals(self, first, count, block, out)
+        rows::arrivals(self, zeroth, form, count, block, out)
     }
 }

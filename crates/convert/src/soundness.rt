@@ -1,38 +1,76 @@
 // When a run is sound.
 use crate::Run;
+use format::Kind;
+use format::block::BLOCK;
+use format::block::BODY;
+use format::block::BODY_BYTES;
+use format::block::COUNT;
+use format::block::KIND;
+use format::block::SSRC;
+use numbers::big_endian::read16;
+use numbers::big_endian::read32;
 use source::Lost;
+use source::Totals;
 use trace::label::is_label;
 ghost use mathlib.Core.Path.{_≡_};
-ghost use Rattle.convert.specs.Runs.{soundRun};
+ghost use Rattle.answers.specs.Conditions.{all};
+ghost use Rattle.format.specs.Forms.{kindOf};
+ghost use Rattle.trace.specs.Reading.{kindIn};
+ghost use Rattle.convert.specs.Runs.{isLabel, ownLabel, soundTotals, soundRun};
 
-// The most jumps that are counted.
-pub const MOST_JUMPED: u64 = 0x1_0000_0000_0000;
-
-// The bytes of a block, where its body begins, and the most bytes of a label.
-const BLOCK: usize = 512;
-
-pub const BODY: usize = 8;
-
-const MOST_BYTES: usize = 502;
-
-// Whether a run is sound, with block 0.
-pub fn is_sound(run: Run, first: &[u8]) -> bool
-    ensures { λ r. ⌜ r ≡ soundRun run (now (first .entry)) ⌝ }
+// Whether a block says that it holds a label.
+fn is_label_kind(zeroth: &[u8]) -> bool
+    ensures { λ r. ⌜ r ≡ isLabel (kindOf (kindIn (now (zeroth .entry)))) ⌝ }
 {
-    let length = run.length;
-    let source = run.source;
-    if first.len() != BLOCK {
+    match Kind::of(read16(zeroth, KIND)) {
+        Kind::Label(_) => true,
+        Kind::Arrivals(_) => false,
+        Kind::Unknown => false,
+    }
+}
+
+// Whether block 0 is the run's own. (Its header says so: no checksum is taken per call.)
+fn is_own(run: Run, zeroth: &[u8]) -> bool
+    ensures { λ r. ⌜ r ≡ all (ownLabel run (now (zeroth .entry))) ⌝ }
+{
+    if zeroth.len() != BLOCK {
         return false;
     }
-    if MOST_BYTES < length {
+    if !is_label_kind(zeroth) {
         return false;
     }
-    let end = BODY + length;
-    if !is_label(&first[BODY..end]) {
+    if read16(zeroth, COUNT) as usize != run.length {
         return false;
     }
+    read32(zeroth, SSRC) == run.ssrc
+}
+
+// Whether the totals are sound.
+fn are_sound(t: Totals) -> bool
+    ensures { λ r. ⌜ r ≡ all (soundTotals t) ⌝ }
+{
+    let source = t.source;
     let Lost::Packets(_) = source.lost() else {
         return false;
     };
-    run.jumped <= MOST_JUMPED
+    t.jumped <= Totals::MOST_JUMPED
+}
+
+// Whether a run is sound, with block 0.
+pub fn is_sound(run: Run, zeroth: &[u8]) -> bool
+    ensures { λ r. ⌜ r ≡ soundRun run (now (zeroth .entry)) ⌝ }
+{
+    let length = run.length;
+    let totals = run.totals;
+    if !is_own(run, zeroth) {
+        return false;
+    }
+    if BODY_BYTES < length {
+        return false;
+    }
+    let end = BODY + length;
+    if !is_label(&zeroth[BODY..end]) {
+        return false;
+    }
+    are_sound(totals)
 }

@@ -7,31 +7,31 @@ use native.Mathlib.Omega.{arith}
 use borrow.Author.Tests.{ne-eqb}
 use lib.IntN.{ℤ, pos, _+ℤ_, _-ℤ_}
 use lib.ListN.{length}
-use Rattle.words.specs.Integers.{modulo}
+use Rattle.numbers.specs.Integers.{modulo}
 use Rattle.source.specs.declared.Source.{Source}
 use Rattle.source.specs.Record as Record
 use Rattle.source.specs.Record.{freshRecord, sound, lost}
 use Rattle.source.proofs.Facts.{fresh-is}
-use Rattle.report.specs.declared.Counts.{Counts}
+use Rattle.format.specs.declared.Counts.{Counts}
 use Rattle.report.specs.Carried.{countsOf}
 use Rattle.report.specs.Reports.{feedbackOf, summaryOf}
 use Rattle.report.proofs.Faults.{fault-none}
-use Rattle.demands.specs.Calls.{Packet, arrivals, run}
+use Rattle.demands.specs.Calls.{TruePacket, arrivals, run}
 use Rattle.demands.specs.Count.{baseOf, highestOf, distinctOf, duplicatesOf, tally, lostOf, countFrom, count, countsIn}
 use Rattle.demands.specs.Demand3.{Demand3}
 use Rattle.demands.proofs.Members.{Marks}
 use Rattle.demands.proofs.Steady.{count-arrivals, count-distinct, count-highest}
-use Rattle.demands.proofs.Steps.{fresh-sound}
+use Rattle.source.proofs.Facts.{fresh-sound}
 use Rattle.demands.proofs.Order.{same-perm, perm-count}
 use Rattle.demands.proofs.Runs.{arrivals-marks, run-sound, run-counted}
 
 -- ---- what a report carries of the count
 
-lost-some : (ps : List Packet) → 1 ≤ length ps → highestOf ps -ℤ baseOf ps +ℤ pos 1 -ℤ pos (distinctOf ps) ≡ lostOf ps
+lost-some : (ps : List TruePacket) → 1 ≤ length ps → highestOf ps -ℤ baseOf ps +ℤ pos 1 -ℤ pos (distinctOf ps) ≡ lostOf ps
 lost-some [] h = absurd (omega arith)
 lost-some (p ∷ ps) h = refl
 
-module _ (ps : List Packet) (m : Marks ps) (some : 1 ≤ length ps) (good : sound (count ps) ≡ true) where
+module _ (ps : List TruePacket) (m : Marks ps) (some : 1 ≤ length ps) (good : sound (count ps) ≡ true) where
   pub count-lost : lost (count ps) ≡ lostOf ps
   unfolding lost countFrom
   count-lost =

@@ -7,9 +7,9 @@ use native.Mathlib.Omega.{arith}
 use lib.Dec.{T, leb, leb→le}
 use lib.IntN.{ℤ, pos, negsuc, negℤ, _+ℤ_, _-ℤ_, +ℤ-comm, +ℤ-negℤ-cancel}
 use lib.Signed.{leZ, _≤ℤ_}
-use Rattle.words.specs.Integers.{modulo}
-use Rattle.words.proofs.Conditions.{is-true}
-use Rattle.words.proofs.Integers.{minus-pos, minus-neg, leZ-refl, leZ-antisym, leZ-total, modulo-add}
+use Rattle.numbers.specs.Integers.{modulo}
+use Rattle.answers.proofs.Conditions.{is-true}
+use Rattle.numbers.proofs.Integers.{minus-pos, minus-neg, leZ-refl, leZ-antisym, leZ-total, modulo-add}
 use Rattle.source.specs.Arrivals.{extended, distance}
 use Rattle.demands.specs.Calls.{wireOf, maxZ}
 

@@ -6,12 +6,12 @@ use native.Mathlib.Nat.{add-zero, mod-eq-of-lt}
 use native.Mathlib.Omega.{arith}
 use borrow.Author.Tests.{eq-eqb}
 use lib.ListN.{length}
-use Rattle.words.specs.BigEndian.{word, bytes}
-use Rattle.words.proofs.BigEndian.{word-left, word-right, word-bytes, length-bytes}
-use Rattle.words.proofs.Integers.{modulo-lt}
+use Rattle.numbers.specs.BigEndian.{word, bytes}
+use Rattle.numbers.proofs.BigEndian.{word-left, word-right, word-bytes, length-bytes}
+use Rattle.numbers.proofs.Integers.{modulo-lt}
 use Rattle.source.specs.declared.Source.{Source}
 use Rattle.source.specs.Record.{lost}
-use Rattle.report.specs.declared.Counts.{Counts}
+use Rattle.format.specs.declared.Counts.{Counts}
 use Rattle.report.specs.Carried.{highestOf, countsOf}
 use Rattle.report.specs.Reports.{countsBytes, feedbackOf, summaryOf}
 use Rattle.rtcp.specs.declared.MaybeReport.{MaybeReport}

@@ -8,22 +8,22 @@ use lib.Dec.{T, leb→le}
 use lib.IntN.{ℤ, pos, negsuc, _-ℤ_}
 use lib.ListN.{length}
 use lib.Signed.{_≤ℤ_}
-use Rattle.words.proofs.Conditions.{is-true}
-use Rattle.words.proofs.Integers.{minus-zero}
+use Rattle.answers.proofs.Conditions.{is-true}
+use Rattle.numbers.proofs.Integers.{minus-zero}
 use Rattle.source.specs.declared.Source.{Source}
 use Rattle.source.specs.Places.{bit, history, marks}
 use Rattle.source.specs.Record as Record
 use Rattle.source.specs.Record.{sound}
 use Rattle.source.proofs.Rows.{marked-ext, pack-lt, marks-history, places-history}
-use Rattle.source.proofs.Facts.{Facts, facts-count, counting-sound}
-use Rattle.demands.specs.Calls.{Packet}
+use Rattle.source.proofs.Facts.{Facts, facts-count, has-counted-sound}
+use Rattle.demands.specs.Calls.{TruePacket}
 use Rattle.demands.specs.Count.{greatest, highestOf, mem, distinctOf, recent, countFrom}
 use Rattle.demands.proofs.Numbers.{Near, above, below}
 use Rattle.demands.proofs.Members.{Marks, greatest-in, top-above, top-below, new-above, distinct-le, distinct-some, marked-distinct, tally-sum}
 
 -- ---- the arrivals so far, newest first
 
-pub record Known (base : ℤ) (p : Packet) (ps : List Packet) : Type 0 where
+pub record Known (base : ℤ) (p : TruePacket) (ps : List TruePacket) : Type 0 where
   pub low : ℕ
   pub high : ℕ
   pub bottom : base ≡ pos low
@@ -38,12 +38,12 @@ pub in-wire : (z : ℤ) → pos 0 ≤ℤ z → z ≤ℤ pos 65535 → (n : ℕ) 
 in-wire (pos n) l u = (n, refl, leb→le n 65535 (u .le))
 in-wire (negsuc n) l u = absurd (l .le)
 
-pub known-first : (p : Packet) → pos 0 ≤ℤ p .number → p .number ≤ℤ pos 65535 → p .mark ≤ 3 → Known (p .number) p []
+pub known-first : (p : TruePacket) → pos 0 ≤ℤ p .number → p .number ≤ℤ pos 65535 → p .mark ≤ 3 → Known (p .number) p []
 known-first p l u m =
     let w = in-wire (p .number) l u in
     record { low = w .0; high = w .0; bottom = w .1; top = w .1; wire = w .2; ordered = omega arith; spread = omega arith; fit = (m, tt) }
 
-module _ {base : ℤ} (p q : Packet) (qs : List Packet) (k : Known base q qs) (m : p .mark ≤ 3) where
+module _ {base : ℤ} (p q : TruePacket) (qs : List TruePacket) (k : Known base q qs) (m : p .mark ≤ 3) where
   pub known-next : Near (k .high) (p .number) → Known base p (q ∷ qs)
   known-next (above d l u e) =
       let new : bit (not (mem (p .number) (q ∷ qs))) ≡ 1 = ap (λ (t : Bool). bit (not t)) (new-above (k .high) p q qs (k .top) d l e) in
@@ -70,7 +70,7 @@ module _ {base : ℤ} (p q : Packet) (qs : List Packet) (k : Known base q qs) (m
 
 -- ---- their count
 
-module _ (base : ℤ) (ps : List Packet) where
+module _ (base : ℤ) (ps : List TruePacket) where
   pub count-arrivals : Marks ps → Record.arrivals (countFrom base ps) ≡ length ps
   unfolding countFrom
   count-arrivals m = tally-sum ps m
@@ -89,11 +89,11 @@ module _ (base : ℤ) (ps : List Packet) where
   count-marks k h = marks-history (recent ps) k h
 
 -- it is a record that has counted
-module _ {base : ℤ} {p : Packet} {ps : List Packet} (k : Known base p ps) (few : length (p ∷ ps) ≤ 2 ^ 48) where
+module _ {base : ℤ} {p : TruePacket} {ps : List TruePacket} (k : Known base p ps) (few : length (p ∷ ps) ≤ 2 ^ 48) where
   pub count-facts : Facts (countFrom base (p ∷ ps))
   unfolding countFrom
   count-facts =
-      let all : List Packet = p ∷ ps in
+      let all : List TruePacket = p ∷ ps in
       let s : Source = countFrom base all in
       let total : Record.arrivals s ≡ length all = count-arrivals base all (k .fit) in
       let different : Record.distinct s ≡ distinctOf all = count-distinct base all (k .fit) in
@@ -118,4 +118,4 @@ module _ {base : ℤ} {p : Packet} {ps : List Packet} (k : Known base p ps) (few
       }
 
   pub count-sound : sound (countFrom base (p ∷ ps)) ≡ true
-  count-sound = counting-sound (countFrom base (p ∷ ps)) (facts-count (countFrom base (p ∷ ps)) count-facts)
+  count-sound = has-counted-sound (countFrom base (p ∷ ps)) (facts-count (countFrom base (p ∷ ps)) count-facts)

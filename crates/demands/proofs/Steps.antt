@@ -11,17 +11,19 @@ use lib.Dec.{leb, eqb}
 use lib.IntN.{ℤ, pos, _+ℤ_, _-ℤ_}
 use lib.ListN.{length}
 use lib.Signed.{_≤ℤ_}
-use Rattle.words.specs.Integers.{eqZ}
-use Rattle.words.proofs.Integers.{eqZ-minus, minus-zero, minus-pos, minus-shift}
+use Rattle.numbers.specs.Integers.{eqZ}
+use Rattle.numbers.proofs.Integers.{eqZ-minus, minus-zero, minus-pos, minus-shift}
 use Rattle.source.specs.declared.Source.{Source}
 use Rattle.source.specs.declared.Arrival.the-variants.{Accepted}
 use Rattle.source.specs.Places.{bit, pack, history, marks, moved, added}
 use Rattle.source.specs.Record as Record
-use Rattle.source.specs.Record.{freshRecord, fresh, sound}
-use Rattle.source.specs.Arrivals.{extended, counted, first, ahead, behind, distance, later}
+use Rattle.source.specs.Record.{freshRecord}
+use Rattle.source.specs.Arrivals.{extended, counted, first, ahead, behind, distance, laterBy, later}
+use Rattle.source.proofs.Facts.{fresh-sound}
 use Rattle.source.proofs.Rows.{history-ext}
-use Rattle.source.proofs.Answers.{arrival-first, arrival-later, later-ahead, later-level, later-behind}
-use Rattle.demands.specs.Calls.{Packet, wireOf, call}
+use Rattle.source.proofs.Answers.{arrival-first, arrival-later}
+use Rattle.source.proofs.Reached.{reach-ahead, reach-level, reach-behind}
+use Rattle.demands.specs.Calls.{TruePacket, wireOf, call}
 use Rattle.demands.specs.Count.{greatest, highestOf, mem, distinctOf, tally, recent, duplicatesOf, countFrom}
 use Rattle.demands.proofs.Numbers.{Near, above, below, distance-above, distance-below, distance-level}
 use Rattle.demands.proofs.Members.{top-above, top-below, new-above, above-out, distinct-le}
@@ -33,7 +35,7 @@ unfolding countFrom pack
 count-none base e = rw e
 
 -- the next record is the count of the longer list, where its highest, duplicates and history are that list's
-next-is : (old base h : ℤ) (p : Packet) (ps : List Packet) (n : ℕ) (row : ℕ → Bool)
+next-is : (old base h : ℤ) (p : TruePacket) (ps : List TruePacket) (n : ℕ) (row : ℕ → Bool)
     → h ≡ highestOf (p ∷ ps) → n ≡ duplicatesOf (p ∷ ps) → ((k : ℕ) → k < 100 → row k ≡ recent (p ∷ ps) k)
     → counted (countFrom old ps) (p .mark) (extended base) (extended h) n (history row) ≡ countFrom base (p ∷ ps)
 unfolding counted countFrom
@@ -50,11 +52,7 @@ next-is old base h p ps n row eh en er = λ i. record {
 
 -- ---- the first arrival
 
-pub fresh-sound : sound freshRecord ≡ true
-unfolding sound fresh
-fresh-sound = refl
-
-pub call-first : (p : Packet) → pos 0 ≤ℤ p .number → p .number ≤ℤ pos 65535 → p .mark ≤ 3 → call freshRecord p ≡ Accepted (countFrom (p .number) (p ∷ []))
+pub call-first : (p : TruePacket) → pos 0 ≤ℤ p .number → p .number ≤ℤ pos 65535 → p .mark ≤ 3 → call freshRecord p ≡ Accepted (countFrom (p .number) (p ∷ []))
 unfolding first
 call-first p l u m =
     arrival-first freshRecord (wireOf (p .number)) (p .mark) fresh-sound m refl
@@ -70,7 +68,7 @@ call-first p l u m =
 
 -- ---- a later arrival
 
-module _ (base : ℤ) (p q : Packet) (qs : List Packet) (n : ℕ) (top : greatest (q .number) qs ≡ pos n) where
+module _ (base : ℤ) (p q : TruePacket) (qs : List TruePacket) (n : ℕ) (top : greatest (q .number) qs ≡ pos n) where
   abbrev s : Source
   s = countFrom base (q ∷ qs)
 
@@ -126,7 +124,7 @@ module _ (base : ℤ) (p q : Packet) (qs : List Packet) (n : ℕ) (top : greates
           ∙ again (mem (p .number) (q ∷ qs)) (length (q ∷ qs)) (distinctOf (q ∷ qs)) (distinct-le (q ∷ qs))
 
 -- the call on the count of the arrivals so far
-pub call-later : {base : ℤ} (p q : Packet) (qs : List Packet) (k : Known base q qs) → p .mark ≤ 3 → length (p ∷ (q ∷ qs)) ≤ 2 ^ 48 → Near (k .high) (p .number)
+pub call-later : {base : ℤ} (p q : TruePacket) (qs : List TruePacket) (k : Known base q qs) → p .mark ≤ 3 → length (p ∷ (q ∷ qs)) ≤ 2 ^ 48 → Near (k .high) (p .number)
     → call (countFrom base (q ∷ qs)) p ≡ Accepted (countFrom base (p ∷ (q ∷ qs)))
 call-later {base} p q qs k m few near = go near
   where
@@ -143,11 +141,11 @@ call-later {base} p q qs k m few near = go near
         ∙ ap (λ (i : ℕ). later state i (p .mark)) (ap₂ (λ (x y : ℤ). distance (extended x) (wireOf y)) (count-highest base (q ∷ qs) ∙ k .top) e ∙ f)
 
     go : Near (k .high) (p .number) → call state p ≡ Accepted (countFrom base (p ∷ (q ∷ qs)))
-    go (above d l u e) = by (pos (k .high + d)) d e (distance-above (k .high) d u) ∙ later-ahead state (p .mark) d l u
+    go (above d l u e) = by (pos (k .high + d)) d e (distance-above (k .high) d u) ∙ ap (laterBy state (p .mark)) (reach-ahead d l u)
         ∙ ap Accepted (ahead-is base p q qs (k .high) (k .top) d l e)
-    go (below zero u e) = by (pos (k .high)) 0 (e ∙ minus-zero (k .high)) (distance-level (k .high)) ∙ later-level state (p .mark)
+    go (below zero u e) = by (pos (k .high)) 0 (e ∙ minus-zero (k .high)) (distance-level (k .high)) ∙ ap (laterBy state (p .mark)) reach-level
         ∙ ap Accepted (behind-is base p q qs (k .high) (k .top) 0 u e)
     go (below (suc j) u e) = by (pos (k .high) -ℤ pos (suc j)) (65536 - suc j) e (distance-below (k .high) j u)
-        ∙ later-behind state (p .mark) (65536 - suc j) (omega arith) (omega arith)
+        ∙ ap (laterBy state (p .mark)) (reach-behind (65536 - suc j) (omega arith) (omega arith))
         ∙ ap (λ (i : ℕ). Accepted (behind state i (p .mark))) (omega arith)
         ∙ ap Accepted (behind-is base p q qs (k .high) (k .top) (suc j) u e)

@@ -8,16 +8,16 @@ use Rattle.source.specs.Record.{freshRecord, sound, lost}
 use Rattle.table.specs.Lines.{rowBytes}
 use Rattle.table.specs.Field.{asField, line}
 use Rattle.table.proofs.Faults.{fault-none}
-use Rattle.demands.specs.Calls.{Packet, arrivals, run}
+use Rattle.demands.specs.Calls.{TruePacket, arrivals, run}
 use Rattle.demands.specs.Count.{lostOf, countFrom, count}
 use Rattle.demands.specs.TableRow.{countTexts, RowCarriesCount}
 use Rattle.demands.proofs.Demand.{demand3, count-lost}
-use Rattle.demands.proofs.Steps.{fresh-sound}
+use Rattle.source.proofs.Facts.{fresh-sound}
 use Rattle.demands.proofs.Runs.{arrivals-marks, run-sound}
 
 -- a row of the count itself
-count-row : (ps : List Packet) (label : List ℕ) (ssrc jumped : ℕ) → lost (count ps) ≡ lostOf ps
-    → rowBytes label ssrc (count ps) jumped ≡ line (asField label) (countTexts ssrc ps jumped)
+count-row : (ps : List TruePacket) (label : List ℕ) (ssrc jumped : ℕ) → lost (count ps) ≡ lostOf ps
+    → rowBytes label ssrc (record { source = count ps; jumped = jumped }) ≡ line (asField label) (countTexts ssrc ps jumped)
 unfolding rowBytes countFrom
 count-row ps label ssrc jumped e = rw e
 
@@ -27,6 +27,6 @@ row-carries-count ps d label ssrc jumped ok most =
     let good : sound (run ps) ≡ true = run-sound freshRecord ps fresh-sound in
     let lost-is = count-lost (arrivals ps) (arrivals-marks ps) (d .some) (ap sound (sym end) ∙ good) in
     record {
-      accepted = fault-none label (run ps) jumped good ok most;
-      bytes = ap (λ (s : Source). rowBytes label ssrc s jumped) end ∙ count-row (arrivals ps) label ssrc jumped lost-is;
+      accepted = fault-none label (record { source = run ps; jumped = jumped }) good ok most;
+      bytes = ap (λ (s : Source). rowBytes label ssrc (record { source = s; jumped = jumped })) end ∙ count-row (arrivals ps) label ssrc jumped lost-is;
     }

@@ -6,58 +6,58 @@ use Prim.Native.Nat.{ℕ, _+_, _-_, _%_, _^_}
 use lib.Dec.{eqb}
 use lib.IntN.{ℤ, pos, _+ℤ_, _-ℤ_}
 use lib.ListN.{length}
-use Rattle.words.specs.Integers.{modulo, eqZ}
+use Rattle.numbers.specs.Integers.{modulo, eqZ}
 use Rattle.source.specs.declared.Source.{Source}
 use Rattle.source.specs.Places.{bit, history}
 use Rattle.source.specs.Arrivals.{extended}
-use Rattle.report.specs.declared.Counts.{Counts}
-use Rattle.demands.specs.Calls.{Packet, maxZ}
+use Rattle.format.specs.declared.Counts.{Counts}
+use Rattle.demands.specs.Calls.{TruePacket, maxZ}
 
 -- base is the first true number
-abbrev pub baseOf : List Packet → ℤ
+abbrev pub baseOf : List TruePacket → ℤ
 baseOf [] = pos 0
 baseOf (p ∷ ps) = p .number
 
 -- highest the greatest
-abbrev pub greatest : ℤ → List Packet → ℤ
+abbrev pub greatest : ℤ → List TruePacket → ℤ
 greatest z [] = z
 greatest z (p ∷ ps) = maxZ z (greatest (p .number) ps)
 
-abbrev pub highestOf : List Packet → ℤ
+abbrev pub highestOf : List TruePacket → ℤ
 highestOf [] = pos 0
 highestOf (p ∷ ps) = greatest (p .number) ps
 
 -- whether a number is in the list
-abbrev pub mem : ℤ → List Packet → Bool
+abbrev pub mem : ℤ → List TruePacket → Bool
 mem z [] = false
 mem z (p ∷ ps) = eqZ z (p .number) || mem z ps
 
 -- distinct the number of different ones
-abbrev pub distinctOf : List Packet → ℕ
+abbrev pub distinctOf : List TruePacket → ℕ
 distinctOf [] = 0
 distinctOf (p ∷ ps) = distinctOf ps + bit (not (mem (p .number) ps))
 
 -- duplicates the list's length less distinct
-abbrev pub duplicatesOf : List Packet → ℕ
+abbrev pub duplicatesOf : List TruePacket → ℕ
 duplicatesOf ps = length ps - distinctOf ps
 
 -- each mark counted over the list
-abbrev pub tally : ℕ → List Packet → ℕ
+abbrev pub tally : ℕ → List TruePacket → ℕ
 tally mark [] = 0
 tally mark (p ∷ ps) = tally mark ps + bit (eqb (p .mark) mark)
 
 -- lost = highest - base + 1 - distinct
-abbrev pub lostOf : List Packet → ℤ
+abbrev pub lostOf : List TruePacket → ℤ
 lostOf [] = pos 0
 lostOf (p ∷ ps) = highestOf (p ∷ ps) -ℤ baseOf (p ∷ ps) +ℤ pos 1 -ℤ pos (distinctOf (p ∷ ps))
 
 -- the history marks, of the numbers from highest - 99 to highest, exactly those in the list
-abbrev pub recent : List Packet → ℕ → Bool
+abbrev pub recent : List TruePacket → ℕ → Bool
 recent ps k = mem (highestOf ps -ℤ pos k) ps
 
 -- ---- as a record, and as a report carries it
 
-unfoldable pub countFrom : ℤ → List Packet → Source
+unfoldable pub countFrom : ℤ → List TruePacket → Source
 countFrom base ps = record {
   base = extended base;
   highest = extended (highestOf ps);
@@ -69,10 +69,10 @@ countFrom base ps = record {
   history = history (recent ps);
 }
 
-abbrev pub count : List Packet → Source
+abbrev pub count : List TruePacket → Source
 count ps = countFrom (baseOf ps) ps
 
-unfoldable pub countsIn : List Packet → Counts
+unfoldable pub countsIn : List TruePacket → Counts
 countsIn ps = record {
   ect0 = tally 2 ps % 2 ^ 32;
   ect1 = tally 1 ps % 2 ^ 32;
@@ -85,10 +85,10 @@ countsIn ps = record {
 -- ---- the same arrivals
 
 -- how often a pair of number and mark is in the list
-abbrev pub occurs : Packet → List Packet → ℕ
+abbrev pub occurs : TruePacket → List TruePacket → ℕ
 occurs p [] = 0
 occurs p (q ∷ qs) = occurs p qs + bit (eqZ (p .number) (q .number) && eqb (p .mark) (q .mark))
 
 -- each pair of number and mark is in both equally often
-abbrev pub SameArrivals : List Packet → List Packet → Type 0
-SameArrivals ps qs = (p : Packet) → occurs p ps ≡ occurs p qs
+abbrev pub SameArrivals : List TruePacket → List TruePacket → Type 0
+SameArrivals ps qs = (p : TruePacket) → occurs p ps ≡ occurs p qs

@@ -8,13 +8,13 @@ use mathlib.Core.Path.{_≡_}
 use mathlib.Core.List.{List}
 use mathlib.Core.Option.{none}
 use Prim.Native.Nat.{ℕ, _^_}
-use Rattle.words.specs.Integers.{modulo}
+use Rattle.numbers.specs.Integers.{modulo}
 use Rattle.source.specs.Record.{freshRecord}
 use Rattle.report.specs.Reports.{fault, feedbackOf, feedbackBytes, summaryOf, summaryBytes}
-use Rattle.demands.specs.Calls.{Packet, AnsweredFrom, arrivals, run, Described}
+use Rattle.demands.specs.Calls.{TruePacket, AnsweredFrom, arrivals, run, Described}
 use Rattle.demands.specs.Count.{baseOf, highestOf, count, countsIn, SameArrivals}
 
-pub record Outcome (ps : List Packet) : Type 0 where
+pub record Outcome (ps : List TruePacket) : Type 0 where
   -- every arrival is accepted, and every call with a mark above 3 is refused with 10 and the given state
   pub answers : AnsweredFrom freshRecord ps
   -- every field of the state at the end is what the count over the arrivals gives
@@ -25,7 +25,7 @@ pub record Outcome (ps : List Packet) : Type 0 where
       → feedbackBytes sender media (run ps) ≡ feedbackOf sender media (modulo (2 ^ 32) (highestOf (arrivals ps))) (countsIn (arrivals ps))
   pub summary : (media : ℕ) → summaryBytes media (run ps) ≡ summaryOf media (countsIn (arrivals ps))
   -- any other such list with the same arrivals and the same first one ends in the same state
-  pub order : (qs : List Packet) → Described qs → SameArrivals (arrivals ps) (arrivals qs) → baseOf (arrivals ps) ≡ baseOf (arrivals qs) → run ps ≡ run qs
+  pub order : (qs : List TruePacket) → Described qs → SameArrivals (arrivals ps) (arrivals qs) → baseOf (arrivals ps) ≡ baseOf (arrivals qs) → run ps ≡ run qs
 
 abbrev pub Demand3 : Type 0
-Demand3 = (ps : List Packet) → Described ps → Outcome ps
+Demand3 = (ps : List TruePacket) → Described ps → Outcome ps

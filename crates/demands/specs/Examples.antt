@@ -4,7 +4,7 @@ use mathlib.Core.Bool.{false}
 use mathlib.Core.List.{List, [], _∷_, map}
 use Prim.Native.Nat.{ℕ, zero, suc, _+_, _*_}
 use lib.IntN.{ℤ, pos, negsuc}
-use Rattle.words.specs.Refusals.{numberOf}
+use Rattle.answers.specs.Refusals.{numberOf}
 use Rattle.source.specs.declared.Source.{Source}
 use Rattle.source.specs.declared.Arrival.{Arrival}
 use Rattle.source.specs.declared.Arrival.the-variants.{Accepted, Refused}
@@ -70,7 +70,7 @@ abbrev pub outcome : Given → Outcome
 outcome (arrivals xs) = countedOf (answerTo (Accepted freshRecord) xs)
 outcome (feedback sender media xs) = written (feedbackBytes sender media (after (answerTo (Accepted freshRecord) xs)))
 outcome (summary media xs) = written (summaryBytes media (after (answerTo (Accepted freshRecord) xs)))
-outcome (row label ssrc xs) = written (rowBytes label ssrc (after (answerTo (Accepted freshRecord) xs)) 0)
+outcome (row label ssrc xs) = written (rowBytes label ssrc (record { source = after (answerTo (Accepted freshRecord) xs); jumped = 0 }))
 outcome (reports k fraction rtt size rate) =
     answered (answersOf (startOf (record { k = k; m = 3; timeout = 15000; reduce = false }) 0 .breaker) (reportsUpTo k fraction rtt size rate []))
 

@@ -3,7 +3,7 @@ use mathlib.Core.Path.{_≡_}
 use mathlib.Core.List.{List, _++_}
 use Prim.Native.Nat.{ℕ, _+_, _*_, _/_, _^_, _<_}
 use lib.ListN.{length}
-use Rattle.words.specs.BigEndian.{bytes}
+use Rattle.numbers.specs.BigEndian.{bytes}
 use Rattle.source.specs.declared.Source.{Source}
 use Rattle.report.specs.Carried.{highestOf, countsOf}
 use Rattle.report.specs.Reports.{feedbackBytes, summaryBytes}

@@ -3,16 +3,17 @@ use mathlib.Core.Path.{_≡_}
 use mathlib.Core.Bool.{true}
 use mathlib.Core.List.{List, [], _∷_}
 use mathlib.Core.Option.{none}
-use Prim.Native.Nat.{ℕ, _^_, _≤_}
+use Prim.Native.Nat.{ℕ, _≤_}
+use Rattle.source.specs.Totals.{mostJumped}
 use Rattle.trace.specs.Contents.{labelOk}
 use Rattle.table.specs.Decimal.{decimal, signed}
 use Rattle.table.specs.Field.{asField, line}
 use Rattle.table.specs.Lines.{rowFault, rowBytes}
-use Rattle.demands.specs.Calls.{Packet, arrivals, run, Described}
+use Rattle.demands.specs.Calls.{TruePacket, arrivals, run, Described}
 use Rattle.demands.specs.Count.{highestOf, duplicatesOf, tally, lostOf}
 
 -- the texts of a row's numbers, from the count over a list of arrivals
-abbrev pub countTexts : ℕ → List Packet → ℕ → List (List ℕ)
+abbrev pub countTexts : ℕ → List TruePacket → ℕ → List (List ℕ)
 countTexts ssrc ps jumped =
     decimal ssrc
     ∷ signed (highestOf ps)
@@ -26,10 +27,10 @@ countTexts ssrc ps jumped =
     ∷ []
 
 -- the row of the state at the end of a list of calls, with any label that a trace can have: it is not refused, and has the count's values
-pub record Row (ps : List Packet) (label : List ℕ) (ssrc jumped : ℕ) : Type 0 where
-  pub accepted : rowFault label (run ps) jumped ≡ none
-  pub bytes : rowBytes label ssrc (run ps) jumped ≡ line (asField label) (countTexts ssrc (arrivals ps) jumped)
+pub record Row (ps : List TruePacket) (label : List ℕ) (ssrc jumped : ℕ) : Type 0 where
+  pub accepted : rowFault label (record { source = run ps; jumped = jumped }) ≡ none
+  pub bytes : rowBytes label ssrc (record { source = run ps; jumped = jumped }) ≡ line (asField label) (countTexts ssrc (arrivals ps) jumped)
 
 abbrev pub RowCarriesCount : Type 0
 RowCarriesCount =
-    (ps : List Packet) → Described ps → (label : List ℕ) (ssrc jumped : ℕ) → labelOk label ≡ true → jumped ≤ 2 ^ 48 → Row ps label ssrc jumped
+    (ps : List TruePacket) → Described ps → (label : List ℕ) (ssrc jumped : ℕ) → labelOk label ≡ true → jumped ≤ mostJumped → Row ps label ssrc jumped

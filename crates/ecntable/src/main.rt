@@ -1,38 +1,28 @@
-// ecntable reads a trace on standard input and prints its table (document 01, "Table"). It only moves bytes: pieces of the trace in, rows out.
-// The crate `convert` says what each block does.
+// ecntable reads a trace on standard input and prints its table (document 01, "Table"). The crate `convert` says what each block does, and
+// `shell` moves the bytes.
+use answers::Refusal;
+use answers::Written;
 use convert::Begin;
 use convert::Run;
 use convert::Step;
-use libc::STDIN_FILENO;
+use libc::STDOUT_FILENO;
+use shell::failures::has_arguments;
+use shell::printing::Output;
+use shell::reading::Input;
+use shell::reading::Next;
 use table::write_head;
-use table::write_refused;
-use words::Refusal;
-use words::Written;
-ghost use Prim.Native.Nat.{_≤_, _<_};
-ghost use lib.ListN.{length};
 
-mod output;
+// Rows are printed when less room than this is left behind them. A row takes less: its label at most 1,006 bytes, its nine numbers at most 20
+// digits and a sign each, nine commas, CR and LF.
+const ROOM: usize = 2048;
 
-// The bytes of a block.
-const BLOCK: usize = 512;
-
-// How far the run has come: the number of the next block, the bytes kept in the output, and whether to go on.
+// How far the run has come: the number of the next block, what is read and not taken yet, the lines that are kept, and whether to go on.
 struct Progress {
     run: Run,
     block: u64,
-    used: usize,
+    input: Input,
+    out: Output,
     going: bool,
-}
-
-// Prints the line of a refused block behind the rows that are kept.
-fn refuse(refusal: Refusal, block: u64, out: &mut [u8], used: usize)
-    requires { ⌜ used ≤ length (now out) ⌝ }
-{
-    if output::flush(out, used) {
-        if let Written::Length(n) = write_refused(refusal, block, out) {
-            output::flush(out, n);
-        }
-    }
 }
 
 // The number of the block behind one. (The greatest number stays.)
@@ -43,117 +33,127 @@ fn number_after(block: u64) -> u64 {
     block + 1
 }
 
-// Takes one block: its row is kept in the output, or the run ends.
-fn take_block(p: Progress, first: &[u8], block: &[u8], out: &mut [u8]) -> Progress
-    requires { ⌜ p .used ≤ length (now out) ⌝ }
-    ensures { λ r. ⌜ r .used ≤ length (now (out .exit)) ⌝ }
-{
+// The end of the run, with what is then kept.
+fn ended(p: Progress, out: Output) -> Progress {
+    let mut last = p;
+    last.out = out;
+    last.going = false;
+    last
+}
+
+// Takes one block: its row is kept, or the line that it is refused, with which the run ends. So it does where printing has failed.
+fn take_block(
+    p: Progress,
+    rest: Input,
+    name: &[u8],
+    first: &[u8],
+    block: &[u8],
+    lines: &mut [u8],
+) -> Progress {
     let run = p.run;
-    let room = output::with_room(out, p.used);
-    let used = room.used;
-    if !room.ok {
-        return Progress {
-            run,
-            block: p.block,
-            used: 0,
-            going: false,
-        };
-    }
-    match run.block(first, block, &mut out[used..]) {
+    let kept = p.out;
+    let out = kept.with_room(ROOM, name, lines);
+    let used = out.used;
+    match run.block(first, block, &mut lines[used..]) {
         Step::Taken(next, n) => Progress {
             run: next,
             block: number_after(p.block),
-            used: used + n,
-            going: true,
+            input: rest,
+            out: out.with_kept(n, lines),
+            going: !out.failed,
         },
-        Step::Refused(refusal, same) => {
-            refuse(refusal, p.block, out, used);
-            Progress {
-                run: same,
-                block: p.block,
-                used: 0,
-                going: false,
-            }
-        }
+        Step::Refused(refusal, _) => ended(p, out.with_refused(refusal, p.block, name, lines)),
     }
 }
 
-// Takes the blocks of one piece of the trace in turn.
-fn take_piece(start: Progress, first: &[u8], piece: &[u8], out: &mut [u8]) -> Progress
-    requires { ⌜ start .used ≤ length (now out) ⌝ }
-    ensures { λ r. ⌜ r .used ≤ length (now (out .exit)) ⌝ }
-{
-    let mut p = start;
-    let mut at = 0;
-    while at < piece.len() {
-        if !p.going {
-            return p;
-        }
-        let end = block_end(at, piece.len());
-        p = take_block(p, first, &piece[at..end], out);
-        at = end;
+// Takes the next block. One that could not be read is not a whole block.
+fn take_next(
+    p: Progress,
+    name: &[u8],
+    first: &[u8],
+    pieces: &mut [u8],
+    lines: &mut [u8],
+) -> Progress {
+    let input = p.input;
+    let out = p.out;
+    match input.next(name, pieces) {
+        Next::Block { from, to, rest } => take_block(
+            p,
+            rest,
+            name,
+            first,
+            &pieces[from..to],
+            lines,
+        ),
+        Next::End => ended(p, out),
+        Next::Failed => ended(
+            p,
+            out.with_refused(Refusal::Incomplete, p.block, name, lines),
+        ),
     }
-    p
 }
 
-// Where the block from `at` on ends in a piece of `n` bytes.
-fn block_end(at: usize, n: usize) -> usize
-    requires { ⌜ at < n ⌝ }
-    ensures { λ r. ⌜ (at < r) × (r ≤ n) ⌝ }
-{
-    if n - at < BLOCK {
-        return n;
-    }
-    at + BLOCK
-}
-
-// Takes the trace behind block 0 to its end, and prints what is kept.
-fn take_rest(start: Progress, first: &[u8], input: &mut [u8], out: &mut [u8])
-    requires { ⌜ start .used ≤ length (now out) ⌝ }
-{
+// Takes the blocks behind block 0 to the end of the run.
+fn take_rest(
+    start: Progress,
+    name: &[u8],
+    first: &[u8],
+    pieces: &mut [u8],
+    lines: &mut [u8],
+) -> Output {
     let mut p = start;
     let mut turns: u64 = 0xffff_ffff_ffff_ffff;
-    let from = 0;
     while 0 < turns {
-        let n = io::read_full(STDIN_FILENO, input);
-        if n == 0 {
-            output::flush(out, p.used);
-            return;
-        }
-        p = take_piece(p, first, &input[from..n], out);
         if !p.going {
-            return;
+            return p.out;
         }
+        p = take_next(p, name, first, pieces, lines);
         turns -= 1;
     }
+    p.out
 }
 
-// Prints the head line and the rows.
-fn convert_all(first: &mut [u8], input: &mut [u8], out: &mut [u8]) {
-    let from = 0;
-    let Written::Length(used) = write_head(out) else {
-        return;
+// Takes block 0, which stays in a buffer of its own, and the blocks behind it.
+fn take_all(
+    out: Output,
+    name: &[u8],
+    first: &mut [u8],
+    pieces: &mut [u8],
+    lines: &mut [u8],
+) -> Output {
+    let Next::Block { from, to, rest } = Input::begin(name, first) else {
+        return out.with_refused(Refusal::Incomplete, 0, name, lines);
     };
-    let n = io::read_full(STDIN_FILENO, first);
-    match Run::start(&first[from..n]) {
+    match Run::start(&first[from..to]) {
         Begin::Started(run) => {
             let start = Progress {
                 run,
                 block: 1,
-                used,
+                input: rest,
+                out,
                 going: true,
             };
-            take_rest(start, first, input, out);
+            take_rest(start, name, first, pieces, lines)
         }
-        Begin::Refused(refusal) => {
-            refuse(refusal, 0, out, used);
-        }
+        Begin::Refused(refusal) => out.with_refused(refusal, 0, name, lines),
     }
 }
 
+// Prints the head line and the rows.
+fn convert_all(name: &[u8], first: &mut [u8], pieces: &mut [u8], lines: &mut [u8]) {
+    let Written::Length(n) = write_head(lines) else {
+        return;
+    };
+    let head = Output::new(STDOUT_FILENO).with_kept(n, lines);
+    take_all(head, name, first, pieces, lines).flushed(name, lines);
+}
+
 fn main() {
+    if has_arguments(b"usage: ecntable <TRACE >TABLE\n") {
+        return;
+    }
     let mut first = [0u8; 512];
-    let mut input = io::large_buffer();
-    let mut out = io::large_buffer();
-    convert_all(&mut first, &mut input, &mut out);
+    let mut pieces = io::large_buffer();
+    let mut lines = io::large_buffer();
+    convert_all(b"ecntable", &mut first, &mut pieces, &mut lines);
 }

@@ -7,7 +7,7 @@ use native.Mathlib.Numerals.{add-one}
 use native.Mathlib.Omega.{arith}
 use lib.ListN.{length, drop, take, getD, set}
 use lib.Seq.{sets, drop-cons, getD-drop, drop-drop, take-suc-set, append-snoc}
-use Rattle.words.proofs.Stores.{sets-turn}
+use Rattle.answers.proofs.Stores.{sets-turn}
 use Rattle.breaker.specs.declared.Interval.{Interval}
 use Rattle.breaker.specs.declared.Breaker.{Breaker}
 use Rattle.breaker.specs.Windows.{zeroInterval}

@@ -5,7 +5,7 @@ use Prim.Native.Nat.{ℕ, _+_}
 use native.Mathlib.Omega.{arith}
 use lib.ListN.{length, length-append}
 use lib.Seq.{sets}
-use Rattle.words.proofs.Stores.{sets-append}
+use Rattle.answers.proofs.Stores.{sets-append}
 use Rattle.rtcp.specs.declared.MaybeReport.{MaybeReport}
 use Rattle.rtcp.specs.declared.MaybeFeedback.{MaybeFeedback}
 use Rattle.rtcp.specs.declared.MaybeSummary.{MaybeSummary}

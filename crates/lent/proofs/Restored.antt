@@ -9,8 +9,8 @@ use borrow.Author.Tests.{leb-true, ltb-true, lt-ltb}
 use lib.Dec.{leb, ltb, eqb}
 use lib.ListN.{length, length-drop, drop, getD}
 use lib.Seq.{drop-cons}
-use Rattle.words.specs.Conditions.{all}
-use Rattle.words.proofs.Conditions.{all-true}
+use Rattle.answers.specs.Conditions.{all}
+use Rattle.answers.proofs.Conditions.{all-true}
 use Rattle.breaker.specs.declared.Reason.the-variants.{Timeout, Media, Congestion}
 use Rattle.breaker.specs.declared.State.{State}
 use Rattle.breaker.specs.declared.State.the-variants.{Running, Stopped}

@@ -9,10 +9,10 @@ use lib.Dec.{leb→le, ltb→lt}
 use lib.IntN.{ℤ, pos, negsuc}
 use lib.ListN.{length, getD, drop, drop-of-length-le}
 use lib.Seq.{drop-cons}
-use Rattle.words.specs.Integers.{modulo}
-use Rattle.words.specs.Since.{signed}
-use Rattle.words.proofs.Integers.{minus-neg}
-use Rattle.words.proofs.Differences.{signed-low, signed-high}
+use Rattle.numbers.specs.Integers.{modulo}
+use Rattle.numbers.specs.Since.{signed}
+use Rattle.numbers.proofs.Integers.{minus-neg}
+use Rattle.numbers.proofs.Differences.{signed-low, signed-high}
 use Rattle.lent.specs.SourceWords.{sourceOf, sourceWords, FitsWord, RecordBack, WordsBack}
 
 -- ---- two's complement

@@ -2,8 +2,8 @@
 use mathlib.Core.List.{List, [], _∷_, _++_}
 use Prim.Native.Nat.{ℕ, _^_}
 use lib.ListN.{replicate}
-use Rattle.words.specs.Integers.{modulo}
-use Rattle.report.specs.declared.Counts.{Counts}
+use Rattle.numbers.specs.Integers.{modulo}
+use Rattle.format.specs.declared.Counts.{Counts}
 use Rattle.rtcp.specs.declared.MaybeReport.{MaybeReport}
 use Rattle.rtcp.specs.declared.MaybeFeedback.{MaybeFeedback}
 use Rattle.rtcp.specs.declared.MaybeSummary.{MaybeSummary}

@@ -6,8 +6,8 @@ use Prim.Native.Nat.{ℕ, _^_, _<_}
 use lib.IntN.{ℤ, pos, negℤ}
 use lib.ListN.{length, getD}
 use lib.Signed.{_≤ℤ_, _<ℤ_}
-use Rattle.words.specs.Integers.{modulo}
-use Rattle.words.specs.Since.{signed}
+use Rattle.numbers.specs.Integers.{modulo}
+use Rattle.numbers.specs.Since.{signed}
 use Rattle.source.specs.declared.Source.{Source}
 
 -- the record in the first 9 words; a word past the end counts as 0

@@ -3,8 +3,8 @@ ghost use mathlib.Core.Path.{_≡_};
 ghost use Prim.Native.Nat.{_+_, _≤_, _^_};
 ghost use lib.ListN.{length, getD, set};
 ghost use lib.Seq.{sets};
-ghost use Rattle.words.specs.Integers.{modulo};
-ghost use Rattle.words.specs.Since.{signed};
+ghost use Rattle.numbers.specs.Integers.{modulo};
+ghost use Rattle.numbers.specs.Since.{signed};
 
 // The word at `at`.
 pub fn word_at(words: &[u64], at: usize) -> u64

@@ -2,7 +2,7 @@
 ghost use mathlib.Core.Path.{_≡_};
 ghost use lib.ListN.{drop};
 ghost use lib.Seq.{sets};
-ghost use Rattle.words.specs.Conditions.{all};
+ghost use Rattle.answers.specs.Conditions.{all};
 ghost use Rattle.lent.specs.BreakerWords.{stateNumber, stateOf, intervalWords, intervalsOf, breakerWords, settingsOf, windowOf, breakerOf, wordsFit, loaded};
 use crate::access::put;
 use crate::access::put_all;

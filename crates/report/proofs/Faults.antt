@@ -4,10 +4,10 @@ use mathlib.Core.Bool.{Bool, true, false, cond}
 use mathlib.Core.Option.{none, some}
 use Prim.Native.Nat.{ℕ}
 use native.Mathlib.Omega.{arith}
-use Rattle.words.specs.declared.Refusal.the-variants as refusal
+use Rattle.answers.specs.declared.Refusal.the-variants as refusal
 use Rattle.source.specs.declared.Source.{Source}
 use Rattle.source.specs.Record.{sound}
-use Rattle.report.specs.declared.Counts.{Counts}
+use Rattle.format.specs.declared.Counts.{Counts}
 use Rattle.report.specs.declared.carried.Carried.the-variants.{Fields, Malformed}
 use Rattle.report.specs.Carried.{highestOf, countsOf, carriedOf}
 use Rattle.report.specs.Reports.{fault}

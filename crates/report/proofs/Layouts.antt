@@ -7,10 +7,10 @@ use native.Mathlib.Omega.{arith}
 use lib.Arith.{digits-div, digits-mod}
 use lib.ListN.{length, getD, drop, drop-of-length-le}
 use lib.Seq.{sets, drop-cons}
-use Rattle.words.specs.BigEndian.{bytes}
-use Rattle.words.proofs.BigEndian.{bytes-add, bytes-mod, length-bytes}
-use Rattle.words.proofs.Stores.{sets-step}
-use Rattle.report.specs.declared.Counts.{Counts}
+use Rattle.numbers.specs.BigEndian.{bytes}
+use Rattle.numbers.proofs.BigEndian.{bytes-add, bytes-mod, length-bytes}
+use Rattle.answers.proofs.Stores.{sets-step}
+use Rattle.format.specs.declared.Counts.{Counts}
 use Rattle.report.specs.Reports.{countsBytes, feedbackOf, summaryOf, wordsBytes}
 
 -- two 16-bit fields in one word

@@ -2,10 +2,10 @@
 -- duplicates modulo 65,536.
 use Prim.Native.Nat.{ℕ, _%_, _^_}
 use mathlib.Core.Bool.{cond}
-use Rattle.words.specs.Integers.{modulo}
+use Rattle.numbers.specs.Integers.{modulo}
 use Rattle.source.specs.declared.Source.{Source}
 use Rattle.source.specs.Record.{lost, sound}
-use Rattle.report.specs.declared.Counts.{Counts}
+use Rattle.format.specs.declared.Counts.{Counts}
 use Rattle.report.specs.declared.carried.Carried.{Carried}
 use Rattle.report.specs.declared.carried.Carried.the-variants.{Fields, Malformed}
 

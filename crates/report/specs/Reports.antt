@@ -3,12 +3,12 @@ use Prim.Native.Nat.{ℕ, _+_, _*_}
 use mathlib.Core.Bool.{cond}
 use mathlib.Core.List.{List, [], _∷_, _++_}
 use mathlib.Core.Option.{Option, none, some}
-use Rattle.words.specs.BigEndian.{bytes}
-use Rattle.words.specs.declared.Refusal.{Refusal}
-use Rattle.words.specs.declared.Refusal.the-variants.{Malformed}
+use Rattle.numbers.specs.BigEndian.{bytes}
+use Rattle.answers.specs.declared.Refusal.{Refusal}
+use Rattle.answers.specs.declared.Refusal.the-variants.{Malformed}
 use Rattle.source.specs.declared.Source.{Source}
 use Rattle.source.specs.Record.{sound}
-use Rattle.report.specs.declared.Counts.{Counts}
+use Rattle.format.specs.declared.Counts.{Counts}
 use Rattle.report.specs.Carried.{highestOf, countsOf}
 
 -- the counters as both reports have them: ECT(0) and ECT(1) in 32 bits; CE, not-ECT, lost and duplicates in 16

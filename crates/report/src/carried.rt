@@ -1,9 +1,9 @@
 // What a report carries of a record.
-use crate::Counts;
+use format::Counts;
+use numbers::sign::low16;
+use numbers::sign::low32;
 use source::Lost;
 use source::Source;
-use words::sign::low16;
-use words::sign::low32;
 ghost use mathlib.Core.Path.{_≡_};
 ghost use Rattle.source.specs.Record as Record;
 ghost use Rattle.report.specs.Carried.{countsOf, carriedOf};

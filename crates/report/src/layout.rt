@@ -1,14 +1,14 @@
 // The reports as 32-bit words.
-use crate::Counts;
-use words::Refusal;
-use words::Written;
-use words::big_endian::write32;
+use answers::Refusal;
+use answers::Written;
+use format::Counts;
+use numbers::big_endian::write32;
 ghost use mathlib.Core.Path.{_≡_};
 ghost use mathlib.Core.Option.{none};
 ghost use Prim.Native.Nat.{_+_, _*_, _≤_};
 ghost use lib.ListN.{length};
 ghost use lib.Seq.{sets};
-ghost use Rattle.words.specs.Writers.{written, stored};
+ghost use Rattle.answers.specs.Writers.{Wrote};
 ghost use Rattle.report.specs.Reports.{feedbackOf, summaryOf, wordsBytes};
 
 // Two 16-bit fields in one word.
@@ -38,8 +38,7 @@ const SUMMARY: u32 = 0x0D00_0005;
 
 // Writes the feedback packet.
 pub fn feedback(sender: u32, media: u32, highest: u32, c: Counts, out: &mut [u8]) -> Written
-    ensures { λ r. ⌜ r ≡ written none (feedbackOf sender media highest c) (now (out .entry)) ⌝ }
-    ensures { λ _. ⌜ now (out .exit) ≡ stored none (feedbackOf sender media highest c) (now (out .entry)) ⌝ }
+    ensures { λ r. ⌜ Wrote none (feedbackOf sender media highest c) (now (out .entry)) r (now (out .exit)) ⌝ }
 {
     if out.len() < 32 {
         return Written::Refused(Refusal::Room);
@@ -62,8 +61,7 @@ pub fn feedback(sender: u32, media: u32, highest: u32, c: Counts, out: &mut [u8]
 
 // Writes the summary block.
 pub fn summary(media: u32, c: Counts, out: &mut [u8]) -> Written
-    ensures { λ r. ⌜ r ≡ written none (summaryOf media c) (now (out .entry)) ⌝ }
-    ensures { λ _. ⌜ now (out .exit) ≡ stored none (summaryOf media c) (now (out .entry)) ⌝ }
+    ensures { λ r. ⌜ Wrote none (summaryOf media c) (now (out .entry)) r (now (out .exit)) ⌝ }
 {
     if out.len() < 24 {
         return Written::Refused(Refusal::Room);

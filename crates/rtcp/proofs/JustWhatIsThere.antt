@@ -9,11 +9,11 @@ use native.Mathlib.Omega.{arith}
 use borrow.Author.Tests.{eqb-true, eqb-false, eq-eqb, ltb-false}
 use lib.Dec.{ltb, eqb}
 use lib.ListN.{length, getD}
-use Rattle.words.specs.BigEndian.{word}
-use Rattle.words.specs.declared.Refusal.{Refusal}
-use Rattle.words.specs.declared.Refusal.the-variants.{BlockSize}
-use Rattle.words.proofs.Conditions.{and-left, and-right}
-use Rattle.report.specs.declared.Counts.{Counts}
+use Rattle.numbers.specs.BigEndian.{word}
+use Rattle.answers.specs.declared.Refusal.{Refusal}
+use Rattle.answers.specs.declared.Refusal.the-variants.{BlockSize}
+use Rattle.answers.proofs.Conditions.{and-left, and-right}
+use Rattle.format.specs.declared.Counts.{Counts}
 use Rattle.rtcp.specs.declared.ReportBlock.{ReportBlock}
 use Rattle.rtcp.specs.declared.Feedback.{Feedback}
 use Rattle.rtcp.specs.declared.MaybeReport.{MaybeReport}

@@ -6,7 +6,7 @@ use lib.IntN.{ℤ, pos, negsuc, _-ℤ_}
 use mir.Syntax.{w32}
 use mir.Val.{SFits, toZ, ofZ}
 use mir.ValLaws.{toZ-pos, toZ-ofZ}
-use Rattle.words.proofs.Integers.{minus-neg}
+use Rattle.numbers.proofs.Integers.{minus-neg}
 
 module _ (m n : ℕ) (lt : n < m) (most : m ≤ 2147483648) where
   below : toZ w32 n -ℤ pos m ≡ negsuc (m - suc n)

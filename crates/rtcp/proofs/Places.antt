@@ -7,7 +7,7 @@ use native.Mathlib.Nat.{mul-suc, mul-le-mul-left}
 use native.Mathlib.Omega.{arith}
 use borrow.Author.Tests.{eq-eqb, ne-eqb, eqb-true, eqb-false}
 use lib.Dec.{eqb}
-use Rattle.words.specs.BigEndian.{word}
+use Rattle.numbers.specs.BigEndian.{word}
 use Rattle.rtcp.specs.declared.Place.{Place}
 use Rattle.rtcp.specs.Entries.{entryFor}
 use Rattle.rtcp.specs.Present.{Entry}

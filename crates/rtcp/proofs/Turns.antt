@@ -4,8 +4,8 @@ use mathlib.Core.Path.{_≡_}
 use mathlib.Core.List.{List}
 use borrow.Author.Tests.{lt-ltb, le-ltb, eq-eqb, ne-eqb}
 use lib.Dec.{eqb}
-use Rattle.words.specs.declared.Refusal.{Refusal}
-use Rattle.words.specs.declared.Refusal.the-variants.{BlockSize}
+use Rattle.answers.specs.declared.Refusal.{Refusal}
+use Rattle.answers.specs.declared.Refusal.the-variants.{BlockSize}
 use Rattle.rtcp.specs.declared.Compound.{Compound}
 use Rattle.rtcp.specs.declared.Reading.{Reading}
 use Rattle.rtcp.specs.declared.Verdict.{Verdict}

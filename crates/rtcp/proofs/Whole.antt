@@ -8,8 +8,8 @@ use native.Mathlib.Omega.{arith}
 use borrow.Author.Tests.{leb-true, eqb-true}
 use lib.Dec.{leb, eqb}
 use lib.ListN.{length}
-use Rattle.words.specs.Conditions.{all}
-use Rattle.words.proofs.Conditions.{cond-ends, all-true, and-left, and-right}
+use Rattle.answers.specs.Conditions.{all}
+use Rattle.answers.proofs.Conditions.{cond-ends, all-true, and-left, and-right}
 use Rattle.rtcp.specs.declared.Verdict.{Verdict}
 use Rattle.rtcp.specs.Layout.{sr, rr, rtpfb, ecnFeedback, reportSize, feedbackSize}
 use Rattle.rtcp.specs.Header.{padded, count, kind, size, padding}

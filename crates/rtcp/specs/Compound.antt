@@ -4,7 +4,7 @@ use mathlib.Core.Bool.{cond}
 use mathlib.Core.List.{List, [], _∷_}
 use lib.Dec.{ltb, leb, eqb}
 use lib.ListN.{length}
-use Rattle.words.specs.declared.Refusal.the-variants.{Incomplete, BlockSize, Limits}
+use Rattle.answers.specs.declared.Refusal.the-variants.{Incomplete, BlockSize, Limits}
 use Rattle.rtcp.specs.declared.MaybeReport.{MaybeReport}
 use Rattle.rtcp.specs.declared.MaybeFeedback.{MaybeFeedback}
 use Rattle.rtcp.specs.declared.MaybeSummary.{MaybeSummary}

@@ -4,8 +4,8 @@ use mathlib.Core.Bool.{Bool, cond, _&&_}
 use mathlib.Core.List.{List}
 use lib.Dec.{eqb}
 use lib.ListN.{getD}
-use Rattle.words.specs.BigEndian.{word}
-use Rattle.report.specs.declared.Counts.{Counts}
+use Rattle.numbers.specs.BigEndian.{word}
+use Rattle.format.specs.declared.Counts.{Counts}
 use Rattle.rtcp.specs.declared.Feedback.{Feedback}
 use Rattle.rtcp.specs.declared.MaybeFeedback.{MaybeFeedback}
 use Rattle.rtcp.specs.declared.MaybeSummary.{MaybeSummary}

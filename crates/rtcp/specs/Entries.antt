@@ -3,7 +3,7 @@ use Prim.Native.Nat.{ℕ, zero, suc, _+_}
 use mathlib.Core.Bool.{cond}
 use mathlib.Core.List.{List}
 use lib.Dec.{eqb}
-use Rattle.words.specs.BigEndian.{word}
+use Rattle.numbers.specs.BigEndian.{word}
 use Rattle.rtcp.specs.declared.Place.{Place}
 
 -- where the first of `count` entries of `size` bytes from `at` on stands that is about `media`

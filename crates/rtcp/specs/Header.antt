@@ -4,7 +4,7 @@ use mathlib.Core.Bool.{Bool, cond}
 use mathlib.Core.List.{List}
 use lib.Dec.{eqb}
 use lib.ListN.{getD}
-use Rattle.words.specs.BigEndian.{word}
+use Rattle.numbers.specs.BigEndian.{word}
 
 module _ (b : List ℕ) (at : ℕ) where
   -- 2 bits

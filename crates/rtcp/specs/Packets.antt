@@ -5,9 +5,9 @@ use mathlib.Core.Bool.{Bool, true, cond, _&&_, _||_, not}
 use mathlib.Core.List.{List, [], _∷_}
 use lib.Dec.{leb, eqb}
 use lib.ListN.{length}
-use Rattle.words.specs.Conditions.{all}
-use Rattle.words.specs.declared.Refusal.{Refusal}
-use Rattle.words.specs.declared.Refusal.the-variants.{Incomplete, Version, FirstPacket, PacketSize, Padding}
+use Rattle.answers.specs.Conditions.{all}
+use Rattle.answers.specs.declared.Refusal.{Refusal}
+use Rattle.answers.specs.declared.Refusal.the-variants.{Incomplete, Version, FirstPacket, PacketSize, Padding}
 use Rattle.rtcp.specs.declared.Verdict.{Verdict}
 use Rattle.rtcp.specs.Layout.{sr, rr, rtpfb, xr, ecnFeedback, header, srHead, rrHead, xrHead, reportSize, feedbackSize}
 use Rattle.rtcp.specs.Header.{version, padded, count, kind, size, padding}

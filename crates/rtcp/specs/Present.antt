@@ -6,8 +6,8 @@ use mathlib.Core.Option.{Option, none, some}
 use mathlib.Core.Logic.{_⊎_}
 use mathlib.Core.List.{List}
 use lib.ListN.{length, getD}
-use Rattle.words.specs.BigEndian.{word}
-use Rattle.report.specs.declared.Counts.{Counts}
+use Rattle.numbers.specs.BigEndian.{word}
+use Rattle.format.specs.declared.Counts.{Counts}
 use Rattle.rtcp.specs.declared.ReportBlock.{ReportBlock}
 use Rattle.rtcp.specs.declared.Feedback.{Feedback}
 use Rattle.rtcp.specs.declared.MaybeReport.{MaybeReport}

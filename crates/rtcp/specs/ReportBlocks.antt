@@ -3,8 +3,8 @@ use Prim.Native.Nat.{ℕ, _+_}
 use mathlib.Core.Bool.{cond}
 use mathlib.Core.List.{List}
 use lib.ListN.{getD}
-use Rattle.words.specs.BigEndian.{word}
-use Rattle.words.specs.Since.{signed}
+use Rattle.numbers.specs.BigEndian.{word}
+use Rattle.numbers.specs.Since.{signed}
 use Rattle.rtcp.specs.declared.ReportBlock.{ReportBlock}
 use Rattle.rtcp.specs.declared.MaybeReport.{MaybeReport}
 use Rattle.rtcp.specs.declared.Place.{Place}

@@ -16,9 +16,9 @@ use crate::layout::HEADER;
 use crate::layout::SUMMARY_ENTRY;
 use crate::layout::SUMMARY_WORDS;
 use crate::packet::is_feedback;
-use report::Counts;
-use words::big_endian::read16;
-use words::big_endian::read32;
+use format::Counts;
+use numbers::big_endian::read16;
+use numbers::big_endian::read32;
 
 // The counters in the 16 bytes from `at` on.
 fn counts_at(b: &[u8], at: usize) -> Counts

@@ -4,7 +4,7 @@ ghost use Prim.Native.Nat.{_+_, _*_, _≤_};
 ghost use lib.ListN.{length};
 ghost use Rattle.rtcp.specs.Entries.{entryFor};
 use crate::Place;
-use words::big_endian::read32;
+use numbers::big_endian::read32;
 
 // The first of `count` entries of `size` bytes from `from` on that is about `media`.
 pub fn find_entry(b: &[u8], from: usize, size: usize, count: usize, media: u32) -> Place

@@ -3,7 +3,7 @@ ghost use mathlib.Core.Path.{_≡_};
 ghost use Prim.Native.Nat.{_≤_};
 ghost use lib.ListN.{length, getD};
 ghost use Rattle.rtcp.specs.Header.{version, padded, count, kind, size, padding};
-use words::big_endian::read16;
+use numbers::big_endian::read16;
 
 // The byte at i, or 0 past the end.
 pub fn byte_at(b: &[u8], i: usize) -> u8

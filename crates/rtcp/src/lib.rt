@@ -11,8 +11,8 @@ use crate::layout::COMPOUND_MOST;
 use crate::layout::XR;
 use crate::layout::XR_HEAD;
 use crate::packet::packet_verdict;
-use report::Counts;
-use words::Refusal;
+use answers::Refusal;
+use format::Counts;
 
 mod ecn;
 mod entries;

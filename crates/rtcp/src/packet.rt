@@ -23,7 +23,7 @@ use crate::layout::SR_HEAD;
 use crate::layout::VERSION;
 use crate::layout::XR;
 use crate::layout::XR_HEAD;
-use words::Refusal;
+use answers::Refusal;
 
 // Whether the packet at `at` is an SR or an RR.
 pub fn is_report(b: &[u8], at: usize) -> bool

@@ -2,8 +2,8 @@
 ghost use mathlib.Core.Path.{_≡_};
 ghost use Prim.Native.Nat.{_+_, _≤_};
 ghost use lib.ListN.{length};
-ghost use Rattle.words.specs.BigEndian.{word};
-ghost use Rattle.words.specs.Since.{signed};
+ghost use Rattle.numbers.specs.BigEndian.{word};
+ghost use Rattle.numbers.specs.Since.{signed};
 ghost use Rattle.rtcp.specs.Packets.{Sound};
 ghost use Rattle.rtcp.specs.ReportBlocks.{reportBlock, reportIn};
 use crate::MaybeReport;
@@ -15,8 +15,8 @@ use crate::header::count_at;
 use crate::layout::REPORT_BLOCK;
 use crate::packet::blocks_from;
 use crate::packet::is_report;
-use words::big_endian::read16;
-use words::big_endian::read32;
+use numbers::big_endian::read16;
+use numbers::big_endian::read32;
 
 // The signed number in the three bytes from `at` on.
 fn signed24(b: &[u8], at: usize) -> i32

@@ -1,7 +1,9 @@
 // Text and numbers on standard output, for the test programs. No contract can say what a program prints; each
 // program's output is compared with its file `stdout`.
+use answers::Refusal;
+use answers::Written;
 use libc::STDOUT_FILENO;
-use words::sign::magnitude;
+use numbers::sign::magnitude;
 
 // The bytes of s.
 pub fn text(s: &[u8]) {
@@ -33,4 +35,38 @@ pub fn hex(n: u64, width: usize) {
 // The end of a line.
 pub fn end() {
     text(b"\n");
+}
+
+// A byte as two hexadecimal digits.
+fn byte(b: u8) {
+    io::print_hex(STDOUT_FILENO, b as u64, 2);
+}
+
+// The bytes of s in hexadecimal, a space before each four.
+pub fn bytes(s: &[u8]) {
+    let mut i = 0;
+    while i < s.len() {
+        if i % 4 == 0 {
+            text(b" ");
+        }
+        byte(s[i]);
+        i += 1;
+    }
+}
+
+// A refusal with its number.
+pub fn refused(refusal: Refusal) {
+    text(b" refused");
+    number(refusal.number() as u64);
+}
+
+// A writer's answer.
+pub fn written(answer: Written) {
+    match answer {
+        Written::Length(n) => {
+            text(b" length");
+            number(n as u64);
+        }
+        Written::Refused(refusal) => refused(refusal),
+    }
 }

@@ -1,22 +1,24 @@
 -- What the tests on an arrival's distance choose for the tally. Assumes nothing.
-use mathlib.Core.Path.{_≡_, refl, sym, ap}
+use mathlib.Core.Path.{_≡_, refl, sym, ap, _∙_}
 use mathlib.Core.Bool.{Bool, cond}
 use Prim.Native.Nat.{ℕ, zero, suc, _+_, _-_, _*_, _%_, _^_, _≤_, _<_}
 use native.Mathlib.Nat.{add-zero}
 use native.Mathlib.Omega.{arith}
-use borrow.Author.Tests.{eq-eqb, ne-eqb, le-leb, lt-leb, le-ltb, lt-ltb}
+use borrow.Author.Tests.{eq-eqb, ne-eqb, lt-leb, le-ltb, lt-ltb}
 use native.Mathlib.Decide.{decLe}
 use lib.Dec.{ltb}
 use lib.IntN.{pos, _+ℤ_, +ℤ-idr}
-use Rattle.source.specs.declared.Wire.{Wire}
+use Rattle.format.specs.declared.Wire.{Wire}
 use Rattle.source.specs.declared.Extended.{Extended}
 use Rattle.source.specs.declared.History.{History}
+use Rattle.source.proofs.Reached.{reach-ahead, reach-level, reach-behind}
 use Rattle.source.proofs.Shifts.{moved-none}
+use Rattle.source.specs.declared.distances.Reach.{Reach}
 use Rattle.source.specs.declared.tallies.Tally.{Tally}
 use Rattle.source.specs.Places.{bit, history, marks, moved, added}
-use Rattle.source.specs.Arrivals as spec
-use Rattle.source.specs.Arrivals.{extended}
-use Rattle.source.specs.Tallied.{raised, ahead, behind, jumped, takenBy, taken}
+use Rattle.source.specs.Distances.{reachOf}
+use Rattle.source.specs.Arrivals.{extended, distance}
+use Rattle.source.specs.Tallied.{raised, ahead, behind, takenBy, taken}
 
 -- tallies of equal parts
 pub raised-same : (t : Tally) {h h′ : Extended} {past past′ : History} {u u′ : ℕ} → h ≡ h′ → past ≡ past′ → u ≡ u′ → raised t h past u ≡ raised t h′ past′ u′
@@ -26,24 +28,10 @@ pub taken-full : (t : Tally) (wire : Wire) (mark : ℕ) → t .left ≡ 0 → t 
 unfolding taken
 taken-full t wire mark e = rw (eq-eqb (t .left) 0 e)
 
-module _ (t : Tally) (wire : Wire) (mark d : ℕ) (e : d ≡ spec.distance (t .highest) wire) (h : d < 65536) (l : 1 ≤ t .left) where
-  pub taken-by : takenBy t d mark ≡ taken t wire mark
-  unfolding taken
-  taken-by = rw (ne-eqb (t .left) 0 (λ z. omega arith), sym e)
-
-  pub taken-ahead : 1 ≤ d → d ≤ 2999 → ahead t d mark ≡ taken t wire mark
-  unfolding takenBy
-  taken-ahead p q = rw (le-leb 1 d p, le-leb d 2999 q) at taken-by
-
-  pub taken-behind : 65437 ≤ d → behind t (65536 - d) mark ≡ taken t wire mark
-  unfolding takenBy
-  taken-behind p =
-      let k : (65536 - d) % 65536 ≡ 65536 - d = omega arith in
-      rw (le-leb 1 d (omega arith), lt-leb d 2999 (omega arith), ne-eqb d 0 (λ z. omega arith), le-leb 65437 d p, k) at taken-by
-
-  pub taken-jump : 2999 < d → d < 65437 → jumped t ≡ taken t wire mark
-  unfolding takenBy
-  taken-jump p q = rw (le-leb 1 d (omega arith), lt-leb d 2999 p, ne-eqb d 0 (λ z. omega arith), lt-leb 65437 d q) at taken-by
+pub taken-by : (t : Tally) (wire : Wire) (mark : ℕ) {d : ℕ} {r : Reach} → d ≡ distance (t .highest) wire → r ≡ reachOf d → 1 ≤ t .left
+    → takenBy t mark r ≡ taken t wire mark
+unfolding taken
+taken-by t wire mark e f l = rw (ne-eqb (t .left) 0 (λ z. omega arith), sym e) (ap (takenBy t mark) f)
 
 -- at most 63 numbers above or below the highest: by how many places the history moves, and which one is marked
 abbrev pub rises : ℕ → ℕ
@@ -69,14 +57,10 @@ module _ (t : Tally) (mark : ℕ) where
   unfolding ahead moved
   above d p = raised-same t refl refl (rw (lt-leb d 0 p) (add-zero (256 ^ mark)))
 
-  pub near-taken : (d : ℕ) → d < 65536 → (d + 63) % 65536 < 127 → nearBy t (rises d) (falls d) mark ≡ takenBy t d mark
-  unfolding takenBy
-  near-taken zero h n = level 0
+  pub near-taken : (d : ℕ) → d < 65536 → (d + 63) % 65536 < 127 → nearBy t (rises d) (falls d) mark ≡ takenBy t mark (reachOf d)
+  near-taken zero h n = level 0 ∙ ap (takenBy t mark) (sym reach-level)
   near-taken (suc e) h n = go (decLe (suc (suc e)) 64)
     where
-      go : Dec (suc e < 64) → nearBy t (rises (suc e)) (falls (suc e)) mark ≡ takenBy t (suc e) mark
-      go (yes l) = rw (lt-ltb (suc e) 64 l, le-leb 1 (suc e) (omega arith), le-leb (suc e) 2999 (omega arith)) (above (suc e) (omega arith))
-      go (no l) =
-          let k : (65536 - suc e) % 65536 ≡ 65536 - suc e = omega arith in
-          rw (le-ltb (suc e) 64 (omega arith), le-leb 1 (suc e) (omega arith), lt-leb (suc e) 2999 (omega arith), ne-eqb (suc e) 0 (λ z. omega arith), le-leb 65437 (suc e) (omega arith), k)
-          (level (65536 - suc e))
+      go : Dec (suc e < 64) → nearBy t (rises (suc e)) (falls (suc e)) mark ≡ takenBy t mark (reachOf (suc e))
+      go (yes l) = rw (lt-ltb (suc e) 64 l, reach-ahead (suc e) (omega arith) (omega arith)) (above (suc e) (omega arith))
+      go (no l) = rw (le-ltb (suc e) 64 (omega arith), reach-behind (suc e) (omega arith) h) (level (65536 - suc e))

@@ -4,22 +4,25 @@ use mathlib.Core.Bool.{Bool, true, false, not, or-true}
 use Prim.Native.Nat.{ℕ, zero, suc, _+_, _-_, _*_, _^_, _≤_, _<_}
 use native.Mathlib.Decide.{decLe}
 use native.Mathlib.Omega.{arith}
-use borrow.Author.Tests.{ne-eqb}
 use lib.Dec.{eqb, eqb→eq}
 use lib.IntN.{ℤ, pos, _+ℤ_, _-ℤ_}
-use Rattle.words.proofs.Integers.{modulo-lt}
+use Rattle.numbers.proofs.Integers.{modulo-lt}
 use Rattle.source.specs.declared.History.{History}
-use Rattle.source.specs.declared.Wire.{Wire}
+use Rattle.format.specs.declared.Wire.{Wire}
 use Rattle.source.specs.declared.Extended.{Extended}
 use Rattle.source.specs.declared.Source.{Source}
 use Rattle.source.specs.declared.Arrival.{Arrival}
+use Rattle.source.specs.declared.distances.Reach.{Reach}
+use Rattle.source.specs.declared.distances.Reach.the-variants as reach
 use Rattle.source.specs.Places.{bit, history, marks, moved, added}
+use Rattle.source.specs.Distances.{mostAhead, reachOf}
 use Rattle.source.specs.Record.{arrivals, sound}
-use Rattle.source.specs.Arrivals.{counted, first, ahead, behind, distance, later, arrival, after}
+use Rattle.source.specs.Arrivals.{counted, first, ahead, behind, distance, laterBy, arrival, after}
 use Rattle.source.specs.Theorems.{SoundStays}
 use Rattle.source.proofs.Rows.{bit-le, marked, marked-one, marked-moved, marked-added, pack-lt, marks-history, places-history, places-least}
-use Rattle.source.proofs.Facts.{Facts, facts, facts-count, counting-sound, sound-counting, fresh-is}
-use Rattle.source.proofs.Answers.{arrival-mark, arrival-full, arrival-first, arrival-later, later-ahead, later-level, later-behind, later-jump}
+use Rattle.source.proofs.Facts.{Facts, facts, facts-count, has-counted-sound, some-has-counted}
+use Rattle.source.proofs.Answers.{arrival-mark, arrival-full, arrival-first, arrival-later}
+use Rattle.source.proofs.Reached.{Within, within}
 
 -- a mark of at most 3 is counted once
 pub one-mark : (m : ℕ) → m ≤ 3 → bit (eqb m 0) + bit (eqb m 1) + bit (eqb m 2) + bit (eqb m 3) ≡ 1
@@ -42,7 +45,7 @@ module _ (s : Source) (mark : ℕ) (m : mark ≤ 3) where
 
   -- the record that an accepted arrival leaves has counted
   counted-facts : (low high : ℕ) (n : ℕ) (row : ℕ → Bool) → low ≤ 65535 → low ≤ high → arrivals s < 2 ^ 48 → n ≤ arrivals s → row 0 ≡ true
-      → marked 100 row ≤ arrivals s + 1 - n → high - low ≤ 2999 * (arrivals s + 1 - n - 1) → {b h : Extended} → b .0 ≡ pos low → h .0 ≡ pos high
+      → marked 100 row ≤ arrivals s + 1 - n → high - low ≤ mostAhead * (arrivals s + 1 - n - 1) → {b h : Extended} → b .0 ≡ pos low → h .0 ≡ pos high
       → Facts (counted s mark b h n (history row))
   unfolding counted
   counted-facts low high n row w o l d t p q {b} {h} eb eh =
@@ -70,7 +73,7 @@ module _ (s : Source) (mark : ℕ) (m : mark ≤ 3) where
       (let one = marked-one 100 (λ k. eqb k 0) (λ i k u v. eqb→eq i 0 u ∙ sym (eqb→eq k 0 v)) in omega arith) (omega arith) refl refl
 
   module _ (f : Facts s) (l : arrivals s < 2 ^ 48) where
-    ahead-facts : (d : ℕ) → 1 ≤ d → d ≤ 2999 → Facts (ahead s d mark)
+    ahead-facts : (d : ℕ) → 1 ≤ d → d ≤ mostAhead → Facts (ahead s d mark)
     unfolding ahead added
     ahead-facts d p q =
         let row : ℕ → Bool = moved d (marks (s .history)) in
@@ -89,25 +92,18 @@ module _ (s : Source) (mark : ℕ) (m : mark ≤ 3) where
 
 -- ---- the theorem
 
-pub distance-lt : (h : Extended) (wire : Wire) → distance h wire < 65536
+pub distance-lt : {d : ℕ} (h : Extended) (wire : Wire) → d ≡ distance h wire → d < 65536
 unfolding distance
-distance-lt h wire = modulo-lt 65536 (omega arith) (pos (wire .0) -ℤ h .0)
+distance-lt h wire e = rw e (modulo-lt 65536 (omega arith) (pos (wire .0) -ℤ h .0))
 
 module _ (s : Source) (mark : ℕ) (m : mark ≤ 3) (e : sound s ≡ true) (f : Facts s) (l : arrivals s < 2 ^ 48) where
   sound-of : (next : Source) → Facts next → sound next ≡ true
-  sound-of next g = counting-sound next (facts-count next g)
+  sound-of next g = has-counted-sound next (facts-count next g)
 
-  later-sound : (d : ℕ) → d < 65536 → sound (after (later s d mark)) ≡ true
-  later-sound zero h = ap (λ (a : Arrival). sound (after a)) (later-level s mark) ∙ sound-of (behind s 0 mark) (behind-facts s mark m f l 0)
-  later-sound (suc d) h = go (decLe (suc d) 2999) (decLe 65437 (suc d))
-    where
-      go : Dec (suc d ≤ 2999) → Dec (65437 ≤ suc d) → sound (after (later s (suc d) mark)) ≡ true
-      go (yes p) q =
-          ap (λ (a : Arrival). sound (after a)) (later-ahead s mark (suc d) (omega arith) p) ∙ sound-of (ahead s (suc d) mark) (ahead-facts s mark m f l (suc d) (omega arith) p)
-      go (no p) (yes q) =
-          ap (λ (a : Arrival). sound (after a)) (later-behind s mark (suc d) q h)
-          ∙ sound-of (behind s (65536 - suc d) mark) (behind-facts s mark m f l (65536 - suc d))
-      go (no p) (no q) = ap (λ (a : Arrival). sound (after a)) (later-jump s mark (suc d) (omega arith) (omega arith)) ∙ e
+  later-sound : (r : Reach) → Within r → sound (after (laterBy s mark r)) ≡ true
+  later-sound (reach.Ahead d) w = sound-of (ahead s d mark) (ahead-facts s mark m f l d (w .0) (w .1))
+  later-sound (reach.Behind k) w = sound-of (behind s k mark) (behind-facts s mark m f l k)
+  later-sound reach.Jump w = e
 
 pub sound-stays : SoundStays
 sound-stays s wire mark w e = go (decLe mark 3) (decLe (2 ^ 48) (arrivals s)) (decLe 1 (arrivals s))
@@ -120,8 +116,7 @@ sound-stays s wire mark w e = go (decLe mark 3) (decLe (2 ^ 48) (arrivals s)) (d
     go (yes m) (yes n) k = same (arrival-full s wire mark e m n) refl
     go (yes m) (no n) (no k) =
         ap (λ (a : Arrival). sound (after a)) (arrival-first s wire mark e m (omega arith))
-        ∙ counting-sound (first s wire mark) (facts-count (first s wire mark) (first-facts s mark m wire w (omega arith)))
+        ∙ has-counted-sound (first s wire mark) (facts-count (first s wire mark) (first-facts s mark m wire w (omega arith)))
     go (yes m) (no n) (yes k) =
-        let f = facts s (sound-counting s e (fresh-is s e ∙ ne-eqb (arrivals s) 0 (λ z. omega arith))) in
         ap (λ (a : Arrival). sound (after a)) (arrival-later s wire mark e m k (omega arith))
-        ∙ later-sound s mark m e f (omega arith) (distance (s .highest) wire) (distance-lt (s .highest) wire)
+        ∙ later-sound s mark m e (facts s (some-has-counted s e k)) (omega arith) (reachOf (distance (s .highest) wire)) (within (distance (s .highest) wire) (distance-lt (s .highest) wire refl) refl)

@@ -2,6 +2,7 @@
 pub mod Rows
 pub mod Shifts
 pub mod Facts
+pub mod Reached
 pub mod Answers
 pub mod Kept
 pub mod Packets
@@ -10,4 +11,5 @@ pub mod Simulated
 pub mod Chosen
 pub mod Turns
 pub mod Opened
+pub mod Totalled
 pub mod Losses

@@ -4,8 +4,8 @@ use mathlib.Core.Bool.{Bool, true, false, not, cond}
 use Prim.Native.Nat.{ℕ}
 use native.Mathlib.Omega.{arith}
 use lib.IntN.{ℤ}
-use Rattle.words.specs.declared.Refusal.{Refusal}
-use Rattle.words.specs.declared.Refusal.the-variants.{Malformed}
+use Rattle.answers.specs.declared.Refusal.{Refusal}
+use Rattle.answers.specs.declared.Refusal.the-variants.{Malformed}
 use Rattle.source.specs.declared.Lost.the-variants.{Packets, Refused}
 use Rattle.source.specs.declared.Source.{Source}
 use Rattle.source.specs.Record.{sound, lost, lostAnswer}

@@ -9,22 +9,21 @@ use lib.ListN.{length, drop}
 use Rattle.source.specs.declared.Source.{Source}
 use Rattle.source.specs.declared.Arrival.{Arrival}
 use Rattle.source.specs.declared.Arrival.the-variants.{Accepted}
-use Rattle.source.specs.declared.BlockCount.the-variants as block
-use Rattle.source.specs.Record.{fresh, sound, counting as hasCounted}
-use Rattle.source.specs.Arrivals.{first, behind, arrival, after}
-use Rattle.source.specs.Blocks.{Packet, packets, marksFit, jump, counting}
-use Rattle.source.proofs.Facts.{fresh-none, facts-count, counting-sound}
+use Rattle.source.specs.Record.{fresh, sound, hasCounted}
+use Rattle.source.specs.Arrivals.{first, arrival, after}
+use Rattle.source.specs.Blocks.{Packet, packets, marksFit, jump, countAll}
+use Rattle.source.proofs.Facts.{fresh-none, facts-count, has-counted-sound}
 use Rattle.source.proofs.Kept.{first-facts}
 use Rattle.source.proofs.Answers.{arrival-first}
 use Rattle.source.proofs.Packets.{packet, CountLeft, count-start, count-next, mark-here, Limits, one-at-least, whole-left, count-left, few-left}
 
--- what is left of a block behind its first record
+-- what is left of a block behind the record at its front
 pub record Rest (width : ℕ) (records part : List ℕ) (s state : Source) : Type 0 where
   pub has : hasCounted state ≡ true
   pub whole : length part % width ≡ 0
   pub few : length part / width ≤ 62
   pub fit : marksFit (packets width (length part / width) part) ≡ true
-  pub same : counting (packets width (length part / width) part) state 0 ≡ counting (packets width (length records / width) records) s 0
+  pub same : countAll (packets width (length part / width) part) state 0 ≡ countAll (packets width (length records / width) records) s 0
 
 module _ (width : ℕ) (records : List ℕ) (l : Limits width records) (s : Source) (e : sound s ≡ true) (f : fresh s ≡ true) where
   begin : CountLeft width records s 0 s 0
@@ -44,7 +43,7 @@ module _ (width : ℕ) (records : List ℕ) (l : Limits width records) (s : Sour
     has = facts-count (first s (p .wire) (p .mark)) (first-facts s (p .mark) low (p .wire) w (fresh-none s f))
 
     good : sound (first s (p .wire) (p .mark)) ≡ true
-    good = counting-sound (first s (p .wire) (p .mark)) has
+    good = has-counted-sound (first s (p .wire) (p .mark)) has
 
     counted : CountLeft width records s width (first s (p .wire) (p .mark)) 0
     counted =
@@ -60,5 +59,5 @@ module _ (width : ℕ) (records : List ℕ) (l : Limits width records) (s : Sour
           whole = whole-left width records width (counted .left);
           few = omega (arith, n, few-left width records width (counted .left) (omega (arith, l .wide)), l .few);
           fit = ap (λ (k : ℕ). marksFit (packets width k (drop width records))) n ∙ counted .fit;
-          same = ap (λ (k : ℕ). counting (packets width k (drop width records)) (first s (p .wire) (p .mark)) 0) n ∙ counted .same;
+          same = ap (λ (k : ℕ). countAll (packets width k (drop width records)) (first s (p .wire) (p .mark)) 0) n ∙ counted .same;
         }

@@ -7,17 +7,17 @@ use native.Mathlib.Nat.{suc-mul, div-add-mod', div-le-self, mul-mod-left, mul-di
 use native.Mathlib.Omega.{arith}
 use borrow.Author.Tests.{le-leb, lt-leb, leb-true, eqb-true}
 use lib.Dec.{leb}
-use lib.ListN.{length, getD, drop, length-drop}
-use lib.Seq.{getD-drop, drop-drop}
-use Rattle.words.specs.BigEndian.{word}
-use Rattle.words.proofs.BigEndian.{word-two, word-drop}
-use Rattle.words.specs.Conditions.{all}
-use Rattle.words.proofs.Conditions.{all-true, and-left, and-right}
+use lib.ListN.{length, getD, take, drop, length-drop}
+use lib.Seq.{getD-take, getD-drop, drop-drop, take-nil}
+use Rattle.numbers.specs.BigEndian.{word}
+use Rattle.numbers.proofs.BigEndian.{word-two, word-drop}
+use Rattle.answers.specs.Conditions.{all}
+use Rattle.answers.proofs.Conditions.{all-true, and-left, and-right}
 use Rattle.source.specs.declared.Source.{Source}
 use Rattle.source.specs.declared.BlockCount.the-variants.{Counted}
 use Rattle.source.specs.Record.{sound}
 use Rattle.source.specs.Arrivals.{arrival, after}
-use Rattle.source.specs.Blocks.{Packet, packets, marksFit, inLimits, jump, counting}
+use Rattle.source.specs.Blocks.{Packet, packets, marksFit, inLimits, jump, countAll}
 
 -- the record of `width` bytes at a place
 abbrev pub packet : ℕ → List ℕ → ℕ → Packet
@@ -27,16 +27,16 @@ packet width s at = record { wire = record { 0 = word 2 s (at + (width - 4)) }; 
 pub packet-is : (width : ℕ) (s : List ℕ) (at : ℕ) → 4 ≤ width → {n m : ℕ} → n ≡ word 2 (getD s (at + width - 4) 0 ∷ getD s (at + width - 4 + 1) 0 ∷ []) 0
     → m ≡ getD s (at + width - 4 + 2) 0 → _≡_ {A = Packet} (record { wire = record { 0 = n }; mark = m }) (packet width s at)
 packet-is width s at h en em =
-    let first : at + width - 4 ≡ at + (width - 4) = omega arith in
+    let front : at + width - 4 ≡ at + (width - 4) = omega arith in
     let third : at + width - 4 + 2 ≡ at + (width - 2) = omega arith in
-    let number = en ∙ word-two (getD s (at + width - 4) 0 ∷ getD s (at + width - 4 + 1) 0 ∷ []) 0 ∙ sym (word-two s (at + width - 4)) ∙ ap (word 2 s) first in
+    let number = en ∙ word-two (getD s (at + width - 4) 0 ∷ getD s (at + width - 4 + 1) 0 ∷ []) 0 ∙ sym (word-two s (at + width - 4)) ∙ ap (word 2 s) front in
     let mark = em ∙ ap (λ (i : ℕ). getD s i 0) third in
     λ i. record { wire = record { 0 = number i }; mark = mark i }
 
--- and the first, as it is read before the loop
-pub first-is : (width : ℕ) (s : List ℕ) → 4 ≤ width → {n m : ℕ} → n ≡ word 2 (getD s (width - 4) 0 ∷ getD s (width - 3) 0 ∷ []) 0
+-- and that at the front, as it is read before the loop
+pub front-is : (width : ℕ) (s : List ℕ) → 4 ≤ width → {n m : ℕ} → n ≡ word 2 (getD s (width - 4) 0 ∷ getD s (width - 3) 0 ∷ []) 0
     → m ≡ getD s (width - 2) 0 → _≡_ {A = Packet} (record { wire = record { 0 = n }; mark = m }) (packet width s 0)
-first-is width s h en em =
+front-is width s h en em =
     let one : width - 4 ≡ 0 + width - 4 = omega arith in
     let two : width - 3 ≡ 0 + width - 4 + 1 = omega arith in
     let three : width - 2 ≡ 0 + width - 4 + 2 = omega arith in
@@ -98,6 +98,26 @@ module _ (width : ℕ) (s : List ℕ) where
   pub few-left : (at : ℕ) (l : Left at) → 1 ≤ width → l .k ≤ length s / width
   few-left at l w = le-div-iff-mul-le w .1 (omega (arith, l .whole))
 
+-- n records need no more bytes than these
+word-take : (k m : ℕ) (s : List ℕ) (at : ℕ) → at + k ≤ m → word k (take m s) at ≡ word k s at
+unfolding word
+word-take zero m s at h = refl
+word-take (suc k) m s at h = rw (word-take k m s at (omega arith), getD-take m s (at + k) 0 (omega arith))
+
+drop-take : (w m : ℕ) (s : List ℕ) → drop w (take m s) ≡ take (m - w) (drop w s)
+drop-take zero m s = let e : m ≡ m - 0 = omega arith in ap (λ (k : ℕ). take k s) e
+drop-take (suc w) zero s = let e : 0 ≡ zero - suc w = omega arith in ap (λ (k : ℕ). take k (drop (suc w) s)) e
+drop-take (suc w) (suc m) [] = sym (take-nil (suc m - suc w))
+drop-take (suc w) (suc m) (a ∷ s) =
+    let e : m - w ≡ suc m - suc w = omega arith in drop-take w m s ∙ ap (λ (k : ℕ). take k (drop w s)) e
+
+pub packets-take : (width n m : ℕ) (s : List ℕ) → 4 ≤ width → n * width ≤ m → packets width n (take m s) ≡ packets width n s
+unfolding packets
+packets-take w zero m s h l = refl
+packets-take w (suc n) m s h l =
+    let more = suc-mul n w in
+    rw (word-take 2 m s (w - 4) (omega arith), getD-take m s (w - 2) 0 (omega arith), drop-take w m s, packets-take w n (m - w) (drop w s) h (omega arith))
+
 -- ---- 1 to 62 whole records, no mark above 3
 
 pub record Limits (width : ℕ) (s : List ℕ) : Type 0 where
@@ -116,12 +136,12 @@ limits width s e = record {
   fit = all-true (inLimits width s) 4 e;
 }
 
--- so there is a first
+-- so there is one at the front
 pub one-at-least : (width : ℕ) (s : List ℕ) → Limits width s → 0 < length s
 one-at-least width s l = let d = div-le-self (length s) width in omega (arith, l .some)
 
-pub first-whole : (width : ℕ) (s : List ℕ) → Limits width s → width ≤ length s
-first-whole width s l = omega (arith, room-left width s 0 (all-left width s (l .whole)) (one-at-least width s l))
+pub front-whole : (width : ℕ) (s : List ℕ) → Limits width s → width ≤ length s
+front-whole width s l = omega (arith, room-left width s 0 (all-left width s (l .whole)) (one-at-least width s l))
 
 -- ---- the loops over a block
 
@@ -159,16 +179,16 @@ module _ (width : ℕ) (s : List ℕ) (start : Source) where
     pub left : Left width s at
     pub fit : marksFit (rest width s at left) ≡ true
     pub good : sound state ≡ true
-    pub same : counting (rest width s at left) state jumps ≡ counting (packets width (length s / width) s) start 0
+    pub same : countAll (rest width s at left) state jumps ≡ countAll (packets width (length s / width) s) start 0
 
   unfoldable pub count-start : length s % width ≡ 0 → marksFit (packets width (length s / width) s) ≡ true → sound start ≡ true → CountLeft 0 start 0
   unfolding all-left
   count-start e m g = record { left = all-left width s e; fit = m; good = g; same = refl }
 
   module _ (at : ℕ) (state : Source) (jumps : ℕ) (c : CountLeft at state jumps) where
-    pub count-end : 1 ≤ width → length s ≤ at → Counted state jumps ≡ counting (packets width (length s / width) s) start 0
-    unfolding counting
-    count-end w h = ap (λ (ps : List Packet). counting ps state jumps) (sym (none-left width s at (c .left) w h)) ∙ c .same
+    pub count-end : 1 ≤ width → length s ≤ at → Counted state jumps ≡ countAll (packets width (length s / width) s) start 0
+    unfolding countAll
+    count-end w h = ap (λ (ps : List Packet). countAll ps state jumps) (sym (none-left width s at (c .left) w h)) ∙ c .same
 
     module _ (h : at < length s) where
       pub next : Next width s at (c .left)
@@ -184,11 +204,11 @@ module _ (width : ℕ) (s : List ℕ) (start : Source) where
           → state′ ≡ after (arrival state (packet width s at .wire) (packet width s at .mark))
           → jumps′ ≡ jumps + jump (arrival state (packet width s at .wire) (packet width s at .mark))
           → CountLeft (at + width) state′ jumps′
-      unfolding counting
+      unfolding countAll
       count-next state′ jumps′ g es ej = record {
         left = next .after;
         fit = and-right (leb (packet width s at .mark) 3) _ fits;
         good = g;
-        same = ap₂ (λ (t : Source) (n : ℕ). counting (rest width s (at + width) (next .after)) t n) es ej
-            ∙ ap (λ (ps : List Packet). counting ps state jumps) (sym (next .is)) ∙ c .same;
+        same = ap₂ (λ (t : Source) (n : ℕ). countAll (rest width s (at + width) (next .after)) t n) es ej
+            ∙ ap (λ (ps : List Packet). countAll ps state jumps) (sym (next .is)) ∙ c .same;
       }

@@ -12,15 +12,15 @@ use lib.Arith.{lt-one}
 use lib.Count.{ones, ones-step, ones-le}
 use lib.Dec.{T, eqb, eqb→eq, ltb}
 use lib.Pow.{shr-shr}
-use Rattle.words.proofs.Conditions.{is-false, true-is, false-not, same-test, or-cases, or-right}
+use Rattle.answers.proofs.Conditions.{is-false, true-is, false-not, same-test, or-cases, or-right}
 use Rattle.source.specs.declared.History.{History}
 use Rattle.source.specs.Places.{bit, place, pack, history, marks, places, moved, added}
 
 -- ---- the bits of a word
 
-pub place-first : (x : ℕ) → place x 0 ≡ eqb (x % 2) 1
+pub place-low : (x : ℕ) → place x 0 ≡ eqb (x % 2) 1
 unfolding place
-place-first x = ap (λ (y : ℕ). eqb (y % 2) 1) (div-one x)
+place-low x = ap (λ (y : ℕ). eqb (y % 2) 1) (div-one x)
 
 pub place-next : (x k : ℕ) → place x (suc k) ≡ place (x / 2) k
 unfolding place
@@ -59,7 +59,7 @@ pub place-pack : (n k : ℕ) (f : ℕ → Bool) → k < n → place (pack n f) k
 unfolding pack
 place-pack zero k f h = absurd (not-suc-le-zero h)
 place-pack (suc n) zero f h =
-    place-first (bit (f 0) + 2 * pack n (λ k. f (suc k))) ∙ ap (λ (x : ℕ). eqb x 1) (low-bit (f 0) (pack n (λ k. f (suc k)))) ∙ bit-set (f 0)
+    place-low (bit (f 0) + 2 * pack n (λ k. f (suc k))) ∙ ap (λ (x : ℕ). eqb x 1) (low-bit (f 0) (pack n (λ k. f (suc k)))) ∙ bit-set (f 0)
 place-pack (suc n) (suc k) f h =
     place-next (bit (f 0) + 2 * pack n (λ k. f (suc k))) k
     ∙ ap (λ (x : ℕ). place x k) (high-bits (f 0) (pack n (λ k. f (suc k)))) ∙ place-pack n k (λ k. f (suc k)) (le-of-suc-le-suc h)
@@ -76,7 +76,7 @@ pub pack-unique : (n x : ℕ) (f : ℕ → Bool) → x < 2 ^ n → ((k : ℕ) �
 unfolding pack
 pack-unique zero x f h t = lt-one h
 pack-unique (suc n) x f h t =
-    half x ∙ ap₂ (λ (a b : ℕ). a + 2 * b) (digit x (f 0) (sym (place-first x) ∙ t 0 (zero-lt-suc n)))
+    half x ∙ ap₂ (λ (a b : ℕ). a + 2 * b) (digit x (f 0) (sym (place-low x) ∙ t 0 (zero-lt-suc n)))
     (pack-unique n (x / 2) (λ k. f (suc k)) (omega (arith, pow-suc 2 n)) (λ k l. sym (place-next x k) ∙ t (suc k) (omega arith)))
 
 -- ---- how many places below n a row marks
@@ -138,13 +138,13 @@ ones-pack (suc n) f =
     let rest : ℕ = pack n (λ k. f (suc k)) in
     ones-step (bit (f 0) + 2 * rest) ∙ ap₂ _+_ (low-bit (f 0) rest) (ap ones (high-bits (f 0) rest) ∙ ones-pack n (λ k. f (suc k))) ∙ sym (marked-front n f)
 
--- a word has at least the ones among its first n bits
+-- a word has at least the ones among its n lowest bits
 ones-least : (n x : ℕ) → marked n (place x) ≤ ones x
 unfolding marked
 ones-least zero x = omega arith
 ones-least (suc n) x =
     let front = marked-front n (place x) in
-    let first : bit (place x 0) ≡ x % 2 = ap bit (place-first x) ∙ sym (digit x (eqb (x % 2) 1) refl) in
+    let low : bit (place x 0) ≡ x % 2 = ap bit (place-low x) ∙ sym (digit x (eqb (x % 2) 1) refl) in
     let rest : marked n (λ k. place x (suc k)) ≡ marked n (place (x / 2)) = marked-ext n (λ k. place x (suc k)) (place (x / 2)) (λ k l. place-next x k) in
     omega (arith, ones-step x, ones-least n (x / 2))
 

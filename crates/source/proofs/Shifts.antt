@@ -10,26 +10,26 @@ use lib.Arith.{lt-one, mod-mul}
 use lib.Bits.{bitOr, or-step, shifted-half, shifted-even, or-lt}
 use lib.Dec.{leb, eqb, leb·zero, leb·suc-zero, leb·suc-suc, eqb·suc-zero, eqb→eq}
 use lib.Pow.{pow-pos, pow-lt, shr-shr, shl-exact}
-use Rattle.words.proofs.Conditions.{same-test, true-is}
+use Rattle.answers.proofs.Conditions.{same-test, true-is}
 use Rattle.source.specs.declared.History.{History}
 use Rattle.source.specs.Places.{bit, place, history, marks, moved, added}
-use Rattle.source.proofs.Rows.{place-first, place-next, digit, pack-unique, marks-recent, marks-older}
+use Rattle.source.proofs.Rows.{place-low, place-next, digit, pack-unique, marks-recent, marks-older}
 
 -- ---- one word
 
 pub place-zero : (k : ℕ) → place 0 k ≡ false
-place-zero zero = place-first 0
+place-zero zero = place-low 0
 place-zero (suc k) = place-next 0 k ∙ place-zero k
 
 pub place-one : (k : ℕ) → place 1 k ≡ eqb k 0
-place-one zero = place-first 1
+place-one zero = place-low 1
 place-one (suc k) = place-next 1 k ∙ place-zero k ∙ sym (eqb·suc-zero k)
 
 -- shifted left
 pub place-mul : (d x k : ℕ) → place (x * 2 ^ d) k ≡ (leb d k && place x (k - d))
 place-mul zero x k = ap (λ (y : ℕ). place y k) (mul-one x) ∙ sym (ap₂ (λ (t : Bool) (j : ℕ). t && place x j) (leb·zero k) (sub-zero k))
 place-mul (suc d) x zero =
-    place-first (x * 2 ^ suc d) ∙ ap (λ (y : ℕ). eqb y 1) (shifted-even x d) ∙ sym (ap (λ (t : Bool). t && place x (0 - suc d)) (leb·suc-zero d))
+    place-low (x * 2 ^ suc d) ∙ ap (λ (y : ℕ). eqb y 1) (shifted-even x d) ∙ sym (ap (λ (t : Bool). t && place x (0 - suc d)) (leb·suc-zero d))
 place-mul (suc d) x (suc k) =
     place-next (x * 2 ^ suc d) k ∙ ap (λ (y : ℕ). place y k) (shifted-half x d) ∙ place-mul d x k
     ∙ sym (ap₂ (λ (t : Bool) (j : ℕ). t && place x j) (leb·suc-suc d k) (suc-sub-suc k d))
@@ -47,7 +47,7 @@ pub place-mod : (n x k : ℕ) → k < n → place (x % 2 ^ n) k ≡ place x k
 place-mod zero x k h = absurd (not-suc-le-zero h)
 place-mod (suc n) x zero h =
     let e : x % 2 ^ suc n % 2 ≡ x % 2 = omega (arith, mod-half n x) in
-    place-first (x % 2 ^ suc n) ∙ ap (λ (y : ℕ). eqb y 1) e ∙ sym (place-first x)
+    place-low (x % 2 ^ suc n) ∙ ap (λ (y : ℕ). eqb y 1) e ∙ sym (place-low x)
 place-mod (suc n) x (suc k) h =
     let e : x % 2 ^ suc n / 2 ≡ x / 2 % 2 ^ n = omega (arith, mod-half n x) in
     place-next (x % 2 ^ suc n) k ∙ ap (λ (y : ℕ). place y k) e ∙ place-mod n (x / 2) k (le-of-suc-le-suc h) ∙ sym (place-next x k)
@@ -62,9 +62,9 @@ max-bit false false = refl
 pub place-or : (x y k : ℕ) → place (bitOr x y) k ≡ (place x k || place y k)
 place-or x y zero =
     let e : bitOr x y % 2 ≡ max (x % 2) (y % 2) = omega (arith, or-step x y) in
-    place-first (bitOr x y)
+    place-low (bitOr x y)
     ∙ ap (λ (z : ℕ). eqb z 1) (e ∙ ap₂ max (digit x (eqb (x % 2) 1) refl) (digit y (eqb (y % 2) 1) refl)) ∙ max-bit (eqb (x % 2) 1) (eqb (y % 2) 1)
-    ∙ sym (ap₂ _||_ (place-first x) (place-first y))
+    ∙ sym (ap₂ _||_ (place-low x) (place-low y))
 place-or x y (suc k) =
     let e : bitOr x y / 2 ≡ bitOr (x / 2) (y / 2) = omega (arith, or-step x y) in
     place-next (bitOr x y) k ∙ ap (λ (z : ℕ). place z k) e ∙ place-or (x / 2) (y / 2) k ∙ sym (ap₂ _||_ (place-next x k) (place-next y k))
@@ -148,16 +148,16 @@ module _ (h : History) (fits-recent : h .recent < 2 ^ 64) (fits-older : h .older
       ∙ ap bit (place-mod 64 (h .recent * 2 ^ up) j m ∙ place-mul up (h .recent) j ∙ ap (λ (t : Bool). leb up j && t) (sym (marks-recent h (j - up) (omega arith))))
 
   -- moved up by 64 places or more: of `recent` only place 0 is left
-  only-first : (d : ℕ) → 64 ≤ d → (k : ℕ) → k < 64 → place 1 k ≡ added 0 (moved d (marks h)) k
+  only-lowest : (d : ℕ) → 64 ≤ d → (k : ℕ) → k < 64 → place 1 k ≡ added 0 (moved d (marks h)) k
   unfolding moved added
-  only-first d l k g = place-one k ∙ rw (lt-leb d k (omega arith)) (sym (or-false (eqb k 0)))
+  only-lowest d l k g = place-one k ∙ rw (lt-leb d k (omega arith)) (sym (or-false (eqb k 0)))
 
   pub moved-far : (d : ℕ) → 64 ≤ d → d < 100
       → _≡_ {A = History} (record { recent = 1; older = h .recent * 2 ^ (d - 64) % 2 ^ 64 % 2 ^ 36 }) (history (added 0 (moved d (marks h))))
   unfolding moved added
   moved-far d l q =
       words-are 1 (h .recent * 2 ^ (d - 64) % 2 ^ 64 % 2 ^ 36) (added 0 (moved d (marks h))) (omega arith)
-      (mod-lt (h .recent * 2 ^ (d - 64) % 2 ^ 64) (pow-pos 36)) (only-first d l)
+      (mod-lt (h .recent * 2 ^ (d - 64) % 2 ^ 64) (pow-pos 36)) (only-lowest d l)
       (λ k g. place-mod 36 (h .recent * 2 ^ (d - 64) % 2 ^ 64) k g ∙ place-mod 64 (h .recent * 2 ^ (d - 64)) k (omega arith) ∙ place-mul (d - 64) (h .recent) k ∙ go k g (decLe d (64 + k)))
     where
       go : (k : ℕ) → k < 36 → Dec (d ≤ 64 + k) → (leb (d - 64) k && place (h .recent) (k - (d - 64))) ≡ (eqb (64 + k) 0 || (leb d (64 + k) && marks h (64 + k - d)))
@@ -169,7 +169,7 @@ module _ (h : History) (fits-recent : h .recent < 2 ^ 64) (fits-older : h .older
   pub moved-out : (d : ℕ) → 100 ≤ d → _≡_ {A = History} (record { recent = 1; older = 0 }) (history (added 0 (moved d (marks h))))
   unfolding moved added
   moved-out d l =
-      words-are 1 0 (added 0 (moved d (marks h))) (omega arith) (omega arith) (only-first d (omega arith))
+      words-are 1 0 (added 0 (moved d (marks h))) (omega arith) (omega arith) (only-lowest d (omega arith))
       (λ k g. place-zero k ∙ rw (ne-eqb (64 + k) 0 (omega arith), lt-leb d (64 + k) (omega arith)))
 
   -- place j marked too, in the older word

@@ -1,35 +1,38 @@
--- Counting a block by its tally is counting it by `arrival`. Assumes nothing.
+-- Counting a block by its tally is hasCounted it by `arrival`. Assumes nothing.
 use mathlib.Core.Path.{_≡_, refl, sym, ap, subst, _∙_}
-use mathlib.Core.Bool.{Bool, true, false, cond, _&&_, _||_}
-use Prim.Native.Nat.{ℕ, _+_, _-_, _*_, _%_, _^_, _≤_, _<_}
+use mathlib.Core.Bool.{Bool, true, false, cond}
+use Prim.Native.Nat.{ℕ, _+_, _-_, _*_, _^_, _≤_, _<_}
 use native.Mathlib.Nat.{add-assoc, add-zero, pow-le-pow-right}
 use native.Mathlib.Omega.{arith}
 use borrow.Author.Tests.{eqb-true, eqb-false, ne-eqb}
-use lib.Dec.{eqb, leb}
+use lib.Dec.{eqb}
 use lib.IntN.{pos, _+ℤ_}
-use Rattle.source.specs.declared.Wire.{Wire}
+use Rattle.format.specs.declared.Wire.{Wire}
 use Rattle.source.specs.declared.Extended.{Extended}
 use Rattle.source.specs.declared.History.{History}
 use Rattle.source.specs.declared.Source.{Source}
 use Rattle.source.specs.declared.Arrival.{Arrival}
 use Rattle.source.specs.declared.Arrival.the-variants.{Accepted, Refused}
-use Rattle.words.specs.declared.Refusal.the-variants.{Jump}
+use Rattle.answers.specs.declared.Refusal.the-variants.{Jump}
 use Rattle.source.proofs.Rows.{bit-le}
+use Rattle.source.specs.declared.distances.Reach.{Reach}
+use Rattle.source.specs.declared.distances.Reach.the-variants as reach
 use Rattle.source.specs.declared.tallies.Tally.{Tally}
 use Rattle.source.specs.Places.{bit, history, marks, moved, added}
-use Rattle.source.specs.Record.{arrivals, counting, sound}
+use Rattle.source.specs.Distances.{reachOf}
+use Rattle.source.specs.Record.{arrivals, hasCounted, sound}
 use Rattle.source.specs.Arrivals as spec
 use Rattle.source.specs.Arrivals.{extended}
 use Rattle.source.specs.Blocks.{jump}
 use Rattle.source.specs.Tallied.{byte, raised, ahead, behind, jumped, takenBy, taken, restored}
 use Rattle.source.proofs.Bytes.{units, byte-raised, byte-units, byte-grows}
-use Rattle.source.proofs.Facts.{facts, counting-sound}
+use Rattle.source.proofs.Facts.{facts, has-counted-sound}
 use Rattle.source.proofs.Kept.{counted-arrivals}
 use Rattle.source.proofs.Answers.{arrival-full, arrival-later}
 
 -- a tally that stands for a record which has counted, in a block begun with s
 pub record Stands (s : Source) (t : Tally) : Type 0 where
-  pub has : counting (restored s t) ≡ true
+  pub has : hasCounted (restored s t) ≡ true
   pub left : t .left ≡ 2 ^ 48 - arrivals (restored s t)
   pub small : (k : ℕ) → k ≤ 5 → byte k (t .counts) < 255
 
@@ -117,17 +120,10 @@ module _ (s : Source) (t : Tally) (g : Stands s t) (mark : ℕ) (m : mark ≤ 3)
       same : (a k : ℕ) → bit (eqb 5 k) ≡ 0 → a + byte k (t .counts + 256 ^ 5) ≡ a + byte k (t .counts)
       same a k e = ap (λ (b : ℕ). a + b) (up k ∙ ap (λ (b : ℕ). byte k (t .counts) + b) e ∙ add-zero (byte k (t .counts)))
 
--- two choices by the same tests
-choices : {A B : Type 0} (P : A → B → Type 0) (a b : Bool) {x y z : A} {x′ y′ z′ : B} → P x x′ → P y y′ → P z z′
-    → P (cond a x (cond b y z)) (cond a x′ (cond b y′ z′))
-choices P true b p q r = p
-choices P false true p q r = q
-choices P false false p q r = r
-
 -- one arrival
 module _ (s : Source) (t : Tally) (g : Stands s t) (wire : Wire) (mark : ℕ) (m : mark ≤ 3) where
   sound-now : sound (restored s t) ≡ true
-  sound-now = counting-sound (restored s t) (g .has)
+  sound-now = has-counted-sound (restored s t) (g .has)
 
   full : t .left ≡ 0 → Follows s t t (spec.arrival (restored s t) wire mark)
   full e = rw (arrival-full (restored s t) wire mark sound-now m (omega (arith, g .left))) (record {
@@ -138,19 +134,21 @@ module _ (s : Source) (t : Tally) (g : Stands s t) (wire : Wire) (mark : ℕ) (m
     most = omega arith;
   })
 
-  later : 1 ≤ t .left → Follows s t (takenBy t (spec.distance (t .highest) wire) mark) (spec.arrival (restored s t) wire mark)
-  unfolding takenBy spec.later restored
+  by : (r : Reach) → 1 ≤ t .left → Follows s t (takenBy t mark r) (spec.laterBy (restored s t) mark r)
+  by (reach.Ahead d) l = ahead-follows s t g mark m d l
+  by (reach.Behind k) l = behind-follows s t g mark m k l
+  by reach.Jump l = jumped-follows s t g mark m
+
+  later : 1 ≤ t .left → Follows s t (takenBy t mark (reachOf (spec.distance (t .highest) wire))) (spec.arrival (restored s t) wire mark)
+  unfolding restored
   later l =
       let f = facts (restored s t) (g .has) in
-      let d = spec.distance (t .highest) wire in
-      rw (arrival-later (restored s t) wire mark sound-now m (f .some) (omega (arith, g .left)))
-      (choices (Follows s t) (leb 1 d && leb d 2999) (eqb d 0 || leb 65437 d) (ahead-follows s t g mark m d l) (behind-follows s t g mark m ((65536 - d) % 65536) l)
-      (jumped-follows s t g mark m))
+      rw (arrival-later (restored s t) wire mark sound-now m (f .some) (omega (arith, g .left))) (by (reachOf (spec.distance (t .highest) wire)) l)
 
   pub taken-follows : Follows s t (taken t wire mark) (spec.arrival (restored s t) wire mark)
   unfolding taken
   taken-follows = go (eqb (t .left) 0) refl
     where
-      go : (b : Bool) → eqb (t .left) 0 ≡ b → Follows s t (cond b t (takenBy t (spec.distance (t .highest) wire) mark)) (spec.arrival (restored s t) wire mark)
+      go : (b : Bool) → eqb (t .left) 0 ≡ b → Follows s t (cond b t (takenBy t mark (reachOf (spec.distance (t .highest) wire)))) (spec.arrival (restored s t) wire mark)
       go true e = full (eqb-true (t .left) 0 e)
       go false e = later (let n = eqb-false (t .left) 0 e in omega arith)

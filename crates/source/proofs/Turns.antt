@@ -8,11 +8,10 @@ use native.Mathlib.Omega.{arith}
 use lib.ListN.{length}
 use Rattle.source.specs.declared.Source.{Source}
 use Rattle.source.specs.declared.tallies.Tally.{Tally}
-use Rattle.source.specs.Record.{arrivals, sound, counting}
-use Rattle.source.specs.Arrivals.{arrival}
+use Rattle.source.specs.Record.{arrivals, sound, hasCounted}
 use Rattle.source.specs.Blocks.{packets, marksFit}
 use Rattle.source.specs.Tallied.{byte, begun, taken, restored}
-use Rattle.source.proofs.Facts.{Facts, facts, counted-some}
+use Rattle.source.proofs.Facts.{Facts, facts, some-has-counted}
 use Rattle.source.proofs.Kept.{sound-stays}
 use Rattle.source.proofs.Packets.{packet, all-left, CountLeft, count-start, count-next, next, mark-here}
 use Rattle.source.proofs.Simulated.{Stands, taken-follows}
@@ -48,20 +47,20 @@ module _ (width : ℕ) (records : List ℕ) (s : Source) where
     most = omega (arith, l);
   }
 
-  module _ (h : counting s ≡ true) (at : ℕ) (t : Tally) (v : Tallied at t) where
+  module _ (h : hasCounted s ≡ true) (at : ℕ) (t : Tally) (v : Tallied at t) where
     -- no arrival is taken back
     some-now : 1 ≤ arrivals (restored s t)
     unfolding restored
     some-now = let f = facts s h .some in omega arith
 
-    pub counting-now : counting (restored s t) ≡ true
-    counting-now = counted-some (restored s t) (v .count .good) some-now
+    pub has-counted-now : hasCounted (restored s t) ≡ true
+    has-counted-now = some-has-counted (restored s t) (v .count .good) some-now
 
     pub facts-now : Facts (restored s t)
-    facts-now = facts (restored s t) counting-now
+    facts-now = facts (restored s t) has-counted-now
 
     stands : Stands s t
-    stands = record { has = counting-now; left = v .left; small = λ k l. let f = v .few k l in omega arith }
+    stands = record { has = has-counted-now; left = v .left; small = λ k l. let f = v .few k l in omega arith }
 
     module _ (b : at < length records) (w : packet width records at .wire .0 < 65536) where
       pub tallied-next : Tallied (at + width) (taken t (packet width records at .wire) (packet width records at .mark))

@@ -1,18 +1,21 @@
 -- What one arrival does to a record (document 01, "Counting arrivals"). Marks: 0 not-ECT, 1 ECT(1), 2 ECT(0), 3 CE (RFC 3168).
-use Prim.Native.Nat.{ℕ, _+_, _-_, _%_, _^_}
-use mathlib.Core.Bool.{cond, not, _&&_, _||_}
+use Prim.Native.Nat.{ℕ, _+_, _^_}
+use mathlib.Core.Bool.{cond, not}
 use lib.Dec.{eqb, leb, ltb}
 use lib.IntN.{ℤ, pos, _+ℤ_, _-ℤ_}
-use Rattle.words.specs.Integers.{modulo}
-use Rattle.words.specs.declared.Refusal.the-variants.{Jump, Full, Malformed, Limits}
-use Rattle.source.specs.declared.Wire.{Wire}
+use Rattle.numbers.specs.Integers.{modulo}
+use Rattle.answers.specs.declared.Refusal.the-variants.{Jump, Full, Malformed, Limits}
+use Rattle.format.specs.declared.Wire.{Wire}
 use Rattle.source.specs.declared.Extended.{Extended}
 use Rattle.source.specs.declared.History.{History}
 use Rattle.source.specs.declared.Source.{Source}
 use Rattle.source.specs.declared.Arrival.{Arrival}
 use Rattle.source.specs.declared.Arrival.the-variants.{Accepted, Refused}
+use Rattle.source.specs.declared.distances.Reach.{Reach}
+use Rattle.source.specs.declared.distances.Reach.the-variants as reach
 use Rattle.source.specs.Places.{bit, history, marks, moved, added}
 use Rattle.source.specs.Record.{arrivals, fresh, sound}
+use Rattle.source.specs.Distances.{reachOf}
 
 abbrev pub extended : ℤ → Extended
 extended z = record { 0 = z }
@@ -48,12 +51,14 @@ behind s k mark =
 unfoldable pub distance : Extended → Wire → ℕ
 distance highest wire = modulo 65536 (pos (wire .0) -ℤ highest .0)
 
--- a later arrival, by d
-unfoldable pub later : Source → ℕ → ℕ → Arrival
-later s d mark =
-    cond (leb 1 d && leb d 2999) (Accepted (ahead s d mark))
-    (cond (eqb d 0 || leb 65437 d) (Accepted (behind s ((65536 - d) % 65536) mark))
-    (Refused Jump s))
+-- a later arrival, by where it stands
+abbrev pub laterBy : Source → ℕ → Reach → Arrival
+laterBy s mark (reach.Ahead d) = Accepted (ahead s d mark)
+laterBy s mark (reach.Behind k) = Accepted (behind s k mark)
+laterBy s mark reach.Jump = Refused Jump s
+
+abbrev pub later : Source → ℕ → ℕ → Arrival
+later s d mark = laterBy s mark (reachOf d)
 
 -- the answer to an arrival: refusals in the order 9, 10, 8, 7
 unfoldable pub arrival : Source → Wire → ℕ → Arrival

@@ -4,11 +4,12 @@ use mathlib.Core.Bool.{Bool, cond, not}
 use mathlib.Core.List.{List, [], _∷_, map}
 use lib.Dec.{eqb, leb}
 use lib.ListN.{length, getD, drop}
-use Rattle.words.specs.BigEndian.{word}
-use Rattle.words.specs.Conditions.{all}
-use Rattle.words.specs.Refusals.{numberOf}
-use Rattle.words.specs.declared.Refusal.the-variants.{Malformed, Limits}
-use Rattle.source.specs.declared.Wire.{Wire}
+use Rattle.numbers.specs.BigEndian.{word}
+use Rattle.answers.specs.Conditions.{all}
+use Rattle.format.specs.Blocks.{mostRecords, behindTime}
+use Rattle.answers.specs.Refusals.{numberOf}
+use Rattle.answers.specs.declared.Refusal.the-variants.{Malformed, Limits}
+use Rattle.format.specs.declared.Wire.{Wire}
 use Rattle.source.specs.declared.Source.{Source}
 use Rattle.source.specs.declared.Arrival.{Arrival}
 use Rattle.source.specs.declared.Arrival.the-variants.{Accepted, Refused}
@@ -27,7 +28,7 @@ pub record Packet : Type 0 where
 unfoldable pub packets : ℕ → ℕ → List ℕ → List Packet
 packets width zero s = []
 packets width (suc n) s =
-    record { wire = record { 0 = word 2 s (width - 4) }; mark = getD s (width - 2) 0 } ∷ packets width n (drop width s)
+    record { wire = record { 0 = word 2 s (width - behindTime) }; mark = getD s (width - 2) 0 } ∷ packets width n (drop width s)
 
 abbrev pub marksFit : List Packet → Bool
 marksFit ps = all (map (λ p. leb (p .mark) 3) ps)
@@ -35,10 +36,10 @@ marksFit ps = all (map (λ p. leb (p .mark) 3) ps)
 -- 1 to 62 whole records, no mark above 3
 abbrev pub inLimits : ℕ → List ℕ → List Bool
 inLimits width s =
-    leb 4 width
+    leb behindTime width
     ∷ eqb (length s % width) 0
     ∷ leb 1 (length s / width)
-    ∷ leb (length s / width) 62
+    ∷ leb (length s / width) mostRecords
     ∷ marksFit (packets width (length s / width) s)
     ∷ []
 
@@ -48,14 +49,14 @@ jump (Accepted s) = 0
 jump (Refused refusal s) = bit (eqb (numberOf refusal) 7)
 
 -- packets taken in order, each on the record that the one before handed back, going on after a refusal; and the jumps among them
-unfoldable pub counting : List Packet → Source → ℕ → BlockCount
-counting [] s jumps = block.Counted s jumps
-counting (p ∷ ps) s jumps =
-    counting ps (after (arrival s (p .wire) (p .mark))) (jumps + jump (arrival s (p .wire) (p .mark)))
+unfoldable pub countAll : List Packet → Source → ℕ → BlockCount
+countAll [] s jumps = block.Counted s jumps
+countAll (p ∷ ps) s jumps =
+    countAll ps (after (arrival s (p .wire) (p .mark))) (jumps + jump (arrival s (p .wire) (p .mark)))
 
 -- the answer to a block: refusals in the order 9, 10
 unfoldable pub blockCount : Source → ℕ → List ℕ → BlockCount
 blockCount s width bytes =
     cond (not (sound s)) (block.Refused Malformed s)
     (cond (not (all (inLimits width bytes))) (block.Refused Limits s)
-    (counting (packets width (length bytes / width) bytes) s 0))
+    (countAll (packets width (length bytes / width) bytes) s 0))

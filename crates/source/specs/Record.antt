@@ -5,13 +5,14 @@ use mathlib.Core.List.{List, [], _∷_}
 use lib.Dec.{eqb, leb, ltb}
 use lib.IntN.{ℤ, pos, _+ℤ_, _-ℤ_}
 use lib.Signed.{leZ}
-use Rattle.words.specs.Conditions.{all}
-use Rattle.words.specs.Integers.{eqZ}
-use Rattle.words.specs.declared.Refusal.the-variants.{Malformed}
+use Rattle.answers.specs.Conditions.{all}
+use Rattle.numbers.specs.Integers.{eqZ}
+use Rattle.answers.specs.declared.Refusal.the-variants.{Malformed}
 use Rattle.source.specs.declared.Source.{Source}
 use Rattle.source.specs.declared.Lost.{Lost}
 use Rattle.source.specs.declared.Lost.the-variants.{Packets, Refused}
 use Rattle.source.specs.Places.{marks, places}
+use Rattle.source.specs.Distances.{mostAhead}
 
 -- the arrivals accepted: the four mark counters sum to them
 abbrev pub arrivals : Source → ℕ
@@ -64,14 +65,14 @@ conditions s =
     ∷ marks (s .history) 0
     ∷ ltb (s .history .older) (2 ^ 36)
     ∷ leb (places (s .history)) (distinct s)
-    ∷ leZ (s .highest .0 -ℤ s .base .0) (pos (2999 * (distinct s - 1)))
+    ∷ leZ (s .highest .0 -ℤ s .base .0) (pos (mostAhead * (distinct s - 1)))
     ∷ []
 
-unfoldable pub counting : Source → Bool
-counting s = all (conditions s)
+unfoldable pub hasCounted : Source → Bool
+hasCounted s = all (conditions s)
 
 unfoldable pub sound : Source → Bool
-sound s = fresh s || counting s
+sound s = fresh s || hasCounted s
 
 -- lost = highest - base + 1 - distinct, and 0 in the fresh record
 unfoldable pub lost : Source → ℤ

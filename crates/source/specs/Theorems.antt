@@ -2,7 +2,7 @@
 use mathlib.Core.Path.{_≡_}
 use mathlib.Core.Bool.{true}
 use Prim.Native.Nat.{ℕ, _<_}
-use Rattle.source.specs.declared.Wire.{Wire}
+use Rattle.format.specs.declared.Wire.{Wire}
 use Rattle.source.specs.declared.Source.{Source}
 use Rattle.source.specs.Record.{sound}
 use Rattle.source.specs.Arrivals.{arrival, after}

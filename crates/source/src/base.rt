@@ -2,7 +2,7 @@
 use crate::Extended;
 use crate::History;
 use crate::Source;
-use crate::Wire;
+use format::Wire;
 ghost use mathlib.Core.Path.{_≡_};
 ghost use Prim.Native.Nat.{_+_, _^_, _<_};
 ghost use lib.Dec.{eqb};

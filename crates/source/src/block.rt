@@ -1,21 +1,20 @@
 // The records of one arrivals block, counted in order.
 use crate::BlockCount;
 use crate::Source;
-use crate::Wire;
 use crate::base::first;
 use crate::soundness::is_fresh;
 use crate::tallies;
-use words::big_endian::join16;
+use format::Wire;
+use format::block::BEHIND_TIME;
+use format::block::MOST_RECORDS;
+use numbers::big_endian::join16;
 ghost use mathlib.Core.Path.{_≡_};
 ghost use mathlib.Core.Bool.{true};
 ghost use Prim.Native.Nat.{_/_, _%_, _≤_};
 ghost use lib.ListN.{length};
-ghost use Rattle.words.specs.Conditions.{all};
-ghost use Rattle.source.specs.Record.{counting as hasCounted, sound};
-ghost use Rattle.source.specs.Blocks.{packets, marksFit, inLimits, counting};
-
-// The most records of a block.
-const MOST_RECORDS: usize = 62;
+ghost use Rattle.answers.specs.Conditions.{all};
+ghost use Rattle.source.specs.Record.{hasCounted, sound};
+ghost use Rattle.source.specs.Blocks.{packets, marksFit, inLimits, countAll};
 
 // Whether no record has a mark above 3.
 fn marks_fit(records: &[u8], width: usize) -> bool
@@ -37,7 +36,7 @@ fn marks_fit(records: &[u8], width: usize) -> bool
 pub fn in_limits(records: &[u8], width: usize) -> bool
     ensures { λ r. ⌜ r ≡ all (inLimits width (now (records .entry))) ⌝ }
 {
-    if width < 4 {
+    if width < BEHIND_TIME {
         return false;
     }
     let rest = records.len() % width;
@@ -57,12 +56,12 @@ pub fn in_limits(records: &[u8], width: usize) -> bool
 // The records counted in a record that has counted, going on after a jump and when full.
 fn tallied(s: Source, records: &[u8], width: usize) -> BlockCount
     requires { ⌜ (hasCounted s ≡ true) × (4 ≤ width) × (length (now records) % width ≡ 0) × (length (now records) / width ≤ 62) × (marksFit (packets width (length (now records) / width) (now records)) ≡ true) ⌝ }
-    ensures { λ r. ⌜ r ≡ counting (packets width (length (now (records .entry)) / width) (now (records .entry))) s 0 ⌝ }
+    ensures { λ r. ⌜ r ≡ countAll (packets width (length (now (records .entry)) / width) (now (records .entry))) s 0 ⌝ }
 {
     let mut t = tallies::begun(s);
     let mut at: usize = 0;
     while at < records.len() {
-        let place = at + width - 4;
+        let place = at + width - BEHIND_TIME;
         let number = join16(records[place], records[place + 1]);
         let mark = records[place + 2];
         t = tallies::take(t, Wire(number), mark);
@@ -74,12 +73,12 @@ fn tallied(s: Source, records: &[u8], width: usize) -> BlockCount
 // The records counted; the first of a fresh record sets its base.
 pub fn count(s: Source, records: &[u8], width: usize) -> BlockCount
     requires { ⌜ (sound s ≡ true) × (all (inLimits width (now records)) ≡ true) ⌝ }
-    ensures { λ r. ⌜ r ≡ counting (packets width (length (now (records .entry)) / width) (now (records .entry))) s 0 ⌝ }
+    ensures { λ r. ⌜ r ≡ countAll (packets width (length (now (records .entry)) / width) (now (records .entry))) s 0 ⌝ }
 {
     if !is_fresh(s) {
         return tallied(s, records, width);
     }
-    let number = join16(records[width - 4], records[width - 3]);
+    let number = join16(records[width - BEHIND_TIME], records[width - 3]);
     let mark = records[width - 2];
     tallied(first(s, Wire(number), mark), &records[width..], width)
 }

@@ -3,20 +3,21 @@ ghost use mathlib.Core.Path.{_≡_};
 ghost use Rattle.source.specs.Record.{freshRecord, lostAnswer};
 ghost use Rattle.source.specs.Arrivals.{arrival};
 ghost use Rattle.source.specs.Blocks.{blockCount};
+ghost use Rattle.source.specs.Totals.{freshTotals, withBlock};
 
 mod base;
 mod block;
+mod distances;
+mod jumps;
 mod loss;
-mod numbers;
 mod places;
+mod sequence;
 mod soundness;
 mod step;
 mod tallies;
 
-use words::Refusal;
-
-// A sequence number as a packet carries it.
-pub struct Wire(pub u16);
+use answers::Refusal;
+use format::Wire;
 
 // A sequence number with the wraps counted: negative before the base.
 pub struct Extended(pub i64);
@@ -49,6 +50,12 @@ pub enum Arrival {
 pub enum BlockCount {
     Counted(Source, u64),
     Refused(Refusal, Source),
+}
+
+// What a table shows of one source: its record, and how many arrivals its blocks left out as jumps.
+pub struct Totals {
+    pub source: Source,
+    pub jumped: u64,
 }
 
 // How many packets are lost, negative where packets from before the base came.
@@ -115,5 +122,31 @@ impl Source {
             return Lost::Packets(0);
         }
         Lost::Packets(loss::packets(self))
+    }
+}
+
+impl Totals {
+    // The most jumps that are counted.
+    pub const MOST_JUMPED: u64 = 0x1_0000_0000_0000;
+
+    // The totals before any arrival.
+    pub fn fresh() -> Totals
+        ensures { λ r. ⌜ r ≡ freshTotals ⌝ }
+    {
+        let source = Source::fresh();
+        Totals { source, jumped: 0 }
+    }
+
+    // The totals with the count of a block: its record, and its jumps added, up to the most. A refused count changes nothing.
+    pub fn with_block(self, count: BlockCount) -> Totals
+        ensures { λ r. ⌜ r ≡ withBlock self count ⌝ }
+    {
+        match count {
+            BlockCount::Refused(_, _) => self,
+            BlockCount::Counted(source, jumps) => Totals {
+                source,
+                jumped: jumps::raised(self.jumped, jumps),
+            },
+        }
     }
 }

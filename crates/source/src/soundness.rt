@@ -1,11 +1,12 @@
 // When a record is sound.
 use crate::Extended;
 use crate::Source;
-use crate::numbers;
+use crate::distances::MOST_AHEAD;
 use crate::places;
+use crate::sequence;
 ghost use mathlib.Core.Path.{_≡_};
 ghost use Prim.Native.Nat.{_+_, _^_, min};
-ghost use Rattle.source.specs.Record.{arrivals, fresh, counting, sound};
+ghost use Rattle.source.specs.Record.{arrivals, fresh, hasCounted, sound};
 
 // The most arrivals that are counted.
 pub const MOST: u64 = 0x1_0000_0000_0000;
@@ -40,10 +41,10 @@ pub fn is_fresh(s: Source) -> bool
     let base = s.base;
     let highest = s.highest;
     let history = s.history;
-    if !numbers::is_zero(base) {
+    if !sequence::is_zero(base) {
         return false;
     }
-    if !numbers::is_zero(highest) {
+    if !sequence::is_zero(highest) {
         return false;
     }
     if 0 < s.notect {
@@ -68,20 +69,20 @@ pub fn is_fresh(s: Source) -> bool
 }
 
 // Whether the record meets the conditions of one that has counted.
-pub fn is_counting(s: Source) -> bool
-    ensures { λ r. ⌜ r ≡ counting s ⌝ }
+pub fn has_counted(s: Source) -> bool
+    ensures { λ r. ⌜ r ≡ hasCounted s ⌝ }
 {
     let base = s.base;
     let highest = s.highest;
     let history = s.history;
     let duplicates = s.duplicates;
-    if !numbers::le(Extended(0), base) {
+    if !sequence::le(Extended(0), base) {
         return false;
     }
-    if !numbers::le(base, Extended(65535)) {
+    if !sequence::le(base, Extended(65535)) {
         return false;
     }
-    if !numbers::le(base, highest) {
+    if !sequence::le(base, highest) {
         return false;
     }
     let n = arrivals(s);
@@ -104,14 +105,14 @@ pub fn is_counting(s: Source) -> bool
     if !places::at_most(history, distinct) {
         return false;
     }
-    numbers::natural(highest) - numbers::natural(base) <= 2999 * (distinct - 1)
+    sequence::natural(highest) - sequence::natural(base) <= MOST_AHEAD * (distinct - 1)
 }
 
 // One that has counted, or fresh.
 pub fn is_sound(s: Source) -> bool
     ensures { λ r. ⌜ r ≡ sound s ⌝ }
 {
-    if is_counting(s) {
+    if has_counted(s) {
         return true;
     }
     is_fresh(s)

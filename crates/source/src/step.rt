@@ -1,35 +1,37 @@
 // One arrival counted in a record that is known to be sound.
 use crate::Arrival;
 use crate::Source;
-use crate::Wire;
 use crate::base::counted;
 use crate::base::first;
-use crate::numbers;
+use crate::distances;
+use crate::distances::Reach;
 use crate::places;
+use crate::sequence;
 use crate::soundness::MOST;
-use words::Refusal;
+use answers::Refusal;
+use format::Wire;
 ghost use mathlib.Core.Path.{_≡_};
 ghost use mathlib.Core.Bool.{true};
 ghost use Prim.Native.Nat.{_^_, _<_, _≤_};
-ghost use Rattle.source.specs.Record.{arrivals, counting, sound};
+ghost use Rattle.source.specs.Record.{arrivals, hasCounted, sound};
 ghost use Rattle.source.specs.Arrivals.{ahead, behind, later, arrival};
 
 // An arrival d numbers above the highest.
 fn ahead(s: Source, d: u64, mark: u8) -> Source
-    requires { ⌜ (counting s ≡ true) × (arrivals s < 2 ^ 48) × (1 ≤ d) × (d < 65536) ⌝ }
+    requires { ⌜ (hasCounted s ≡ true) × (arrivals s < 2 ^ 48) × (1 ≤ d) × (d < 65536) ⌝ }
     ensures { λ r. ⌜ r ≡ ahead s d mark ⌝ }
 {
     let base = s.base;
     let highest = s.highest;
     let history = s.history;
-    let next = numbers::plus(highest, d);
+    let next = sequence::plus(highest, d);
     let moved = places::moved_on(history, d);
     counted(s, mark, base, next, s.duplicates, moved)
 }
 
 // An arrival k numbers below the highest.
 fn behind(s: Source, k: u64, mark: u8) -> Source
-    requires { ⌜ (counting s ≡ true) × (arrivals s < 2 ^ 48) × (k < 100) ⌝ }
+    requires { ⌜ (hasCounted s ≡ true) × (arrivals s < 2 ^ 48) × (k < 100) ⌝ }
     ensures { λ r. ⌜ r ≡ behind s k mark ⌝ }
 {
     let base = s.base;
@@ -45,19 +47,14 @@ fn behind(s: Source, k: u64, mark: u8) -> Source
 
 // An arrival after the first, by its distance d from the highest.
 fn later(s: Source, d: u64, mark: u8) -> Arrival
-    requires { ⌜ (counting s ≡ true) × (arrivals s < 2 ^ 48) × (d < 65536) ⌝ }
+    requires { ⌜ (hasCounted s ≡ true) × (arrivals s < 2 ^ 48) × (d < 65536) ⌝ }
     ensures { λ r. ⌜ r ≡ later s d mark ⌝ }
 {
-    if d == 0 {
-        return Arrival::Accepted(behind(s, 0, mark));
+    match distances::reach_of(d) {
+        Reach::Ahead(up) => Arrival::Accepted(ahead(s, up, mark)),
+        Reach::Behind(k) => Arrival::Accepted(behind(s, k, mark)),
+        Reach::Jump => Arrival::Refused(Refusal::Jump, s),
     }
-    if d <= 2999 {
-        return Arrival::Accepted(ahead(s, d, mark));
-    }
-    if 65437 <= d {
-        return Arrival::Accepted(behind(s, 65536 - d, mark));
-    }
-    Arrival::Refused(Refusal::Jump, s)
 }
 
 // An arrival with a mark of at most 3.
@@ -73,5 +70,5 @@ pub fn step(s: Source, wire: Wire, mark: u8) -> Arrival
         return Arrival::Accepted(first(s, wire, mark));
     }
     let highest = s.highest;
-    later(s, numbers::distance(highest, wire), mark)
+    later(s, sequence::distance(highest, wire), mark)
 }

@@ -2,18 +2,19 @@
 use crate::Extended;
 use crate::History;
 use crate::Source;
-use crate::Wire;
-use crate::numbers;
+use crate::distances;
+use crate::distances::Reach;
 use crate::places;
+use crate::sequence;
 use crate::soundness::MOST;
+use format::Wire;
 ghost use mathlib.Core.Path.{_≡_};
 ghost use mathlib.Core.Bool.{cond};
 ghost use Prim.Native.Nat.{_+_, _-_, _%_, _^_, _<_, _≤_};
-ghost use lib.Dec.{T, ltb};
-ghost use lib.IntN.{natAbs};
-ghost use lib.Signed.{nonNeg};
+ghost use lib.Dec.{ltb};
 ghost use Rattle.source.specs.Record.{arrivals};
-ghost use Rattle.source.specs.Tallied.{byte, begun, raised, jumped, ahead, behind, takenBy, taken, restored};
+ghost use Rattle.source.specs.Distances.{reachOf};
+ghost use Rattle.source.specs.Tallied.{TallyFits, byte, begun, raised, jumped, ahead, behind, takenBy, taken, restored};
 
 // The highest number, the history, how many arrivals may still be counted, and the block's counts, a byte each: arrivals with the marks 0 to 3,
 // duplicates, jumps.
@@ -67,19 +68,19 @@ fn raised(t: Tally, highest: Extended, history: History, units: u64) -> Tally
 
 // An arrival d numbers above the highest.
 fn ahead(t: Tally, d: u64, mark: u8) -> Tally
-    requires { ⌜ (T (nonNeg (t .highest .0))) × (natAbs (t .highest .0) < 2 ^ 62) × (t .history .older < 2 ^ 36) × (t .counts < 2 ^ 60) × (1 ≤ t .left) × (1 ≤ d) × (d < 65536) × (mark ≤ 3) ⌝ }
+    requires { ⌜ (TallyFits t) × (1 ≤ t .left) × (1 ≤ d) × (d < 65536) × (mark ≤ 3) ⌝ }
     ensures { λ r. ⌜ r ≡ ahead t d mark ⌝ }
 {
     let highest = t.highest;
     let history = t.history;
-    let next = numbers::plus(highest, d);
+    let next = sequence::plus(highest, d);
     let moved = places::moved_on(history, d);
     raised(t, next, moved, unit(mark))
 }
 
 // An arrival k numbers below the highest.
 fn behind(t: Tally, k: u64, mark: u8) -> Tally
-    requires { ⌜ (t .history .older < 2 ^ 36) × (t .counts < 2 ^ 60) × (1 ≤ t .left) × (k < 100) × (mark ≤ 3) ⌝ }
+    requires { ⌜ (TallyFits t) × (1 ≤ t .left) × (k < 100) × (mark ≤ 3) ⌝ }
     ensures { λ r. ⌜ r ≡ behind t k mark ⌝ }
 {
     let highest = t.highest;
@@ -109,14 +110,14 @@ fn fall(d: u64) -> u64
 
 // An arrival at most 63 numbers above or below the highest.
 fn near(t: Tally, d: u64, mark: u8) -> Tally
-    requires { ⌜ (T (nonNeg (t .highest .0))) × (natAbs (t .highest .0) < 2 ^ 62) × (t .history .older < 2 ^ 36) × (t .counts < 2 ^ 60) × (1 ≤ t .left) × (d < 65536) × ((d + 63) % 65536 < 127) × (mark ≤ 3) ⌝ }
-    ensures { λ r. ⌜ r ≡ takenBy t d mark ⌝ }
+    requires { ⌜ (TallyFits t) × (1 ≤ t .left) × (d < 65536) × ((d + 63) % 65536 < 127) × (mark ≤ 3) ⌝ }
+    ensures { λ r. ⌜ r ≡ takenBy t mark (reachOf d) ⌝ }
 {
     let highest = t.highest;
     let history = t.history;
     let up = rise(d);
     let k = fall(d);
-    let next = numbers::plus(highest, up);
+    let next = sequence::plus(highest, up);
     let moved = places::near(history, up, k);
     let again = places::near_mark(history, up, k);
     raised(t, next, moved, unit(mark) + again * DUPLICATE)
@@ -137,29 +138,27 @@ fn jumped(t: Tally) -> Tally
     }
 }
 
-// One arrival of a block, left out where the record is full. (The next number is tested first since most arrivals have it.)
+// One arrival of a block, left out where the record is full. (The next number is tested before all others, since most arrivals have it.)
 pub fn take(t: Tally, wire: Wire, mark: u8) -> Tally
-    requires { ⌜ (T (nonNeg (t .highest .0))) × (natAbs (t .highest .0) < 2 ^ 62) × (t .history .older < 2 ^ 36) × (t .counts < 2 ^ 60) × (mark ≤ 3) ⌝ }
+    requires { ⌜ (TallyFits t) × (mark ≤ 3) ⌝ }
     ensures { λ r. ⌜ r ≡ taken t wire mark ⌝ }
 {
     if t.left == 0 {
         return t;
     }
     let highest = t.highest;
-    let d = numbers::distance(highest, wire);
+    let d = sequence::distance(highest, wire);
     if d == 1 {
         return near(t, 1, mark);
     }
     if (d + 63) % 65536 < 127 {
         return near(t, d, mark);
     }
-    if d <= 2999 {
-        return ahead(t, d, mark);
+    match distances::reach_of(d) {
+        Reach::Ahead(up) => ahead(t, up, mark),
+        Reach::Behind(k) => behind(t, k, mark),
+        Reach::Jump => jumped(t),
     }
-    if 65437 <= d {
-        return behind(t, 65536 - d, mark);
-    }
-    jumped(t)
 }
 
 // How many jumps there were.

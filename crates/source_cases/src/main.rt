@@ -1,81 +1,92 @@
-// Worked examples and limits of document 01, "Counting arrivals". A line is the case's name, the refusal's number or 0, and highest,
-// ECT(0), ECT(1), CE, not-ECT, lost and duplicates of the record that was handed back; for a block also the jumps.
+// Arrivals and blocks of arrivals counted, read from standard input. Each line is written back; a call's answer follows it: the refusal's
+// number or 0, then highest, ECT(0), ECT(1), CE, not-ECT, lost and duplicates of the record that was handed back, and for a block that was
+// counted its jumps. A line is a letter with numbers, each behind one space:
+//   n                                                               the fresh record
+//   s base highest ect0 ect1 ce notect duplicates recent older      a record with these fields
+//   a number mark                                                   an arrival
+//   b width bytes                                                   a block, its bytes in hexadecimal
+// Any other line is a heading.
+use cases::record;
+use libc::STDIN_FILENO;
 use source::Arrival;
+use source::BlockCount;
+use source::Lost;
 use source::Source;
-use source::Wire;
 
-mod blocks;
-mod broken;
-mod print;
-
-// The mark of arrival i, 0 where none is given.
-fn mark_at(marks: &[u8], i: usize) -> u8 {
-    if marks.len() <= i {
-        return 0;
+// The packets lost, "-" for a malformed record.
+fn show_lost(lost: Lost) {
+    match lost {
+        Lost::Packets(n) => show::signed(n),
+        Lost::Refused(_) => show::text(b" -"),
     }
-    marks[i]
 }
 
-// The answer to the last of some arrivals, the first of them on the given record.
-fn run_from(start: Source, name: &[u8], wires: &[u16], marks: &[u8]) {
-    let mut answer = Arrival::Accepted(start);
-    let mut i = 0;
-    while i < wires.len() {
-        let wire = Wire(wires[i]);
-        answer = print::record(answer).arrive(wire, mark_at(marks, i));
-        i += 1;
+// An answer's number and record, and the record.
+fn shown(number: u64, s: Source) -> Source {
+    let highest = s.highest;
+    show::text(b" :");
+    show::number(number);
+    show::signed(highest.0);
+    show::number(s.ect0);
+    show::number(s.ect1);
+    show::number(s.ce);
+    show::number(s.notect);
+    show_lost(s.lost());
+    show::number(s.duplicates);
+    s
+}
+
+// The answer to an arrival, and its record.
+fn arrived(answer: Arrival) -> Source {
+    match answer {
+        Arrival::Accepted(s) => shown(0, s),
+        Arrival::Refused(refusal, s) => shown(refusal.number() as u64, s),
     }
-    show::text(name);
-    print::answer(answer);
 }
 
-fn run(name: &[u8], wires: &[u16], marks: &[u8]) {
-    run_from(Source::fresh(), name, wires, marks);
+// The answer to a block, and its record.
+fn counted(answer: BlockCount) -> Source {
+    match answer {
+        BlockCount::Counted(s, jumps) => {
+            let next = shown(0, s);
+            show::number(jumps);
+            next
+        }
+        BlockCount::Refused(refusal, s) => shown(refusal.number() as u64, s),
+    }
 }
 
-fn examples() {
-    run(b"C1", &[65534, 65535, 0, 0, 3], &[2, 2, 3, 3, 1]);
-    run(b"C4", &[10, 9], &[]);
-    run(b"C5", &[5000, 7999], &[]);
-    run(b"C6", &[5000, 8000], &[]);
-    run(b"C7", &[5000, 4901], &[]);
-    run(b"C8", &[5000, 4900], &[]);
+// The block of a line.
+fn block(s: Source, line: &[u8]) -> BlockCount {
+    let mut space = [0u8; 1024];
+    let records = cases::bytes(line, 2, &mut space);
+    s.count_block(records, cases::number(line, 1) as usize)
 }
 
-fn wraps() {
-    run(b"wrap", &[65535, 0], &[]);
-    run(b"wrap 2999", &[65535, 2998], &[]);
-    run(b"wrap 3000", &[65535, 2999], &[]);
-    run(b"before base", &[0, 65535], &[]);
-    run(b"99 before base", &[0, 65437], &[]);
-    run(b"100 before base", &[0, 65436], &[]);
-    run(b"late by 63, 64", &[200, 137, 136], &[]);
-    run(b"late by 64 twice", &[200, 136, 136], &[]);
+// What a line does.
+fn done(s: Source, line: &[u8]) -> Source {
+    match cases::letter(line) {
+        b'a' => arrived(record::arrival(s, line)),
+        b'b' => counted(block(s, line)),
+        _ => record::after(s, line),
+    }
 }
 
-fn marks() {
-    run(b"mark 0", &[1], &[0]);
-    run(b"mark 1", &[1], &[1]);
-    run(b"mark 2", &[1], &[2]);
-    run(b"mark 3", &[1], &[3]);
-    run(b"mark 4", &[1, 2], &[2, 4]);
-    run(b"duplicate's mark", &[1, 1], &[2, 3]);
-    run(b"mark before jump", &[1, 9000], &[2, 4]);
-}
-
-fn full() {
-    let almost = broken::with_ect0(0x1_0000_0000_0000 - 1);
-    run_from(almost, b"last", &[21], &[2]);
-    run_from(almost, b"full", &[21, 22], &[2, 2]);
-    run_from(almost, b"full, jump", &[21, 9000], &[2, 2]);
-    run_from(almost, b"full, mark", &[21, 22], &[2, 4]);
+// All lines in turn.
+fn run(text: &[u8]) {
+    let mut s = Source::fresh();
+    let mut at = 0;
+    while at < text.len() {
+        let line = cases::line(text, at);
+        show::text(line);
+        s = done(s, line);
+        show::end();
+        at += line.len() + 1;
+    }
 }
 
 fn main() {
-    examples();
-    wraps();
-    marks();
-    full();
-    broken::all();
-    blocks::all();
+    let mut text = io::large_buffer();
+    let n = io::read_full(STDIN_FILENO, &mut text);
+    run(&text[..n]);
 }

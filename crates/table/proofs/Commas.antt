@@ -8,6 +8,7 @@ use native.Mathlib.Omega.{arith}
 use lib.ListN.{length, drop, getD, length-append, drop-of-length-le}
 use lib.Seq.{drop-cons}
 use Rattle.source.specs.declared.Source.{Source}
+use Rattle.source.specs.declared.Totals.{Totals}
 use Rattle.source.specs.Record.{lost}
 use Rattle.table.specs.Decimal.{decimal, signed}
 use Rattle.table.specs.Field.{asField, line}
@@ -89,8 +90,8 @@ commas-nil : (x : List ℕ) → behindCommas [] ++ x ≡ x
 unfolding behindCommas
 commas-nil x = refl
 
-pub row-parts : (label : List ℕ) (ssrc : ℕ) (s : Source) (jumped high : ℕ) (below : Bool) (size : ℕ)
-    → signed (s .highest .0) ≡ decimal high → signed (lost s) ≡ minus below size
-    → rowBytes label ssrc s jumped ≡ whole label (frontOf ssrc high s) below size (backOf s jumped)
+pub row-parts : (label : List ℕ) (ssrc : ℕ) (t : Totals) (high : ℕ) (below : Bool) (size : ℕ)
+    → signed (t .source .highest .0) ≡ decimal high → signed (lost (t .source)) ≡ minus below size
+    → rowBytes label ssrc t ≡ whole label (frontOf ssrc high (t .source)) below size (backOf (t .source) (t .jumped))
 unfolding rowBytes line whole tail
-row-parts label ssrc s jumped high below size e m = rw (e, m) (simp (commas-cons, commas-nil))
+row-parts label ssrc t high below size e m = rw (e, m) (simp (commas-cons, commas-nil))

@@ -1,17 +1,19 @@
 -- Laws of decimal digits. Assumes nothing.
 use mathlib.Core.Path.{_≡_, refl, sym, ap, _∙_}
-use mathlib.Core.Bool.{cond}
+use mathlib.Core.Bool.{true, cond}
+use mathlib.Core.Option.{some}
 use mathlib.Core.List.{List, [], _∷_, _++_}
 use Prim.Native.Nat.{ℕ, suc, zero, _+_, _-_, _*_, _/_, _%_, _^_, _≤_, _<_}
 use native.Mathlib.Decide.{decLt}
 use native.Mathlib.Nat.{add-zero, add-suc, suc-add}
 use native.Mathlib.Omega.{arith}
-use borrow.Author.Tests.{lt-ltb, le-ltb}
+use borrow.Author.Tests.{lt-ltb, le-ltb, le-leb, ne-eqb}
 use lib.Arith.{digits-div, digits-mod}
 use lib.Dec.{ltb}
 use lib.ListN.{length, length-append, set}
 use lib.Seq.{sets, set-comm}
-use Rattle.table.specs.Decimal.{digitsOf, decimal, readOn, numberIn}
+use Rattle.table.specs.Decimal.{digitsOf, decimal, readOn, isDigit, allDigits, isNumeral, numberIn}
+use Rattle.answers.proofs.Conditions.{and-left, and-right}
 
 -- ---- a digit more
 
@@ -136,13 +138,60 @@ unfolding readOn
 read-append n [] es = refl
 read-append n (d ∷ ds) es = read-append (n * 10 + (d - 48)) ds es
 
-read-digits : (more n : ℕ) → n ≤ more → numberIn (digitsOf more n) ≡ n
-unfolding numberIn readOn digitsOf
+read-digits : (more n : ℕ) → n ≤ more → readOn 0 (digitsOf more n) ≡ n
+unfolding readOn digitsOf
 read-digits zero n h = omega arith
 read-digits (suc more) n h =
     by-ten n (λ small. rw (lt-ltb n 10 small) (omega arith)) λ large.
     rw (le-ltb n 10 large, read-append) (omega (arith, read-digits more (n / 10) (omega arith)))
 
-pub read-decimal : (n : ℕ) → numberIn (decimal n) ≡ n
+-- digits behind a first one, which is no 0 where the number is no 0
+pub record Numeral (n : ℕ) (s : List ℕ) : Type 0 where
+  pub first : ℕ
+  pub rest : List ℕ
+  pub is : s ≡ first ∷ rest
+  pub digits : allDigits s ≡ true
+  pub leads : 1 ≤ n → 49 ≤ first
+
+digit-more : (s : List ℕ) (d : ℕ) → d < 10 → allDigits s ≡ true → allDigits (s ++ ((48 + d) ∷ [])) ≡ true
+unfolding allDigits
+digit-more [] d h e = rw (le-leb 48 (48 + d) (omega arith), le-leb (48 + d) 57 (omega arith))
+digit-more (c ∷ s) d h e =
+    rw (and-left (isDigit c) (allDigits s) e) (digit-more s d h (and-right (isDigit c) (allDigits s) e))
+
+numeral-more : (n d m : ℕ) (s : List ℕ) → 1 ≤ n → d < 10 → Numeral n s → Numeral m (s ++ ((48 + d) ∷ []))
+numeral-more n d m s h l k = record {
+  first = k .first;
+  rest = k .rest ++ ((48 + d) ∷ []);
+  is = ap (λ (t : List ℕ). t ++ ((48 + d) ∷ [])) (k .is);
+  digits = digit-more s d l (k .digits);
+  leads = λ _. k .leads h;
+}
+
+numeral : (more n : ℕ) → n ≤ more → Numeral n (digitsOf more n)
+unfolding digitsOf allDigits
+numeral zero n h = record { first = 48 + n; rest = []; is = refl; digits = rw (le-leb 48 (48 + n) (omega arith), le-leb (48 + n) 57 (omega arith)); leads = λ l. omega arith }
+numeral (suc more) n h =
+    by-ten n
+    (λ small. rw (lt-ltb n 10 small) (record { first = 48 + n; rest = []; is = refl; digits = rw (le-leb 48 (48 + n) (omega arith), le-leb (48 + n) 57 (omega arith)); leads = λ l. omega arith }))
+    λ large. rw (le-ltb n 10 large) (numeral-more (n / 10) (n % 10) n (digitsOf more (n / 10)) (omega arith) (omega arith) (numeral more (n / 10) (omega arith)))
+
+leading : (d : ℕ) (ds : List ℕ) → allDigits (d ∷ ds) ≡ true → 49 ≤ d → isNumeral (d ∷ ds) ≡ true
+unfolding isNumeral allDigits
+leading d [] e h = and-left (isDigit d) true e
+leading d (c ∷ ds) e h = rw (ne-eqb d 48 (λ q. omega arith)) e
+
+is-numeral : (n : ℕ) → isNumeral (decimal n) ≡ true
+unfolding decimal digitsOf isNumeral
+is-numeral zero = refl
+is-numeral (suc n) =
+    let k = numeral (suc n) (suc n) (omega arith) in
+    ap isNumeral (k .is) ∙ leading (k .first) (k .rest) (ap allDigits (sym (k .is)) ∙ k .digits) (k .leads (omega arith))
+
+digits-say : (n : ℕ) → readOn 0 (decimal n) ≡ n
 unfolding decimal
-read-decimal n = read-digits n n (omega arith)
+digits-say n = read-digits n n (omega arith)
+
+pub read-decimal : (n : ℕ) → numberIn (decimal n) ≡ some n
+unfolding numberIn
+read-decimal n = rw (is-numeral n) (ap some (digits-say n))

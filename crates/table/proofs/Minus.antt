@@ -9,7 +9,7 @@ use lib.IntN.{ℤ, pos, negsuc, natAbs}
 use lib.Signed.{ltZ}
 use mir.Syntax.{w64}
 use mir.Val.{SFits}
-use Rattle.words.proofs.Signed.{seen, seen-is}
+use Rattle.numbers.proofs.Signed.{seen, seen-is}
 use Rattle.table.specs.Decimal.{decimal, signed}
 use Rattle.table.specs.Parts.{minus}
 

@@ -5,9 +5,10 @@ use Prim.Native.Nat.{ℕ, _+_, _-_}
 use native.Mathlib.Omega.{arith}
 use lib.ListN.{length, set, length-append}
 use lib.Seq.{sets}
-use Rattle.words.proofs.Stores.{sets-step}
+use Rattle.answers.proofs.Stores.{sets-step}
 use Rattle.table.specs.Decimal.{decimal}
-use Rattle.table.specs.Lines.{refusedText, blockText, refusedLine}
+use Rattle.table.specs.Texts.{codes}
+use Rattle.table.specs.Lines.{refusedLine}
 use Rattle.table.proofs.Backwards.{store-end}
 
 module _ (n b : ℕ) where
@@ -15,17 +16,17 @@ module _ (n b : ℕ) where
   unfolding refusedLine
   length-refused = simp length-append (omega arith)
 
-  parts : refusedLine n b ≡ (refusedText ++ decimal n) ++ ((blockText ++ decimal b) ++ (13 ∷ 10 ∷ []))
+  parts : refusedLine n b ≡ (codes "refused " ++ decimal n) ++ ((codes " block " ++ decimal b) ++ (13 ∷ 10 ∷ []))
   unfolding refusedLine
   parts = simp append-assoc
 
   -- a text and a number, another text and number, and the end
   pub refused-stored : (old : List ℕ) (middle size : ℕ) {one two : List ℕ} → middle ≡ 8 + length (decimal n) → size ≡ middle + (9 + length (decimal b))
-      → one ≡ sets old 0 (refusedText ++ decimal n) → two ≡ sets one middle (blockText ++ decimal b)
+      → one ≡ sets old 0 (codes "refused " ++ decimal n) → two ≡ sets one middle (codes " block " ++ decimal b)
       → set (set two (size - 2) 13) (size - 1) 10 ≡ sets old 0 (refusedLine n b)
   refused-stored old middle size {one} {two} em es e₁ e₂ =
-      let first = length-append refusedText (decimal n) in
-      let second = length-append blockText (decimal b) in
+      let first = length-append (codes "refused ") (decimal n) in
+      let second = length-append (codes " block ") (decimal b) in
       store-end two size 13 10 (omega arith)
-      ∙ sets-step one middle (blockText ++ decimal b) (13 ∷ 10 ∷ []) refl e₂ (omega arith)
-      ∙ sets-step old 0 (refusedText ++ decimal n) ((blockText ++ decimal b) ++ (13 ∷ 10 ∷ [])) parts e₁ (omega arith)
+      ∙ sets-step one middle (codes " block " ++ decimal b) (13 ∷ 10 ∷ []) refl e₂ (omega arith)
+      ∙ sets-step old 0 (codes "refused " ++ decimal n) ((codes " block " ++ decimal b) ++ (13 ∷ 10 ∷ [])) parts e₁ (omega arith)

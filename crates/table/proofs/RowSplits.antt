@@ -3,13 +3,14 @@ use mathlib.Core.Path.{_≡_, refl, sym, ap, _∙_}
 use mathlib.Core.Bool.{Bool, true, false, not, cond, _||_, _&&_}
 use mathlib.Core.Option.{none, some}
 use mathlib.Core.List.{List, [], _∷_, _++_, map}
-use Prim.Native.Nat.{ℕ, _^_}
+use Prim.Native.Nat.{ℕ}
 use native.Mathlib.Omega.{arith}
 use lib.Dec.{leb, eqb}
 use lib.ListN.{length}
-use Rattle.words.specs.declared.Refusal.the-variants.{Malformed, Limits}
-use Rattle.words.proofs.Conditions.{and-left, and-right, all-true}
-use Rattle.source.specs.declared.Source.{Source}
+use Rattle.answers.specs.declared.Refusal.the-variants.{Malformed, Limits}
+use Rattle.answers.proofs.Conditions.{and-left, and-right, all-true}
+use Rattle.source.specs.declared.Totals.{Totals}
+use Rattle.source.specs.Totals.{mostJumped}
 use Rattle.source.specs.Record.{sound, lost}
 use Rattle.trace.specs.Contents.{every, labelByte, labelOk}
 use Rattle.table.specs.Field.{special, anySpecial, asField, line}
@@ -40,68 +41,68 @@ label-plain (c ∷ label) e =
     both false false true p e f = f
     both false false false p e f = e
 
-label-ok : (label : List ℕ) (s : Source) (jumped : ℕ) → rowFault label s jumped ≡ none → labelOk label ≡ true
+label-ok : (label : List ℕ) (t : Totals) → rowFault label t ≡ none → labelOk label ≡ true
 unfolding rowFault
-label-ok label s jumped e = go (sound s) (labelOk label) (leb jumped (2 ^ 48)) e
+label-ok label t e = go (sound (t .source)) (labelOk label) (leb (t .jumped) mostJumped) e
   where
     go : (a b c : Bool) → cond (not a) (some Malformed) (cond (not (b && c)) (some Limits) none) ≡ none → b ≡ true
     go false b c e = let z : _≡_ {A = ℕ} 0 1 = cc in absurd (omega arith)
     go true false c e = let z : _≡_ {A = ℕ} 0 1 = cc in absurd (omega arith)
     go true true c e = refl
 
-module _ (ssrc : ℕ) (s : Source) (jumped : ℕ) where
-  bare : map asField (numbers ssrc s jumped) ≡ numbers ssrc s jumped
+module _ (ssrc : ℕ) (t : Totals) where
+  bare : map asField (numbers ssrc t) ≡ numbers ssrc t
   bare =
       rw (
         decimal-field ssrc .0 .bare,
-        signed-field (s .highest .0) .0 .bare,
-        decimal-field (s .ect0) .0 .bare,
-        decimal-field (s .ect1) .0 .bare,
-        decimal-field (s .ce) .0 .bare,
-        decimal-field (s .notect) .0 .bare,
-        signed-field (lost s) .0 .bare,
-        decimal-field (s .duplicates) .0 .bare,
-        decimal-field jumped .0 .bare,
+        signed-field (t .source .highest .0) .0 .bare,
+        decimal-field (t .source .ect0) .0 .bare,
+        decimal-field (t .source .ect1) .0 .bare,
+        decimal-field (t .source .ce) .0 .bare,
+        decimal-field (t .source .notect) .0 .bare,
+        signed-field (lost (t .source)) .0 .bare,
+        decimal-field (t .source .duplicates) .0 .bare,
+        decimal-field (t .jumped) .0 .bare,
       )
 
-  readable : (label : List ℕ) → plain label ≡ true → allPlain (label ∷ numbers ssrc s jumped) ≡ true
+  readable : (label : List ℕ) → plain label ≡ true → allPlain (label ∷ numbers ssrc t) ≡ true
   unfolding allPlain
   readable label e =
       rw (
         e,
         decimal-field ssrc .0 .plain,
-        signed-field (s .highest .0) .0 .plain,
-        decimal-field (s .ect0) .0 .plain,
-        decimal-field (s .ect1) .0 .plain,
-        decimal-field (s .ce) .0 .plain,
-        decimal-field (s .notect) .0 .plain,
-        signed-field (lost s) .0 .plain,
-        decimal-field (s .duplicates) .0 .plain,
-        decimal-field jumped .0 .plain,
+        signed-field (t .source .highest .0) .0 .plain,
+        decimal-field (t .source .ect0) .0 .plain,
+        decimal-field (t .source .ect1) .0 .plain,
+        decimal-field (t .source .ce) .0 .plain,
+        decimal-field (t .source .notect) .0 .plain,
+        signed-field (lost (t .source)) .0 .plain,
+        decimal-field (t .source .duplicates) .0 .plain,
+        decimal-field (t .jumped) .0 .plain,
       )
 
-  says : (label : List ℕ) → Says label ssrc s jumped (label ∷ numbers ssrc s jumped)
+  says : (label : List ℕ) → Says label ssrc t (label ∷ numbers ssrc t)
   says label = record {
     ten = refl;
     label = refl;
     ssrc = decimal-field ssrc .1;
-    highest = signed-field (s .highest .0) .1;
-    ect0 = decimal-field (s .ect0) .1;
-    ect1 = decimal-field (s .ect1) .1;
-    ce = decimal-field (s .ce) .1;
-    notect = decimal-field (s .notect) .1;
-    lost = signed-field (lost s) .1;
-    duplicates = decimal-field (s .duplicates) .1;
-    jumped = decimal-field jumped .1;
+    highest = signed-field (t .source .highest .0) .1;
+    ect0 = decimal-field (t .source .ect0) .1;
+    ect1 = decimal-field (t .source .ect1) .1;
+    ce = decimal-field (t .source .ce) .1;
+    notect = decimal-field (t .source .notect) .1;
+    lost = signed-field (lost (t .source)) .1;
+    duplicates = decimal-field (t .source .duplicates) .1;
+    jumped = decimal-field (t .jumped) .1;
   }
 
 pub row-splits : RowSplits
 unfolding rowBytes labelOk
-row-splits label ssrc s jumped rest e =
-    let ok = all-true (leb (length label) 502 ∷ every labelByte label ∷ []) 1 (label-ok label s jumped e) in
-    let texts = numbers ssrc s jumped in (
+row-splits label ssrc t rest e =
+    let ok = all-true (leb (length label) 502 ∷ every labelByte label ∷ []) 1 (label-ok label t e) in
+    let texts = numbers ssrc t in (
       label ∷ texts,
-      ap (λ (l : List (List ℕ)). split (line (asField label) l ++ rest)) (sym (bare ssrc s jumped))
-          ∙ line-splits label texts rest (readable ssrc s jumped label (label-plain label ok)),
-      says ssrc s jumped label,
+      ap (λ (l : List (List ℕ)). split (line (asField label) l ++ rest)) (sym (bare ssrc t))
+          ∙ line-splits label texts rest (readable ssrc t label (label-plain label ok)),
+      says ssrc t label,
     )

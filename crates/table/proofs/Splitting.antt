@@ -10,8 +10,8 @@ use borrow.Author.Tests.{le-leb, eq-eqb, ne-eqb, leb-true, leb-false, eqb-false,
 use lib.Dec.{eqb, leb}
 use lib.IntN.{pos, negsuc, negℤ}
 use lib.ListN.{length, length-append}
-use Rattle.words.proofs.Conditions.{and-left, and-right}
-use Rattle.table.specs.Decimal.{digitsOf, decimal, signed, readOn, numberIn, signedIn}
+use Rattle.answers.proofs.Conditions.{and-left, and-right}
+use Rattle.table.specs.Decimal.{digitsOf, decimal, signed, isNumeral, numberIn, negative, natural, signedIn}
 use Rattle.table.specs.Field.{special, anySpecial, doubledByte, doubled, asField, line}
 use Rattle.table.specs.Rfc4180.{textData, Taken, nonEscaped, escapedFrom, field, crlf, behind, recordOf, split}
 use Rattle.table.specs.Theorems.{plain, allPlain, LineSplits, IsNumber, DecimalField, SignedField}
@@ -208,15 +208,15 @@ pub decimal-field : DecimalField
 decimal-field n = (bare-number (decimal n) (bare-digits (decimal n) (decimal-digits n)), read-decimal n)
 
 -- digits have no "-" in front
-unsigned : (s : List ℕ) → Digits s → signedIn s ≡ pos (numberIn s)
-unfolding signedIn numberIn readOn
-unsigned [] h = refl
-unsigned (c ∷ s) h = rw (ne-eqb c 45 (λ e. omega arith))
+unsigned : (s : List ℕ) → Digits s → {n : ℕ} → numberIn s ≡ some n → signedIn s ≡ some (pos n)
+unfolding signedIn numberIn isNumeral
+unsigned [] h e = let z : _≡_ {A = ℕ} 0 1 = cc in absurd (omega arith)
+unsigned (c ∷ s) h e = rw (ne-eqb c 45 (λ q. omega arith)) (ap natural e)
 
 pub signed-field : SignedField
 unfolding signed signedIn
-signed-field (pos n) = (decimal-field n .0, unsigned (decimal n) (decimal-digits n) ∙ ap pos (read-decimal n))
+signed-field (pos n) = (decimal-field n .0, unsigned (decimal n) (decimal-digits n) (read-decimal n))
 signed-field (negsuc n) = (
   bare-number (45 ∷ decimal (suc n)) (bare-cons 45 (decimal (suc n)) (omega arith) (omega arith) (bare-digits (decimal (suc n)) (decimal-digits (suc n)))),
-  ap (λ (k : ℕ). negℤ (pos k)) (read-decimal (suc n)),
+  ap negative (read-decimal (suc n)),
 )

@@ -10,7 +10,7 @@ use native.Mathlib.Omega.{arith}
 use borrow.Author.Tests.{ne-eqb}
 use lib.ListN.{length, drop, getD, set, length-append, drop-of-length-le}
 use lib.Seq.{sets, drop-cons}
-use Rattle.words.proofs.Stores.{sets-append}
+use Rattle.answers.proofs.Stores.{sets-append}
 use Rattle.table.specs.Field.{special, anySpecial, doubledByte, doubled, asField}
 
 -- ---- a byte

@@ -1,9 +1,10 @@
 -- Document 01, "Table": numbers are decimal, a negative one with "-"; and what such a text says.
 use Prim.Native.Nat.{ℕ, zero, suc, _+_, _-_, _*_, _/_, _%_}
-use mathlib.Core.Bool.{cond}
+use mathlib.Core.Bool.{Bool, true, false, cond, not, _&&_}
 use mathlib.Core.List.{List, [], _∷_, _++_}
-use lib.Dec.{ltb, eqb}
-use lib.IntN.{ℤ, pos, negsuc, negℤ}
+use mathlib.Core.Option.{Option, none, some}
+use lib.Dec.{leb, ltb, eqb}
+use lib.IntN.{ℤ, pos, negsuc}
 
 -- the digits of n in ASCII, the highest first; n has at most `more` digits before the last
 unfoldable pub digitsOf : ℕ → ℕ → List ℕ
@@ -20,14 +21,38 @@ signed (negsuc n) = 45 ∷ decimal (suc n)
 
 -- ---- reading
 
--- the number that digits say, behind those of n
+-- what digits say, behind those of n
 unfoldable pub readOn : ℕ → List ℕ → ℕ
 readOn n [] = n
 readOn n (d ∷ ds) = readOn (n * 10 + (d - 48)) ds
 
-unfoldable pub numberIn : List ℕ → ℕ
-numberIn ds = readOn 0 ds
+abbrev pub isDigit : ℕ → Bool
+isDigit c = leb 48 c && leb c 57
 
-unfoldable pub signedIn : List ℕ → ℤ
-signedIn [] = pos 0
-signedIn (c ∷ cs) = cond (eqb c 45) (negℤ (pos (numberIn cs))) (pos (numberIn (c ∷ cs)))
+unfoldable pub allDigits : List ℕ → Bool
+allDigits [] = true
+allDigits (c ∷ s) = isDigit c && allDigits s
+
+-- a number: one digit, or more of which the first is no 0
+unfoldable pub isNumeral : List ℕ → Bool
+isNumeral [] = false
+isNumeral (d ∷ []) = isDigit d
+isNumeral (d ∷ e ∷ ds) = not (eqb d 48) && allDigits (d ∷ e ∷ ds)
+
+-- what a text says, if it is a number
+unfoldable pub numberIn : List ℕ → Option ℕ
+numberIn s = cond (isNumeral s) (some (readOn 0 s)) none
+
+-- and with a "-" in front, if it is a negative number
+abbrev pub negative : Option ℕ → Option ℤ
+negative none = none
+negative (some zero) = none
+negative (some (suc n)) = some (negsuc n)
+
+abbrev pub natural : Option ℕ → Option ℤ
+natural none = none
+natural (some n) = some (pos n)
+
+unfoldable pub signedIn : List ℕ → Option ℤ
+signedIn [] = none
+signedIn (c ∷ s) = cond (eqb c 45) (negative (numberIn s)) (natural (numberIn (c ∷ s)))

@@ -1,3 +1,4 @@
+pub mod Texts
 pub mod Decimal
 pub mod Field
 pub mod Rfc4180

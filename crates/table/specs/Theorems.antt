@@ -7,7 +7,7 @@ use Prim.Native.Nat.{ℕ}
 use lib.Dec.{leb, eqb}
 use lib.IntN.{ℤ}
 use lib.ListN.{length, getD}
-use Rattle.source.specs.declared.Source.{Source}
+use Rattle.source.specs.declared.Totals.{Totals}
 use Rattle.source.specs.Record.{lost as lostOf}
 use Rattle.table.specs.Decimal.{decimal, signed, numberIn, signedIn}
 use Rattle.table.specs.Field.{asField, line}
@@ -35,10 +35,10 @@ pub record IsNumber (text : List ℕ) : Type 0 where
   pub plain : plain text ≡ true
 
 abbrev pub DecimalField : Type 0
-DecimalField = (n : ℕ) → IsNumber (decimal n) × (numberIn (decimal n) ≡ n)
+DecimalField = (n : ℕ) → IsNumber (decimal n) × (numberIn (decimal n) ≡ some n)
 
 abbrev pub SignedField : Type 0
-SignedField = (z : ℤ) → IsNumber (signed z) × (signedIn (signed z) ≡ z)
+SignedField = (z : ℤ) → IsNumber (signed z) × (signedIn (signed z) ≡ some z)
 
 -- ---- the table's lines
 
@@ -47,23 +47,23 @@ abbrev pub HeadSplits : Type 0
 HeadSplits = (rest : List ℕ) → split (headBytes ++ rest) ≡ some (record { fields = labelName ∷ names; rest = rest })
 
 -- ten fields that say the ten values of a row
-pub record Says (text : List ℕ) (from : ℕ) (s : Source) (jumps : ℕ) (fields : List (List ℕ)) : Type 0 where
+pub record Says (text : List ℕ) (from : ℕ) (t : Totals) (fields : List (List ℕ)) : Type 0 where
   pub ten : length fields ≡ 10
   pub label : getD fields 0 [] ≡ text
-  pub ssrc : numberIn (getD fields 1 []) ≡ from
-  pub highest : signedIn (getD fields 2 []) ≡ s .highest .0
-  pub ect0 : numberIn (getD fields 3 []) ≡ s .ect0
-  pub ect1 : numberIn (getD fields 4 []) ≡ s .ect1
-  pub ce : numberIn (getD fields 5 []) ≡ s .ce
-  pub notect : numberIn (getD fields 6 []) ≡ s .notect
-  pub lost : signedIn (getD fields 7 []) ≡ lostOf s
-  pub duplicates : numberIn (getD fields 8 []) ≡ s .duplicates
-  pub jumped : numberIn (getD fields 9 []) ≡ jumps
+  pub ssrc : numberIn (getD fields 1 []) ≡ some from
+  pub highest : signedIn (getD fields 2 []) ≡ some (t .source .highest .0)
+  pub ect0 : numberIn (getD fields 3 []) ≡ some (t .source .ect0)
+  pub ect1 : numberIn (getD fields 4 []) ≡ some (t .source .ect1)
+  pub ce : numberIn (getD fields 5 []) ≡ some (t .source .ce)
+  pub notect : numberIn (getD fields 6 []) ≡ some (t .source .notect)
+  pub lost : signedIn (getD fields 7 []) ≡ some (lostOf (t .source))
+  pub duplicates : numberIn (getD fields 8 []) ≡ some (t .source .duplicates)
+  pub jumped : numberIn (getD fields 9 []) ≡ some (t .jumped)
 
 -- a row that is not refused splits into such fields, and what follows the row is left over
 abbrev pub RowSplits : Type 0
 RowSplits =
-    (label : List ℕ) (ssrc : ℕ) (s : Source) (jumped : ℕ) (rest : List ℕ) → rowFault label s jumped ≡ none
+    (label : List ℕ) (ssrc : ℕ) (t : Totals) (rest : List ℕ) → rowFault label t ≡ none
     → (fields : List (List ℕ))
-    × (split (rowBytes label ssrc s jumped ++ rest) ≡ some (record { fields = fields; rest = rest }))
-    × Says label ssrc s jumped fields
+    × (split (rowBytes label ssrc t ++ rest) ≡ some (record { fields = fields; rest = rest }))
+    × Says label ssrc t fields

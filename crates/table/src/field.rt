@@ -1,5 +1,5 @@
 // A text as a field of a line.
-use words::copy::put_bytes;
+use answers::copy::put_bytes;
 ghost use mathlib.Core.Path.{_≡_};
 ghost use mathlib.Core.Bool.{true};
 ghost use Prim.Native.Nat.{_+_, _-_, _≤_};

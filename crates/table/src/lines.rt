@@ -4,10 +4,10 @@ use crate::decimal::put_before;
 use crate::decimal::signed_length;
 use crate::field::field_length;
 use crate::field::put_field;
-use source::Source;
-use words::Refusal;
-use words::Written;
-use words::sign::magnitude;
+use answers::Refusal;
+use answers::Written;
+use numbers::sign::magnitude;
+use source::Totals;
 ghost use mathlib.Core.Path.{_≡_};
 ghost use mathlib.Core.Bool.{true};
 ghost use mathlib.Core.List.{_∷_};
@@ -15,7 +15,7 @@ ghost use mathlib.Core.Option.{none};
 ghost use Prim.Native.Nat.{_+_, _≤_};
 ghost use lib.ListN.{length};
 ghost use lib.Seq.{sets};
-ghost use Rattle.words.specs.Writers.{written, stored};
+ghost use Rattle.answers.specs.Writers.{Wrote};
 ghost use Rattle.source.specs.Record.{sound, lost as lostOf};
 ghost use Rattle.table.specs.Decimal.{decimal};
 ghost use Rattle.table.specs.Field.{asField};
@@ -119,8 +119,7 @@ fn line(
     out: &mut [u8],
 ) -> Written
     requires { ⌜ (length (now label) ≤ 502) × (length (now front) ≤ 6) × (length (now back) ≤ 6) ⌝ }
-    ensures { λ r. ⌜ r ≡ written none (whole (now (label .entry)) (now (front .entry)) below size (now (back .entry))) (now (out .entry)) ⌝ }
-    ensures { λ _. ⌜ now (out .exit) ≡ stored none (whole (now (label .entry)) (now (front .entry)) below size (now (back .entry))) (now (out .entry)) ⌝ }
+    ensures { λ r. ⌜ Wrote none (whole (now (label .entry)) (now (front .entry)) below size (now (back .entry))) (now (out .entry)) r (now (out .exit)) ⌝ }
 {
     let long = field_length(label);
     let before = numbers_length(front);
@@ -134,15 +133,15 @@ fn line(
 }
 
 // Writes the row of a sound record, whose lost packets are given.
-pub fn row(label: &[u8], ssrc: u32, s: Source, lost: i64, jumped: u64, out: &mut [u8]) -> Written
-    requires { ⌜ (length (now label) ≤ 502) × (sound s ≡ true) × (lost ≡ lostOf s) ⌝ }
-    ensures { λ r. ⌜ r ≡ written none (rowBytes (now (label .entry)) ssrc s jumped) (now (out .entry)) ⌝ }
-    ensures { λ _. ⌜ now (out .exit) ≡ stored none (rowBytes (now (label .entry)) ssrc s jumped) (now (out .entry)) ⌝ }
+pub fn row(label: &[u8], ssrc: u32, t: Totals, lost: i64, out: &mut [u8]) -> Written
+    requires { ⌜ (length (now label) ≤ 502) × (sound (t .source) ≡ true) × (lost ≡ lostOf (t .source)) ⌝ }
+    ensures { λ r. ⌜ Wrote none (rowBytes (now (label .entry)) ssrc t) (now (out .entry)) r (now (out .exit)) ⌝ }
 {
+    let s = t.source;
     let highest = s.highest;
     let high = magnitude(highest.0);
     let front = [ssrc as u64, high, s.ect0, s.ect1, s.ce, s.notect];
-    let back = [s.duplicates, jumped];
+    let back = [s.duplicates, t.jumped];
     let size = magnitude(lost);
     line(label, &front, lost < 0, size, &back, out)
 }

@@ -1,16 +1,16 @@
 // The line of a refused block.
 use crate::decimal::digits;
 use crate::decimal::put_before;
-use words::Refusal;
-use words::Written;
-use words::copy::put_bytes;
+use answers::Refusal;
+use answers::Written;
+use answers::copy::put_bytes;
 ghost use mathlib.Core.Path.{_≡_};
 ghost use mathlib.Core.List.{_++_};
 ghost use mathlib.Core.Option.{none};
 ghost use Prim.Native.Nat.{_+_, _≤_, _<_};
 ghost use lib.ListN.{length};
 ghost use lib.Seq.{sets};
-ghost use Rattle.words.specs.Writers.{written, stored};
+ghost use Rattle.answers.specs.Writers.{Wrote};
 ghost use Rattle.table.specs.Decimal.{decimal};
 ghost use Rattle.table.specs.Lines.{refusedLine};
 
@@ -36,8 +36,7 @@ fn put_line(number: u64, block: u64, out: &mut [u8], middle: usize, size: usize)
 
 // Writes the line.
 pub fn line(number: u64, block: u64, out: &mut [u8]) -> Written
-    ensures { λ r. ⌜ r ≡ written none (refusedLine number block) (now (out .entry)) ⌝ }
-    ensures { λ _. ⌜ now (out .exit) ≡ stored none (refusedLine number block) (now (out .entry)) ⌝ }
+    ensures { λ r. ⌜ Wrote none (refusedLine number block) (now (out .entry)) r (now (out .exit)) ⌝ }
 {
     let middle = 8 + digits(number);
     let size = middle + (9 + digits(block));

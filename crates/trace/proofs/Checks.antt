@@ -8,12 +8,12 @@ use borrow.Author.Tests.{ne-eqb, eqb-true, eqb-false, not-true}
 use lib.Dec.{eqb}
 use lib.ListN.{length, take, drop, take-append-drop, length-drop}
 use lib.Seq.{length-take-le, take-all}
-use Rattle.words.specs.BigEndian.{word, bytes}
-use Rattle.words.proofs.BigEndian.{Octets, bytes-two, word-lt}
-use Rattle.words.proofs.Conditions.{all-true}
+use Rattle.numbers.specs.BigEndian.{word, bytes}
+use Rattle.numbers.proofs.BigEndian.{Octets, bytes-two, word-lt}
+use Rattle.answers.proofs.Conditions.{all-true}
 use Rattle.trace.specs.Checksum.{words, onesSum}
 use Rattle.trace.specs.Layout.{checked}
-use Rattle.trace.specs.Reading.{rightCheck, checkOf}
+use Rattle.trace.specs.Reading.{rightCheck, checkIn}
 use Rattle.trace.proofs.Tallies.{tally, tally-append}
 use Rattle.trace.proofs.Sums.{total, carried, ones-total, words-append}
 use Rattle.trace.proofs.Octets.{octets-append, octets-bytes, octets-take, bytes-word, read-last}
@@ -78,19 +78,16 @@ check-right front o long some =
 pub right-checked : (b : List ℕ) → Octets b → length b ≡ 512 → rightCheck b ≡ true → b ≡ checked (take 510 b)
 unfolding checked rightCheck
 right-checked b o long right =
-    let tests : List Bool = eqb (onesSum (words b)) 65535 ∷ not (eqb (checkOf b) 65535) ∷ [] in
+    let tests : List Bool = eqb (onesSum (words b)) 65535 ∷ not (eqb (checkIn b) 65535) ∷ [] in
     let front : List ℕ = take 510 b in
-    let c : ℕ = checkOf b in
+    let c : ℕ = checkIn b in
     let of : Octets front = octets-take 510 b o in
     let length-f : length front ≡ 510 = length-take-le 510 b (omega arith) in
     let end : bytes 2 c ≡ drop 510 b = bytes-word 2 b 510 o (omega arith) ∙ take-all 2 (drop 510 b) (rw length-drop (omega arith)) in
     let parts : b ≡ front ++ bytes 2 c = sym (take-append-drop 510 b) ∙ ap (λ (s : List ℕ). front ++ s) (sym end) in
     let sum : onesSum (words b) ≡ 65535 = eqb-true (onesSum (words b)) 65535 (all-true tests 0 right) in
     let other = eqb-false c 65535 (not-true (eqb c 65535) (all-true tests 1 right)) in
-    let small : c < 65536 = word-small b 510 o in
+    let small : c < 65536 = word-lt b 510 2 o in
     let below : c < 65535 = omega (arith, small, other) in
     let made : carried (total (words front) + c) ≡ 65535 = sym (sum-checked front of (rw length-f) c small) ∙ ap (λ (s : List ℕ). onesSum (words s)) (sym parts) ∙ sum in
     parts ∙ ap (λ (n : ℕ). front ++ bytes 2 n) (check-only (total (words front)) c below made ∙ ap (λ (n : ℕ). 65535 - n) (sym (ones-total front of)))
-  where
-    word-small : (s : List ℕ) (at : ℕ) → Octets s → word 2 s at < 65536
-    word-small s at o = word-lt s at 2 o

@@ -7,24 +7,31 @@ use native.Mathlib.Numerals.{add-one}
 use native.Mathlib.Omega.{arith}
 use lib.ListN.{length, take, drop, getD, set, replicate, length-append, length-replicate, drop-of-length-le}
 use lib.Seq.{sets, sets-eq, drop-cons, take-at, length-take-le}
-use Rattle.words.specs.BigEndian.{bytes}
-use Rattle.words.proofs.BigEndian.{length-bytes}
-use Rattle.words.proofs.Stores.{sets-step, sets-front}
+use Rattle.numbers.specs.BigEndian.{bytes}
+use Rattle.numbers.proofs.BigEndian.{length-bytes}
+use Rattle.answers.proofs.Stores.{sets-step, sets-front}
 use Rattle.trace.specs.Checksum.{words, onesSum}
-use Rattle.trace.specs.Layout.{Form, first, width, recordBytes, recordsBytes, header, filled, checked, labelBlock, arrivalsBlock}
+use Rattle.format.specs.Forms.{Shape, shapeOf, width}
+use Rattle.format.specs.declared.Form.{Form}
+use Rattle.format.specs.declared.Form.the-variants.{One}
+use Rattle.trace.specs.Layout.{recordBytes, recordsBytes, header, filled, checked, labelBlock, arrivalsBlock}
 use Rattle.trace.specs.Writing.{recordsOf}
 use Rattle.trace.specs.declared.Record.{Record}
 
+-- a time has four bytes in every form yet, as `Record` has it
+pub time-four : (form : Form) → shapeOf form .time ≡ 4
+time-four One = refl
+
 -- ---- lengths
 
-pub length-record : (f : Form) (r : Record) → length (recordBytes f r) ≡ width f
+pub length-record : (shape : Shape) (r : Record) → length (recordBytes shape r) ≡ width shape
 unfolding recordBytes
-length-record f r = simp (length-append, length-bytes) (omega arith)
+length-record shape r = simp (length-append, length-bytes) (omega arith)
 
-pub length-records : (f : Form) (rs : List Record) → length (recordsBytes f rs) ≡ length rs * width f
+pub length-records : (shape : Shape) (rs : List Record) → length (recordsBytes shape rs) ≡ length rs * width shape
 unfolding recordsBytes
-length-records f [] = sym (zero-mul (width f))
-length-records f (r ∷ rs) = rw (length-append, length-record, length-records f rs, suc-mul (length rs) (width f)) (omega arith)
+length-records shape [] = sym (zero-mul (width shape))
+length-records shape (r ∷ rs) = rw (length-append, length-record, length-records shape rs, suc-mul (length rs) (width shape)) (omega arith)
 
 pub length-header : (kind count ssrc : ℕ) → length (header kind count ssrc) ≡ 8
 unfolding header
@@ -41,21 +48,21 @@ pub length-checked : (front : List ℕ) → length front ≡ 510 → length (che
 unfolding checked
 length-checked front h = rw (length-append, h, length-bytes)
 
-pub length-labelBlock : (f : Form) (label : List ℕ) (ssrc : ℕ) → length label ≤ 502 → length (labelBlock f label ssrc) ≡ 512
+pub length-labelBlock : (shape : Shape) (label : List ℕ) (ssrc : ℕ) → length label ≤ 502 → length (labelBlock shape label ssrc) ≡ 512
 unfolding labelBlock
-length-labelBlock f label ssrc h = length-checked _ (length-front (f .label) (length label) ssrc label h)
+length-labelBlock shape label ssrc h = length-checked _ (length-front (shape .label) (length label) ssrc label h)
 
-pub length-arrivalsBlock : (f : Form) (rs : List Record) (ssrc : ℕ) → length rs * width f ≤ 502 → length (arrivalsBlock f rs ssrc) ≡ 512
+pub length-arrivalsBlock : (shape : Shape) (rs : List Record) (ssrc : ℕ) → length rs * width shape ≤ 502 → length (arrivalsBlock shape rs ssrc) ≡ 512
 unfolding arrivalsBlock
-length-arrivalsBlock f rs ssrc h =
-    length-checked _ (length-front (f .arrivals) (length rs) ssrc (recordsBytes f rs) (rw (length-records f rs) h))
+length-arrivalsBlock shape rs ssrc h =
+    length-checked _ (length-front (shape .arrivals) (length rs) ssrc (recordsBytes shape rs) (rw (length-records shape rs) h))
 
 -- ---- the records of three lists
 
 module _ (times numbers marks : List ℕ) (en : length numbers ≡ length times) (em : length marks ≡ length times) where
   pub records-next : (i : ℕ) → i < length times
       → recordsOf (drop i times) (drop i numbers) (drop i marks)
-      ≡ record { time = getD times i 0; number = getD numbers i 0; mark = getD marks i 0 } ∷ recordsOf (drop (i + 1) times) (drop (i + 1) numbers) (drop (i + 1) marks)
+      ≡ record { time = getD times i 0; number = record { 0 = getD numbers i 0 }; mark = getD marks i 0 } ∷ recordsOf (drop (i + 1) times) (drop (i + 1) numbers) (drop (i + 1) marks)
   unfolding recordsOf
   records-next i h =
       rw (drop-cons times i 0 h, drop-cons numbers i 0 (omega arith), drop-cons marks i 0 (omega arith), add-one i)
@@ -83,15 +90,15 @@ header-stored old kind count ssrc {out₁} e₁ e₂ e₃ =
     ∙ sets-step out₁ 2 (bytes 2 count) (bytes 4 ssrc) refl e₂ (omega (arith, length-bytes 2 count))
     ∙ sets-step old 0 (bytes 2 kind) (bytes 2 count ++ bytes 4 ssrc) refl e₁ (omega (arith, length-bytes 2 kind))
 
-pub record-stored : (old : List ℕ) (at : ℕ) (r : Record) {out₁ out₂ : List ℕ}
-    → out₁ ≡ sets old at (bytes 4 (r .time)) → out₂ ≡ sets out₁ (at + 4) (bytes 2 (r .number))
-    → set (set out₂ (at + 6) (r .mark)) (at + 7) 0 ≡ sets old at (recordBytes first r)
+pub record-stored : (shape : Shape) (old : List ℕ) (at behind : ℕ) (r : Record) {out₁ out₂ : List ℕ} → behind ≡ at + shape .time
+    → out₁ ≡ sets old at (bytes (shape .time) (r .time)) → out₂ ≡ sets out₁ behind (bytes 2 (r .number .0))
+    → set (set out₂ (behind + 2) (r .mark)) (behind + 3) 0 ≡ sets old at (recordBytes shape r)
 unfolding recordBytes
-record-stored old at r {out₁} {out₂} e₁ e₂ =
-    let last : at + 7 ≡ suc (at + 6) = omega arith in
-    ap (λ (k : ℕ). set (set out₂ (at + 6) (r .mark)) k 0) last
-    ∙ sets-step out₁ (at + 4) (bytes 2 (r .number)) (r .mark ∷ 0 ∷ []) refl e₂ (omega (arith, length-bytes 2 (r .number)))
-    ∙ sets-step old at (bytes 4 (r .time)) (bytes 2 (r .number) ++ (r .mark ∷ 0 ∷ [])) refl e₁ (omega (arith, length-bytes 4 (r .time)))
+record-stored shape old at behind r {out₁} {out₂} eb e₁ e₂ =
+    let last : behind + 3 ≡ suc (behind + 2) = omega arith in
+    ap (λ (k : ℕ). set (set out₂ (behind + 2) (r .mark)) k 0) last
+    ∙ sets-step out₁ behind (bytes 2 (r .number .0)) (r .mark ∷ 0 ∷ []) refl e₂ (omega (arith, length-bytes 2 (r .number .0)))
+    ∙ sets-step old at (bytes (shape .time) (r .time)) (bytes 2 (r .number .0) ++ (r .mark ∷ 0 ∷ [])) refl e₁ (omega (arith, length-bytes (shape .time) (r .time)))
 
 -- a turn of the loop over zeros
 pub zeros-turn : (out : List ℕ) (at : ℕ) → at < 510 → sets (set out at 0) (at + 1) (replicate (510 - (at + 1)) 0) ≡ sets out at (replicate (510 - at) 0)
@@ -119,13 +126,14 @@ module _ (old : List ℕ) (from : ℕ) (h : from ≤ 510) (room : 512 ≤ length
       ∙ sets-step old from zeros _ refl e₁ (omega (arith, many))
 
 -- header, contents and end make a block
-pub block-stored : (old contents : List ℕ) (kind count ssrc : ℕ) {out₁ out₂ out₃ : List ℕ} {at : ℕ} → length contents ≤ 502 → 512 ≤ length old
-    → out₁ ≡ sets old 0 (header kind count ssrc) → out₂ ≡ sets out₁ 8 contents → at ≡ 8 + length contents
+pub block-stored : (old contents : List ℕ) (kind count ssrc : ℕ) {out₁ out₂ out₃ : List ℕ} {at k n : ℕ} → length contents ≤ 502 → 512 ≤ length old
+    → k ≡ kind → n ≡ count → out₁ ≡ sets old 0 (header k n ssrc) → out₂ ≡ sets out₁ 8 contents → at ≡ 8 + length contents
     → out₃ ≡ sets out₂ at (replicate (510 - at) 0 ++ bytes 2 (65535 - onesSum (words (take at out₂ ++ replicate (510 - at) 0))))
     → out₃ ≡ sets old 0 (checked (header kind count ssrc ++ filled contents))
 unfolding checked filled
-block-stored old contents kind count ssrc {out₁} {out₂} {out₃} {at} few room e₁ e₂ ea e₃ =
+block-stored old contents kind count ssrc {out₁} {out₂} {out₃} {at} few room ek en eh e₂ ea e₃ =
     let head : List ℕ = header kind count ssrc in
+    let e₁ : out₁ ≡ sets old 0 head = rw (← ek, ← en) eh in
     let zeros : List ℕ = replicate (502 - length contents) 0 in
     let less : 510 - at ≡ 502 - length contents = omega arith in
     let eight = length-header kind count ssrc in

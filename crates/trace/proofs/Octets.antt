@@ -7,8 +7,8 @@ use native.Mathlib.Omega.{arith}
 use lib.Arith.{digits-div, digits-mod}
 use lib.ListN.{length, take, drop, replicate, length-drop}
 use lib.Seq.{getD-drop, take-suc}
-use Rattle.words.specs.BigEndian.{word, bytes}
-use Rattle.words.proofs.BigEndian.{Octets, length-bytes, word-left, word-right, word-bytes}
+use Rattle.numbers.specs.BigEndian.{word, bytes}
+use Rattle.numbers.proofs.BigEndian.{Octets, length-bytes, word-left, word-right, word-bytes}
 
 -- ---- lists of octets
 

@@ -7,7 +7,7 @@ use native.Mathlib.Numerals.{add-one}
 use native.Mathlib.Omega.{arith}
 use lib.ListN.{length, drop, getD, drop-of-length-le}
 use lib.Seq.{drop-cons}
-use Rattle.words.proofs.BigEndian.{Octets}
+use Rattle.numbers.proofs.BigEndian.{Octets}
 use Rattle.trace.specs.Checksum.{words, onesAdd, onesSum}
 use Rattle.trace.proofs.Tallies.{tally}
 

@@ -1,18 +1,18 @@
 -- Laws of adding up, over a list, what breaks a rule. Assumes nothing.
 use mathlib.Core.Path.{_≡_, refl, sym, ap, _∙_}
-use mathlib.Core.Bool.{Bool, true, false, _&&_, cond}
+use mathlib.Core.Bool.{Bool, true, false, _&&_, cond, and-true}
 use mathlib.Core.List.{List, [], _∷_, _++_}
 use Prim.Native.Nat.{ℕ, zero, suc, _+_, _-_, _*_, _/_, _≤_, _<_}
-use native.Mathlib.Nat.{add-zero, zero-add, suc-add, add-assoc}
+use native.Mathlib.Nat.{add-zero, zero-add, suc-add, add-assoc, add-comm, suc-mul}
 use native.Mathlib.Numerals.{add-one}
 use native.Mathlib.Omega.{arith}
 use borrow.Author.Tests.{eq-eqb, ne-eqb, leb-true, leb-false, eqb-true, eqb-false}
 use lib.Dec.{leb, eqb, eqb·suc-zero}
 use lib.ListN.{length, drop, getD, drop-of-length-le}
 use lib.Seq.{drop-cons, drop-drop, getD-drop}
-use Rattle.words.specs.BigEndian.{word}
-use Rattle.words.proofs.BigEndian.{word-two}
-use Rattle.trace.specs.Layout.{first}
+use Rattle.numbers.specs.BigEndian.{word}
+use Rattle.numbers.proofs.BigEndian.{word-two}
+use Rattle.format.specs.Forms.{Shape, width}
 use Rattle.trace.specs.Contents.{every, isZero, isMark, labelByte, goodRecords}
 
 -- the sum of f over a list
@@ -54,15 +54,6 @@ module _ (f : ℕ → ℕ) (rule : ℕ → Bool) (fault : (c : ℕ) → eqb (f c
 
 -- ---- the rules
 
--- two tests that fail together are equal
-same-test : (a b : Bool) → (a ≡ true → b ≡ true) → (b ≡ true → a ≡ true) → a ≡ b
-same-test true b f g = sym (f refl)
-same-test false true f g = g refl
-same-test false false f g = refl
-
-pub zero-fault : (c : ℕ) → eqb c 0 ≡ isZero c
-zero-fault c = refl
-
 pub mark-fault : (m : ℕ) → eqb (m / 4) 0 ≡ isMark m
 mark-fault m = go (leb m 3) refl
   where
@@ -102,26 +93,27 @@ and-assoc : (a b c : Bool) → ((a && b) && c) ≡ (a && (b && c))
 and-assoc true b c = refl
 and-assoc false b c = refl
 
+pub mul-turn : (left w : ℕ) → 0 < left → left * w ≡ w + (left - 1) * w
+mul-turn zero w h = absurd (omega arith)
+mul-turn (suc k) w h = let less : suc k - 1 ≡ k = omega arith in rw less (suc-mul k w ∙ add-comm (k * w) w)
+
 -- a turn of a loop over the records
-pub records-turn : (left at sum pair : ℕ) (body : List ℕ) → 0 < left → getD body (at + 6) 0 < 256
-    → pair ≡ word 2 (getD body (at + 7) 0 ∷ getD body (at + 6) 0 ∷ []) 0
-    → (eqb (sum + pair / 4) 0 && goodRecords first (left - 1) (drop (at + 8) body)) ≡ (eqb sum 0 && goodRecords first left (drop at body))
+pub records-turn : (shape : Shape) (left at sum pair : ℕ) (body : List ℕ) {next zero-at mark-at : ℕ} → 0 < left
+    → zero-at ≡ at + (shape .time + 3) → mark-at ≡ at + (shape .time + 2) → next ≡ at + width shape → getD body mark-at 0 < 256
+    → pair ≡ word 2 (getD body zero-at 0 ∷ getD body mark-at 0 ∷ []) 0
+    → (eqb (sum + pair / 4) 0 && goodRecords shape (left - 1) (drop next body)) ≡ (eqb sum 0 && goodRecords shape left (drop at body))
 unfolding goodRecords
-records-turn zero at sum pair body h o e = absurd (omega arith)
-records-turn (suc k) at sum pair body h o e =
-    let z = getD body (at + 7) 0 in
-    let m = getD body (at + 6) 0 in
-    let rest : Bool = goodRecords first k (drop (at + 8) body) in
+records-turn shape zero at sum pair body h ez em en o e = absurd (omega arith)
+records-turn shape (suc k) at sum pair body {next} {zero-at} {mark-at} h ez em en o e =
+    let z = getD body zero-at 0 in
+    let m = getD body mark-at 0 in
+    let rest : Bool = goodRecords shape k (drop next body) in
     let less : suc k - 1 ≡ k = omega arith in
     let number : pair ≡ z * 256 + m = e ∙ word-two (z ∷ m ∷ []) 0 in
-    rw (less, number, zero-sum sum ((z * 256 + m) / 4), pair-fault z m o, getD-drop at body 6 0, getD-drop at body 7 0, drop-drop 8 at body)
+    rw (less, number, zero-sum sum ((z * 256 + m) / 4), pair-fault z m o, getD-drop at body (shape .time + 2) 0, getD-drop at body (shape .time + 3) 0, drop-drop (width shape) at body, ← ez, ← em, ← en)
     (and-assoc (eqb sum 0) (isMark m && isZero z) rest ∙ ap (λ (t : Bool). eqb sum 0 && t) (and-assoc (isMark m) (isZero z) rest))
 
-pub records-done : (left sum n : ℕ) (s body : List ℕ) → left ≤ 0 → (eqb sum 0 && goodRecords first left s) ≡ goodRecords first n body → eqb sum 0 ≡ goodRecords first n body
+pub records-done : (shape : Shape) (left sum n : ℕ) (s body : List ℕ) → left ≤ 0 → (eqb sum 0 && goodRecords shape left s) ≡ goodRecords shape n body → eqb sum 0 ≡ goodRecords shape n body
 unfolding goodRecords
-records-done zero sum n s body h e = sym (and-true (eqb sum 0)) ∙ e
-  where
-    and-true : (a : Bool) → (a && true) ≡ a
-    and-true true = refl
-    and-true false = refl
-records-done (suc left) sum n s body h e = absurd (omega arith)
+records-done shape zero sum n s body h e = sym (and-true (eqb sum 0)) ∙ e
+records-done shape (suc left) sum n s body h e = absurd (omega arith)

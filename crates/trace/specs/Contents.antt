@@ -4,8 +4,9 @@ use mathlib.Core.Bool.{Bool, true, _&&_, _||_}
 use mathlib.Core.List.{List, [], _∷_}
 use lib.Dec.{leb, eqb}
 use lib.ListN.{length, take, drop, getD}
-use Rattle.words.specs.Conditions.{all}
-use Rattle.trace.specs.Layout.{Form, width}
+use Rattle.answers.specs.Conditions.{all}
+use Rattle.format.specs.Blocks.{bodyBytes}
+use Rattle.format.specs.Forms.{Shape, width}
 
 -- whether a rule holds for every byte
 unfoldable pub every : (ℕ → Bool) → List ℕ → Bool
@@ -24,17 +25,27 @@ unfoldable pub labelByte : ℕ → Bool
 labelByte c = (leb 32 c && leb c 126) || (eqb c 10 || eqb c 13)
 
 unfoldable pub labelOk : List ℕ → Bool
-labelOk label = all (leb (length label) 502 ∷ every labelByte label ∷ [])
+labelOk label = all (leb (length label) bodyBytes ∷ every labelByte label ∷ [])
 
 -- the body of a label of n bytes; its unused bytes are zero
+abbrev pub labelConditions : ℕ → List ℕ → List Bool
+labelConditions n body = leb n bodyBytes ∷ every labelByte (take n body) ∷ every isZero (drop n body) ∷ []
+
 unfoldable pub labelBody : ℕ → List ℕ → Bool
-labelBody n body = all (leb n 502 ∷ every labelByte (take n body) ∷ every isZero (drop n body) ∷ [])
+labelBody n body = all (labelConditions n body)
+
+-- a number of records: from 1 to the most
+unfoldable pub countOk : Shape → ℕ → Bool
+countOk shape n = leb 1 n && leb n (shape .most)
 
 -- n records, each with a mark and then a zero
-unfoldable pub goodRecords : Form → ℕ → List ℕ → Bool
-goodRecords f zero s = true
-goodRecords f (suc n) s = isMark (getD s (f .time + 2) 0) && (isZero (getD s (f .time + 3) 0) && goodRecords f n (drop (width f) s))
+unfoldable pub goodRecords : Shape → ℕ → List ℕ → Bool
+goodRecords shape zero s = true
+goodRecords shape (suc n) s = isMark (getD s (shape .time + 2) 0) && (isZero (getD s (shape .time + 3) 0) && goodRecords shape n (drop (width shape) s))
 
--- the body of n arrivals, from 1 to the most; its unused bytes are zero
-unfoldable pub arrivalsBody : Form → ℕ → List ℕ → Bool
-arrivalsBody f n body = all (leb 1 n ∷ leb n (f .most) ∷ goodRecords f n body ∷ every isZero (drop (n * width f) body) ∷ [])
+-- the body of n arrivals; its unused bytes are zero
+abbrev pub arrivalsConditions : Shape → ℕ → List ℕ → List Bool
+arrivalsConditions shape n body = countOk shape n ∷ goodRecords shape n body ∷ every isZero (drop (n * width shape) body) ∷ []
+
+unfoldable pub arrivalsBody : Shape → ℕ → List ℕ → Bool
+arrivalsBody shape n body = all (arrivalsConditions shape n body)

@@ -1,39 +1,28 @@
--- Document 01, "Trace file": the layout of a block, 512 bytes: kind (2), count (2), SSRC (4), body (502), check (2).
+-- Document 01, "Trace file": the bytes of a block, by the shape of its form.
 use Prim.Native.Nat.{ℕ, _+_, _-_}
 use mathlib.Core.List.{List, [], _∷_, _++_}
 use lib.ListN.{length, take, drop, getD, replicate}
-use Rattle.words.specs.BigEndian.{word, bytes}
+use Rattle.numbers.specs.BigEndian.{word, bytes}
+use Rattle.format.specs.Blocks.{bodyAt, bodyBytes}
+use Rattle.format.specs.Forms.{Shape}
 use Rattle.trace.specs.Checksum.{words, onesSum}
 use Rattle.trace.specs.declared.Record.{Record}
 
--- what a form of the trace fixes: the kinds of a label block and of an arrivals block, the bytes of a time, the most records of a block
-pub record Form : Type 0 where
-  pub label : ℕ
-  pub arrivals : ℕ
-  pub time : ℕ
-  pub most : ℕ
-
-abbrev pub first : Form
-first = record { label = 1; arrivals = 2; time = 4; most = 62 }
-
 -- ---- a record: time, wire number (2), mark (1), zero (1)
 
-abbrev pub width : Form → ℕ
-width f = f .time + 4
+unfoldable pub recordBytes : Shape → Record → List ℕ
+recordBytes shape r = bytes (shape .time) (r .time) ++ (bytes 2 (r .number .0) ++ (r .mark ∷ 0 ∷ []))
 
-unfoldable pub recordBytes : Form → Record → List ℕ
-recordBytes f r = bytes (f .time) (r .time) ++ (bytes 2 (r .number) ++ (r .mark ∷ 0 ∷ []))
-
-unfoldable pub recordsBytes : Form → List Record → List ℕ
-recordsBytes f [] = []
-recordsBytes f (r ∷ rs) = recordBytes f r ++ recordsBytes f rs
+unfoldable pub recordsBytes : Shape → List Record → List ℕ
+recordsBytes shape [] = []
+recordsBytes shape (r ∷ rs) = recordBytes shape r ++ recordsBytes shape rs
 
 -- the record at a place of a body
-unfoldable pub recordAt : Form → List ℕ → ℕ → Record
-recordAt f body at = record {
-  time = word (f .time) body at;
-  number = word 2 body (at + f .time);
-  mark = getD body (at + (f .time + 2)) 0;
+unfoldable pub recordAt : Shape → List ℕ → ℕ → Record
+recordAt shape body at = record {
+  time = word (shape .time) body at;
+  number = record { 0 = word 2 body (at + shape .time) };
+  mark = getD body (at + (shape .time + 2)) 0;
 }
 
 -- ---- a block
@@ -44,19 +33,19 @@ header kind count ssrc = bytes 2 kind ++ (bytes 2 count ++ bytes 4 ssrc)
 
 -- the contents, and zeros in the unused bytes
 unfoldable pub filled : List ℕ → List ℕ
-filled contents = contents ++ replicate (502 - length contents) 0
+filled contents = contents ++ replicate (bodyBytes - length contents) 0
 
 -- the check word: with it the ones' complement sum of all words is 65,535
 unfoldable pub checked : List ℕ → List ℕ
 checked front = front ++ bytes 2 (65535 - onesSum (words front))
 
 -- the block of a label, and of records
-unfoldable pub labelBlock : Form → List ℕ → ℕ → List ℕ
-labelBlock f label ssrc = checked (header (f .label) (length label) ssrc ++ filled label)
+unfoldable pub labelBlock : Shape → List ℕ → ℕ → List ℕ
+labelBlock shape label ssrc = checked (header (shape .label) (length label) ssrc ++ filled label)
 
-unfoldable pub arrivalsBlock : Form → List Record → ℕ → List ℕ
-arrivalsBlock f records ssrc = checked (header (f .arrivals) (length records) ssrc ++ filled (recordsBytes f records))
+unfoldable pub arrivalsBlock : Shape → List Record → ℕ → List ℕ
+arrivalsBlock shape records ssrc = checked (header (shape .arrivals) (length records) ssrc ++ filled (recordsBytes shape records))
 
 -- the body of a block
 abbrev pub bodyOf : List ℕ → List ℕ
-bodyOf b = take 502 (drop 8 b)
+bodyOf b = take bodyBytes (drop bodyAt b)

@@ -3,4 +3,5 @@ pub mod Layout
 pub mod Contents
 pub mod Reading
 pub mod Writing
+pub mod Accepted
 pub mod Theorems

@@ -5,8 +5,11 @@ use mathlib.Core.List.{List, [], _∷_}
 use mathlib.Core.Option.{Option, none}
 use Prim.Native.Nat.{ℕ, zero, suc, _^_, _<_}
 use lib.ListN.{length, take, drop, getD}
-use Rattle.words.specs.declared.Refusal.{Refusal}
-use Rattle.trace.specs.Layout.{Form, width, recordAt, labelBlock, arrivalsBlock, bodyOf}
+use Rattle.answers.specs.declared.Refusal.{Refusal}
+use Rattle.format.specs.Blocks.{blockBytes, checkAt}
+use Rattle.format.specs.Forms.{Shape, shapeOf, width}
+use Rattle.format.specs.declared.Form.{Form}
+use Rattle.trace.specs.Layout.{recordAt, labelBlock, arrivalsBlock, bodyOf}
 use Rattle.trace.specs.Reading.{rightCheck, blockOf, foundAt}
 use Rattle.trace.specs.Writing.{labelFault, recordsOf, arrivalsFault}
 use Rattle.trace.specs.declared.Block.the-variants.{Label, Arrivals}
@@ -19,55 +22,55 @@ Below limit s = (i : ℕ) → getD s i 0 < limit
 
 -- ---- what a writer wrote reads back
 
--- to the same label and SSRC
-abbrev pub LabelReadsBack : Form → Type 0
-LabelReadsBack f =
-    (label : List ℕ) (ssrc : ℕ) → labelFault label ≡ none → ssrc < 2 ^ 32
-    → (blockOf f (labelBlock f label ssrc) ≡ Label (length label) ssrc)
-    × (take (length label) (bodyOf (labelBlock f label ssrc)) ≡ label)
+-- to the same form, label and SSRC
+abbrev pub LabelReadsBack : Type 0
+LabelReadsBack =
+    (form : Form) (label : List ℕ) (ssrc : ℕ) → labelFault label ≡ none → ssrc < 2 ^ 32
+    → (blockOf (labelBlock (shapeOf form) label ssrc) ≡ Label form (length label) ssrc)
+    × (take (length label) (bodyOf (labelBlock (shapeOf form) label ssrc)) ≡ label)
 
--- to the same records and SSRC
-abbrev pub ArrivalsReadBack : Form → Type 0
-ArrivalsReadBack f =
-    (times numbers marks : List ℕ) (ssrc : ℕ) → arrivalsFault f times numbers marks ≡ none
-    → Below (256 ^ f .time) times → Below (2 ^ 16) numbers → ssrc < 2 ^ 32
-    → (blockOf f (arrivalsBlock f (recordsOf times numbers marks) ssrc) ≡ Arrivals (length times) ssrc)
+-- to the same form, records and SSRC
+abbrev pub ArrivalsReadBack : Type 0
+ArrivalsReadBack =
+    (form : Form) (times numbers marks : List ℕ) (ssrc : ℕ) → arrivalsFault (shapeOf form) times numbers marks ≡ none
+    → Below (256 ^ shapeOf form .time) times → Below (2 ^ 16) numbers → ssrc < 2 ^ 32
+    → (blockOf (arrivalsBlock (shapeOf form) (recordsOf times numbers marks) ssrc) ≡ Arrivals form (length times) ssrc)
     × ((i : ℕ) → i < length times
-    → foundAt f (arrivalsBlock f (recordsOf times numbers marks) ssrc) i
-    ≡ Is (record { time = getD times i 0; number = getD numbers i 0; mark = getD marks i 0 }))
+    → foundAt (arrivalsBlock (shapeOf form) (recordsOf times numbers marks) ssrc) i
+    ≡ Is (record { time = getD times i 0; number = record { 0 = getD numbers i 0 }; mark = getD marks i 0 }))
 
 -- ---- each content has one check word
 
 abbrev pub OneCheck : Type 0
 OneCheck =
-    (b c : List ℕ) → Below 256 b → Below 256 c → length b ≡ 512 → length c ≡ 512 → rightCheck b ≡ true → rightCheck c ≡ true
-    → take 510 b ≡ take 510 c → b ≡ c
+    (b c : List ℕ) → Below 256 b → Below 256 c → length b ≡ blockBytes → length c ≡ blockBytes → rightCheck b ≡ true → rightCheck c ≡ true
+    → take checkAt b ≡ take checkAt c → b ≡ c
 
 -- ---- an accepted block is what the writer gives for its contents
 
 -- its label is one that the writer takes
-abbrev pub LabelIsWritten : Form → Type 0
-LabelIsWritten f =
-    (b : List ℕ) (n ssrc : ℕ) → Below 256 b → blockOf f b ≡ Label n ssrc
-    → (labelFault (take n (bodyOf b)) ≡ none) × (length (take n (bodyOf b)) ≡ n) × (b ≡ labelBlock f (take n (bodyOf b)) ssrc)
+abbrev pub LabelIsWritten : Type 0
+LabelIsWritten =
+    (form : Form) (b : List ℕ) (n ssrc : ℕ) → Below 256 b → blockOf b ≡ Label form n ssrc
+    → (labelFault (take n (bodyOf b)) ≡ none) × (length (take n (bodyOf b)) ≡ n) × (b ≡ labelBlock (shapeOf form) (take n (bodyOf b)) ssrc)
 
 -- the first n records of a body
-unfoldable pub recordsIn : Form → ℕ → List ℕ → List Record
-recordsIn f zero s = []
-recordsIn f (suc n) s = recordAt f s 0 ∷ recordsIn f n (drop (width f) s)
+unfoldable pub recordsIn : Shape → ℕ → List ℕ → List Record
+recordsIn shape zero s = []
+recordsIn shape (suc n) s = recordAt shape s 0 ∷ recordsIn shape n (drop (width shape) s)
 
 -- the lists that the writer takes
 unfoldable pub listOf : (Record → ℕ) → List Record → List ℕ
 listOf field [] = []
 listOf field (r ∷ rs) = field r ∷ listOf field rs
 
-abbrev pub recordsFault : Form → List Record → Option Refusal
-recordsFault f rs = arrivalsFault f (listOf (λ r. r .time) rs) (listOf (λ r. r .number) rs) (listOf (λ r. r .mark) rs)
+abbrev pub recordsFault : Shape → List Record → Option Refusal
+recordsFault shape rs = arrivalsFault shape (listOf (λ r. r .time) rs) (listOf (λ r. r .number .0) rs) (listOf (λ r. r .mark) rs)
 
 -- its records are some that the writer takes, and those that are found in it
-abbrev pub ArrivalsAreWritten : Form → Type 0
-ArrivalsAreWritten f =
-    (b : List ℕ) (n ssrc : ℕ) → Below 256 b → blockOf f b ≡ Arrivals n ssrc
-    → (recordsFault f (recordsIn f n (bodyOf b)) ≡ none)
-    × ((i : ℕ) (other : Record) → i < n → foundAt f b i ≡ Is (getD (recordsIn f n (bodyOf b)) i other))
-    × (b ≡ arrivalsBlock f (recordsIn f n (bodyOf b)) ssrc)
+abbrev pub ArrivalsAreWritten : Type 0
+ArrivalsAreWritten =
+    (form : Form) (b : List ℕ) (n ssrc : ℕ) → Below 256 b → blockOf b ≡ Arrivals form n ssrc
+    → (recordsFault (shapeOf form) (recordsIn (shapeOf form) n (bodyOf b)) ≡ none)
+    × ((i : ℕ) (other : Record) → i < n → foundAt b i ≡ Is (getD (recordsIn (shapeOf form) n (bodyOf b)) i other))
+    × (b ≡ arrivalsBlock (shapeOf form) (recordsIn (shapeOf form) n (bodyOf b)) ssrc)

@@ -3,13 +3,13 @@ use Prim.Native.Nat.{ℕ}
 use mathlib.Core.Bool.{Bool, cond}
 use mathlib.Core.List.{List, [], _∷_}
 use mathlib.Core.Option.{Option, none, some}
-use lib.Dec.{leb, eqb}
+use lib.Dec.{eqb}
 use lib.ListN.{length}
-use Rattle.words.specs.declared.Refusal.{Refusal}
-use Rattle.words.specs.declared.Refusal.the-variants.{Limits}
-use Rattle.words.specs.Conditions.{all}
-use Rattle.trace.specs.Layout.{Form}
-use Rattle.trace.specs.Contents.{every, isMark, labelOk}
+use Rattle.answers.specs.declared.Refusal.{Refusal}
+use Rattle.answers.specs.declared.Refusal.the-variants.{Limits}
+use Rattle.answers.specs.Conditions.{all}
+use Rattle.format.specs.Forms.{Shape}
+use Rattle.trace.specs.Contents.{every, isMark, labelOk, countOk}
 use Rattle.trace.specs.declared.Record.{Record}
 
 -- a label outside the trace rules
@@ -21,19 +21,16 @@ unfoldable pub recordsOf : List ℕ → List ℕ → List ℕ → List Record
 recordsOf [] numbers marks = []
 recordsOf (t ∷ times) [] marks = []
 recordsOf (t ∷ times) (n ∷ numbers) [] = []
-recordsOf (t ∷ times) (n ∷ numbers) (m ∷ marks) = record { time = t; number = n; mark = m } ∷ recordsOf times numbers marks
+recordsOf (t ∷ times) (n ∷ numbers) (m ∷ marks) = record { time = t; number = record { 0 = n }; mark = m } ∷ recordsOf times numbers marks
 
--- lists of one length, from 1 to the most, and marks of 0 to 3
-unfoldable pub arrivalsOk : Form → List ℕ → List ℕ → List ℕ → Bool
-arrivalsOk f times numbers marks =
-    all
-    (eqb (length numbers) (length times)
-    ∷ eqb (length marks) (length times)
-    ∷ leb 1 (length times)
-    ∷ leb (length times) (f .most)
-    ∷ every isMark marks
-    ∷ [])
+-- lists of one length that a block may have, and marks of 0 to 3
+abbrev pub listsConditions : Shape → List ℕ → List ℕ → List ℕ → List Bool
+listsConditions shape times numbers marks =
+    eqb (length numbers) (length times) ∷ eqb (length marks) (length times) ∷ countOk shape (length times) ∷ every isMark marks ∷ []
+
+unfoldable pub arrivalsOk : Shape → List ℕ → List ℕ → List ℕ → Bool
+arrivalsOk shape times numbers marks = all (listsConditions shape times numbers marks)
 
 -- records outside the trace rules
-unfoldable pub arrivalsFault : Form → List ℕ → List ℕ → List ℕ → Option Refusal
-arrivalsFault f times numbers marks = cond (arrivalsOk f times numbers marks) none (some Limits)
+unfoldable pub arrivalsFault : Shape → List ℕ → List ℕ → List ℕ → Option Refusal
+arrivalsFault shape times numbers marks = cond (arrivalsOk shape times numbers marks) none (some Limits)

@@ -1,8 +1,9 @@
 // The checksum of RFC 1071.
-use words::big_endian::join16;
+use numbers::big_endian::join16;
 ghost use mathlib.Core.Path.{_≡_};
 ghost use Prim.Native.Nat.{_+_, _*_, _/_, _%_, _≤_};
 ghost use lib.ListN.{length};
+ghost use Rattle.format.specs.Blocks.{blockBytes};
 ghost use Rattle.trace.specs.Checksum.{words, onesSum};
 
 // The two bytes of n, swapped.
@@ -15,7 +16,7 @@ fn swapped(n: u16) -> u16
 // The ones' complement sum of the words of s: a plain sum, whose carries are added at the end. The sum does not depend on the byte
 // order (section 2 (B)): with the low byte first the loop is plain loads, and the bytes are swapped once.
 pub fn ones_sum(s: &[u8]) -> u16
-    requires { ⌜ (length (now s) % 2 ≡ 0) × (length (now s) ≤ 512) ⌝ }
+    requires { ⌜ (length (now s) % 2 ≡ 0) × (length (now s) ≤ blockBytes) ⌝ }
     ensures { λ r. ⌜ r ≡ onesSum (words (now (s .entry))) ⌝ }
 {
     let mut sum: u32 = 0;

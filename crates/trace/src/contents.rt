@@ -1,18 +1,18 @@
 // The rules on a block's contents. Each loop adds up what breaks a rule, so that it has no way out but its end.
-use crate::layout::MARK;
-use crate::layout::RECORD;
-use crate::layout::ZERO;
-use words::big_endian::join16;
+use crate::fields::time_bytes;
+use format::Form;
+use numbers::big_endian::join16;
 ghost use mathlib.Core.Path.{_≡_};
 ghost use mathlib.Core.Bool.{cond};
 ghost use Prim.Native.Nat.{_*_, _≤_};
 ghost use lib.ListN.{length};
-ghost use Rattle.trace.specs.Layout.{first};
-ghost use Rattle.trace.specs.Contents.{every, isZero, isMark, labelByte, goodRecords};
+ghost use Rattle.format.specs.Blocks.{blockBytes};
+ghost use Rattle.format.specs.Forms.{shapeOf, width};
+ghost use Rattle.trace.specs.Contents.{every, isZero, isMark, labelByte, countOk, goodRecords};
 
 // Whether all bytes of s are zero.
 pub fn all_zero(s: &[u8]) -> bool
-    requires { ⌜ length (now s) ≤ 512 ⌝ }
+    requires { ⌜ length (now s) ≤ blockBytes ⌝ }
     ensures { λ r. ⌜ r ≡ every isZero (now (s .entry)) ⌝ }
 {
     let mut sum: u32 = 0;
@@ -26,7 +26,7 @@ pub fn all_zero(s: &[u8]) -> bool
 
 // Whether no mark is above 3.
 pub fn all_marks(marks: &[u8]) -> bool
-    requires { ⌜ length (now marks) ≤ 512 ⌝ }
+    requires { ⌜ length (now marks) ≤ blockBytes ⌝ }
     ensures { λ r. ⌜ r ≡ every isMark (now (marks .entry)) ⌝ }
 {
     let mut sum: u32 = 0;
@@ -51,7 +51,7 @@ fn outside(c: u8) -> u32
 
 // Whether a label may have all bytes of s.
 pub fn all_allowed(s: &[u8]) -> bool
-    requires { ⌜ length (now s) ≤ 512 ⌝ }
+    requires { ⌜ length (now s) ≤ blockBytes ⌝ }
     ensures { λ r. ⌜ r ≡ every labelByte (now (s .entry)) ⌝ }
 {
     let mut sum: u32 = 0;
@@ -63,18 +63,30 @@ pub fn all_allowed(s: &[u8]) -> bool
     sum == 0
 }
 
-// Whether the first n records of a body have a mark of 0 to 3 and then a zero: as a number with the zero first, the two are below 4.
-pub fn all_records(n: usize, body: &[u8]) -> bool
-    requires { ⌜ (n ≤ 62) × (n * 8 ≤ length (now body)) ⌝ }
-    ensures { λ r. ⌜ r ≡ goodRecords first n (now (body .entry)) ⌝ }
+// Whether a block may have n records.
+pub fn is_count(form: Form, n: usize) -> bool
+    ensures { λ r. ⌜ r ≡ countOk (shapeOf form) n ⌝ }
 {
+    if n < 1 {
+        return false;
+    }
+    n <= form.most()
+}
+
+// Whether the first n records of a body have a mark of 0 to 3 and then a zero: as a number with the zero first, the two are below 4.
+pub fn all_records(form: Form, n: usize, body: &[u8]) -> bool
+    requires { ⌜ (n ≤ shapeOf form .most) × (n * width (shapeOf form) ≤ length (now body)) ⌝ }
+    ensures { λ r. ⌜ r ≡ goodRecords (shapeOf form) n (now (body .entry)) ⌝ }
+{
+    let width = form.width();
+    let mark = time_bytes(form) + 2;
     let mut sum: u32 = 0;
     let mut left = n;
     let mut at = 0;
     while 0 < left {
-        sum += (join16(body[at + ZERO], body[at + MARK]) / 4) as u32;
+        sum += (join16(body[at + mark + 1], body[at + mark]) / 4) as u32;
         left -= 1;
-        at += RECORD;
+        at += width;
     }
     sum == 0
 }

@@ -1,22 +1,12 @@
-// A block's numbers: big-endian, at a place inside the slice.
-use words::big_endian::join16;
+// Where a record's parts stand: its time, and then wire number (2), mark (1) and zero (1).
+use format::Form;
+use format::block::BEHIND_TIME;
 ghost use mathlib.Core.Path.{_≡_};
-ghost use Prim.Native.Nat.{_+_, _≤_};
-ghost use lib.ListN.{length};
-ghost use Rattle.words.specs.BigEndian.{word};
+ghost use Rattle.format.specs.Forms.{shapeOf};
 
-// The number of two bytes.
-pub fn short(s: &[u8], at: usize) -> u16
-    requires { ⌜ at + 2 ≤ length (now s) ⌝ }
-    ensures { λ r. ⌜ r ≡ word 2 (now (s .entry)) at ⌝ }
+// The bytes of a time: four in every form yet, as the time of a `Record` has.
+pub fn time_bytes(form: Form) -> usize
+    ensures { λ r. ⌜ r ≡ shapeOf form .time ⌝ }
 {
-    join16(s[at], s[at + 1])
-}
-
-// The number of four bytes.
-pub fn long(s: &[u8], at: usize) -> u32
-    requires { ⌜ at + 4 ≤ length (now s) ⌝ }
-    ensures { λ r. ⌜ r ≡ word 4 (now (s .entry)) at ⌝ }
-{
-    short(s, at) as u32 * 65536 + short(s, at + 2) as u32
+    form.width() - BEHIND_TIME
 }

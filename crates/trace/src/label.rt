@@ -1,6 +1,6 @@
 // A trace's label.
 use crate::contents::all_allowed;
-use crate::layout::MOST_BYTES;
+use format::block::BODY_BYTES;
 ghost use mathlib.Core.Path.{_≡_};
 ghost use Rattle.trace.specs.Contents.{labelOk};
 
@@ -8,7 +8,7 @@ ghost use Rattle.trace.specs.Contents.{labelOk};
 pub fn is_label(s: &[u8]) -> bool
     ensures { λ r. ⌜ r ≡ labelOk (now (s .entry)) ⌝ }
 {
-    if MOST_BYTES < s.len() {
+    if BODY_BYTES < s.len() {
         return false;
     }
     all_allowed(s)

@@ -1,26 +1,35 @@
 // One block of a trace (document 01, "Trace file"): 512 bytes, read or written by one call.
-use words::Refusal;
+use answers::Refusal;
+use format::Form;
+use format::Wire;
 
 mod checksum;
 mod contents;
 mod fields;
 pub mod label;
-mod layout;
 pub mod read;
 pub mod write;
 
-// What a block is: a label of `length` bytes, or `count` arrivals, with the SSRC; or why it is refused. The label or the records stay in
-// the caller's slice, from byte 8 on.
+// What a block is: a label of `length` bytes, or `count` arrivals, with the form of its trace and the SSRC; or why it is refused. The label
+// or the records stay in the caller's slice, from format::block::BODY on.
 pub enum Block {
-    Label { length: usize, ssrc: u32 },
-    Arrivals { count: usize, ssrc: u32 },
+    Label {
+        form: Form,
+        length: usize,
+        ssrc: u32,
+    },
+    Arrivals {
+        form: Form,
+        count: usize,
+        ssrc: u32,
+    },
     Refused(Refusal),
 }
 
 // One arrival of a block: its time in ms, its wire number and its mark.
 pub struct Record {
     pub time: u32,
-    pub number: u16,
+    pub number: Wire,
     pub mark: u8,
 }
 

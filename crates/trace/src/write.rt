@@ -1,74 +1,83 @@
 // Writing a block.
+use crate::Record;
 use crate::checksum::ones_sum;
 use crate::contents::all_marks;
+use crate::contents::is_count;
+use crate::fields::time_bytes;
 use crate::label::is_label;
-use crate::layout::ARRIVALS;
-use crate::layout::BLOCK;
-use crate::layout::BODY;
-use crate::layout::CHECK;
-use crate::layout::LABEL;
-use crate::layout::MARK;
-use crate::layout::MOST_RECORDS;
-use crate::layout::NUMBER;
-use crate::layout::RECORD;
-use crate::layout::TIME;
-use crate::layout::ZERO;
-use words::Refusal;
-use words::Written;
-use words::big_endian::write16;
-use words::big_endian::write32;
-use words::copy::put_bytes;
+use answers::Refusal;
+use answers::Written;
+use answers::copy::put_bytes;
+use format::Form;
+use format::Wire;
+use format::block::BLOCK;
+use format::block::BODY;
+use format::block::CHECK;
+use format::block::COUNT;
+use format::block::KIND;
+use format::block::SSRC;
+use numbers::big_endian::write16;
+use numbers::big_endian::write32;
 ghost use mathlib.Core.Path.{_≡_};
 ghost use mathlib.Core.List.{_++_};
 ghost use Prim.Native.Nat.{_+_, _-_, _*_, _≤_};
 ghost use lib.ListN.{length, take, replicate};
 ghost use lib.Seq.{sets};
-ghost use Rattle.words.specs.BigEndian.{bytes};
-ghost use Rattle.words.specs.Writers.{written, stored};
+ghost use Rattle.numbers.specs.BigEndian.{bytes};
+ghost use Rattle.answers.specs.Writers.{Wrote};
+ghost use Rattle.format.specs.Blocks.{blockBytes, bodyAt, bodyBytes, checkAt};
+ghost use Rattle.format.specs.Forms.{shapeOf, width};
 ghost use Rattle.trace.specs.Checksum.{words, onesSum};
-ghost use Rattle.trace.specs.Layout.{first, recordBytes, recordsBytes, header, labelBlock, arrivalsBlock};
+ghost use Rattle.trace.specs.Layout.{recordBytes, recordsBytes, header, labelBlock, arrivalsBlock};
 ghost use Rattle.trace.specs.Writing.{labelFault, recordsOf, arrivalsOk, arrivalsFault};
 
 // Stores the header at the front of out.
 fn put_header(kind: u16, count: usize, ssrc: u32, out: &mut [u8])
-    requires { ⌜ count ≤ 502 ⌝ }
+    requires { ⌜ count ≤ bodyBytes ⌝ }
     ensures { λ _. ⌜ now (out .exit) ≡ sets (now (out .entry)) 0 (header kind count ssrc) ⌝ }
 {
-    write16(kind, out, 0);
-    write16(count as u16, out, 2);
-    write32(ssrc, out, 4);
+    write16(kind, out, KIND);
+    write16(count as u16, out, COUNT);
+    write32(ssrc, out, SSRC);
 }
 
 // Stores a record in out at a place.
-fn put_record(time: u32, number: u16, mark: u8, out: &mut [u8], at: usize)
-    requires { ⌜ at + 8 ≤ length (now out) ⌝ }
-    ensures { λ _. ⌜ now (out .exit) ≡ sets (now (out .entry)) at (recordBytes first (record { time = time; number = number; mark = mark })) ⌝ }
+fn put_record(form: Form, r: Record, out: &mut [u8], at: usize)
+    requires { ⌜ at + width (shapeOf form) ≤ length (now out) ⌝ }
+    ensures { λ _. ⌜ now (out .exit) ≡ sets (now (out .entry)) at (recordBytes (shapeOf form) r) ⌝ }
 {
-    write32(time, out, at + TIME);
-    write16(number, out, at + NUMBER);
-    out[at + MARK] = mark;
-    out[at + ZERO] = 0;
+    let behind = at + time_bytes(form);
+    write32(r.time, out, at);
+    write16(r.number.0, out, behind);
+    out[behind + 2] = r.mark;
+    out[behind + 3] = 0;
 }
 
-// Stores the records in out from byte 8 on.
-fn put_records(times: &[u32], numbers: &[u16], marks: &[u8], out: &mut [u8])
+// Stores the records in the body of out.
+fn put_records(form: Form, times: &[u32], numbers: &[u16], marks: &[u8], out: &mut [u8])
     requires { ⌜ (length (now numbers) ≡ length (now times)) × (length (now marks) ≡ length (now times)) ⌝ }
-    requires { ⌜ 8 + length (now times) * 8 ≤ length (now out) ⌝ }
-    ensures { λ _. ⌜ now (out .exit) ≡ sets (now (out .entry)) 8 (recordsBytes first (recordsOf (now (times .entry)) (now (numbers .entry)) (now (marks .entry)))) ⌝ }
+    requires { ⌜ (length (now times) ≤ shapeOf form .most) × (blockBytes ≤ length (now out)) ⌝ }
+    ensures { λ _. ⌜ now (out .exit) ≡ sets (now (out .entry)) bodyAt (recordsBytes (shapeOf form) (recordsOf (now (times .entry)) (now (numbers .entry)) (now (marks .entry)))) ⌝ }
 {
+    let width = form.width();
     let mut at = BODY;
     let mut i = 0;
     while i < times.len() {
-        put_record(times[i], numbers[i], marks[i], out, at);
-        at += RECORD;
+        let r = Record {
+            time: times[i],
+            number: Wire(numbers[i]),
+            mark: marks[i],
+        };
+        put_record(form, r, out, at);
+        at += width;
         i += 1;
     }
 }
 
 // Stores zeros in out from a place up to the check word.
 fn put_zeros(out: &mut [u8], from: usize)
-    requires { ⌜ (from ≤ 510) × (512 ≤ length (now out)) ⌝ }
-    ensures { λ _. ⌜ now (out .exit) ≡ sets (now (out .entry)) from (replicate (510 - from) 0) ⌝ }
+    requires { ⌜ (from ≤ checkAt) × (blockBytes ≤ length (now out)) ⌝ }
+    ensures { λ _. ⌜ now (out .exit) ≡ sets (now (out .entry)) from (replicate (checkAt - from) 0) ⌝ }
 {
     let mut at = from;
     while at < CHECK {
@@ -77,10 +86,10 @@ fn put_zeros(out: &mut [u8], from: usize)
     }
 }
 
-// Stores the check word behind the first 510 bytes of out.
+// Stores the check word behind the bytes of out before it.
 fn put_check(out: &mut [u8])
-    requires { ⌜ 512 ≤ length (now out) ⌝ }
-    ensures { λ _. ⌜ now (out .exit) ≡ sets (now (out .entry)) 510 (bytes 2 (65535 - onesSum (words (take 510 (now (out .entry)))))) ⌝ }
+    requires { ⌜ blockBytes ≤ length (now out) ⌝ }
+    ensures { λ _. ⌜ now (out .exit) ≡ sets (now (out .entry)) checkAt (bytes 2 (65535 - onesSum (words (take checkAt (now (out .entry)))))) ⌝ }
 {
     let sum = ones_sum(&out[..CHECK]);
     write16(65535 - sum, out, CHECK);
@@ -88,17 +97,16 @@ fn put_check(out: &mut [u8])
 
 // Ends a block whose contents end at a place.
 fn put_end(out: &mut [u8], from: usize)
-    requires { ⌜ (from ≤ 510) × (512 ≤ length (now out)) ⌝ }
-    ensures { λ _. ⌜ now (out .exit) ≡ sets (now (out .entry)) from (replicate (510 - from) 0 ++ bytes 2 (65535 - onesSum (words (take from (now (out .entry)) ++ replicate (510 - from) 0)))) ⌝ }
+    requires { ⌜ (from ≤ checkAt) × (blockBytes ≤ length (now out)) ⌝ }
+    ensures { λ _. ⌜ now (out .exit) ≡ sets (now (out .entry)) from (replicate (checkAt - from) 0 ++ bytes 2 (65535 - onesSum (words (take from (now (out .entry)) ++ replicate (checkAt - from) 0)))) ⌝ }
 {
     put_zeros(out, from);
     put_check(out);
 }
 
 // Writes a label block at the front of out. Refused are a label outside the trace rules (10), and an output under 512 bytes (12).
-pub fn write_label(label: &[u8], ssrc: u32, out: &mut [u8]) -> Written
-    ensures { λ r. ⌜ r ≡ written (labelFault (now (label .entry))) (labelBlock first (now (label .entry)) ssrc) (now (out .entry)) ⌝ }
-    ensures { λ _. ⌜ now (out .exit) ≡ stored (labelFault (now (label .entry))) (labelBlock first (now (label .entry)) ssrc) (now (out .entry)) ⌝ }
+pub fn write_label(form: Form, label: &[u8], ssrc: u32, out: &mut [u8]) -> Written
+    ensures { λ r. ⌜ Wrote (labelFault (now (label .entry))) (labelBlock (shapeOf form) (now (label .entry)) ssrc) (now (out .entry)) r (now (out .exit)) ⌝ }
 {
     if !is_label(label) {
         return Written::Refused(Refusal::Limits);
@@ -106,15 +114,15 @@ pub fn write_label(label: &[u8], ssrc: u32, out: &mut [u8]) -> Written
     if out.len() < BLOCK {
         return Written::Refused(Refusal::Room);
     }
-    put_header(LABEL, label.len(), ssrc, out);
+    put_header(form.label(), label.len(), ssrc, out);
     put_bytes(label, out, BODY);
     put_end(out, BODY + label.len());
     Written::Length(BLOCK)
 }
 
 // Whether three lists can be a block's records.
-fn are_records(times: &[u32], numbers: &[u16], marks: &[u8]) -> bool
-    ensures { λ r. ⌜ r ≡ arrivalsOk first (now (times .entry)) (now (numbers .entry)) (now (marks .entry)) ⌝ }
+fn are_records(form: Form, times: &[u32], numbers: &[u16], marks: &[u8]) -> bool
+    ensures { λ r. ⌜ r ≡ arrivalsOk (shapeOf form) (now (times .entry)) (now (numbers .entry)) (now (marks .entry)) ⌝ }
 {
     let n = times.len();
     if numbers.len() != n {
@@ -123,35 +131,32 @@ fn are_records(times: &[u32], numbers: &[u16], marks: &[u8]) -> bool
     if marks.len() != n {
         return false;
     }
-    if n < 1 {
-        return false;
-    }
-    if MOST_RECORDS < n {
+    if !is_count(form, n) {
         return false;
     }
     all_marks(marks)
 }
 
 // Writes an arrivals block at the front of out. Refused are records outside the trace rules (10): lists of unequal length, none or more
-// than 62, a mark above 3; and an output under 512 bytes (12).
+// than the form's most, a mark above 3; and an output under 512 bytes (12).
 pub fn write_arrivals(
+    form: Form,
     times: &[u32],
     numbers: &[u16],
     marks: &[u8],
     ssrc: u32,
     out: &mut [u8],
 ) -> Written
-    ensures { λ r. ⌜ r ≡ written (arrivalsFault first (now (times .entry)) (now (numbers .entry)) (now (marks .entry))) (arrivalsBlock first (recordsOf (now (times .entry)) (now (numbers .entry)) (now (marks .entry))) ssrc) (now (out .entry)) ⌝ }
-    ensures { λ _. ⌜ now (out .exit) ≡ stored (arrivalsFault first (now (times .entry)) (now (numbers .entry)) (now (marks .entry))) (arrivalsBlock first (recordsOf (now (times .entry)) (now (numbers .entry)) (now (marks .entry))) ssrc) (now (out .entry)) ⌝ }
+    ensures { λ r. ⌜ Wrote (arrivalsFault (shapeOf form) (now (times .entry)) (now (numbers .entry)) (now (marks .entry))) (arrivalsBlock (shapeOf form) (recordsOf (now (times .entry)) (now (numbers .entry)) (now (marks .entry))) ssrc) (now (out .entry)) r (now (out .exit)) ⌝ }
 {
-    if !are_records(times, numbers, marks) {
+    if !are_records(form, times, numbers, marks) {
         return Written::Refused(Refusal::Limits);
     }
     if out.len() < BLOCK {
         return Written::Refused(Refusal::Room);
     }
-    put_header(ARRIVALS, times.len(), ssrc, out);
-    put_records(times, numbers, marks, out);
-    put_end(out, BODY + times.len() * RECORD);
+    put_header(form.arrivals(), times.len(), ssrc, out);
+    put_records(form, times, numbers, marks, out);
+    put_end(out, BODY + times.len() * form.width());
     Written::Length(BLOCK)
 }

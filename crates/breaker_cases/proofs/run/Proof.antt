@@ -1,6 +1,6 @@
 -- `breaker_cases::run` is safe and ends. Assumes nothing.
 use borrow.Author.Needs.{needs}
-use Prim.Native.Nat.{_≤_, _-_, _+_}
+use Prim.Native.Nat.{_+_, _-_, _≤_}
 use lib.ListN.{length}
 use Rattle.breaker_cases.proofs.run.Statement.{statement}
 use Rattle.breaker_cases.proofs.run.Tie as tie
@@ -11,29 +11,17 @@ Inv-loop text b₀ at₀ b at = at ≤ length text + 1
 abbrev μ-loop : tie.MeasureT-loop
 μ-loop text b₀ at₀ b at = length text - at
 
-start-requires : tie.Need-start-requires Inv-loop μ-loop
-start-requires c κs = search needs
+start-preset-requires : tie.Need-start-preset-requires Inv-loop μ-loop
+start-preset-requires c κs = search needs
 
 loop-holds : tie.Need-loop-holds Inv-loop μ-loop
 loop-holds c = search needs
 
-line-end-requires : tie.Need-line-end-requires Inv-loop μ-loop
-line-end-requires c κs = search needs
-
-sub-line : tie.Need-sub-line Inv-loop μ-loop
-sub-line c = search needs
-
-part-line-start : tie.Need-part-line-start Inv-loop μ-loop
-part-line-start c = search needs
-
-part-line-end : tie.Need-part-line-end Inv-loop μ-loop
-part-line-end c = search needs
+line-requires : tie.Need-line-requires Inv-loop μ-loop
+line-requires c κs = search needs
 
 text-requires : tie.Need-text-requires Inv-loop μ-loop
 text-requires c κs = search needs
-
-shared-slice-read-done : tie.Need-shared-slice-read-done Inv-loop μ-loop
-shared-slice-read-done c = search needs
 
 done-requires : tie.Need-done-requires Inv-loop μ-loop
 done-requires c κs = search needs
@@ -43,6 +31,9 @@ end-requires c κs = search needs
 
 add-at : tie.Need-add-at Inv-loop μ-loop
 add-at c = search needs
+
+add-at-2 : tie.Need-add-at-2 Inv-loop μ-loop
+add-at-2 c = search needs
 
 loop-less : tie.Need-loop-less Inv-loop μ-loop
 loop-less c = search needs
@@ -59,17 +50,14 @@ run-spec =
     (tie.spec
     Inv-loop
     μ-loop
-    start-requires
+    start-preset-requires
     loop-holds
-    line-end-requires
-    sub-line
-    part-line-start
-    part-line-end
+    line-requires
     text-requires
-    shared-slice-read-done
     done-requires
     end-requires
     add-at
+    add-at-2
     loop-less
     loop-again
     returns)

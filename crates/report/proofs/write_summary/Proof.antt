@@ -5,9 +5,8 @@ use denote.Ref.{now}
 use Prim.Native.Nat.{ℕ, _-_}
 use mathlib.Core.List.{List}
 use mathlib.Core.Option.{Option}
-use Rattle.words.proofs.Stores.{wrote-refused}
-use Rattle.words.specs.declared.Refusal.{Refusal}
-use Rattle.words.specs.Writers.{written, stored}
+use Rattle.answers.proofs.Stores.{wrote-refused, wrote-same}
+use Rattle.answers.specs.declared.Refusal.{Refusal}
 use Rattle.report.specs.Reports.{summaryOf, summaryBytes}
 use Rattle.report.proofs.Faults.{carried-malformed, carried-fields}
 use Rattle.report.proofs.write_summary.Statement.{statement}
@@ -28,8 +27,7 @@ summary-requires c κs = search needs
 returns : tie.Need-returns
 returns c =
     let a = c .before .before .before .before .args in
-    let w = wrote-refused (summaryBytes (a .media) (a .s)) (now (a .out)) (carried-malformed (a .s) (sym (c .before .before .of .ensures) ∙ c .enum-told .given .1)) in
-    (w .answers, w .stores)
+    wrote-refused (summaryBytes (a .media) (a .s)) (now (a .out)) (carried-malformed (a .s) (sym (c .before .before .of .ensures) ∙ c .enum-told .given .1))
 
 same-length : tie.Need-same-length
 same-length c = search needs
@@ -38,11 +36,8 @@ returns-2 : tie.Need-returns-2
 returns-2 c =
     let a = c .before .before .before .before .before .before .before .before .before .args in
     let f = carried-fields (a .s) (sym (c .before .before .before .before .before .before .before .of .ensures) ∙ c .before .before .before .before .before .counts .given .1) in
-    let e = c .before .before .summary .ensures in
-    let same = ap (summaryOf (a .media)) (f .counts) in (
-      e .0 ∙ ap₂ (λ (v : Option Refusal) (l : List ℕ). written v l (now (a .out))) (sym (f .fits)) same,
-      e .1 ∙ ap₂ (λ (v : Option Refusal) (l : List ℕ). stored v l (now (a .out))) (sym (f .fits)) same,
-    )
+    let same = ap (summaryOf (a .media)) (f .counts) in
+    wrote-same (sym (f .fits)) same (c .before .before .summary .ensures)
 
 pub write-summary-spec : {M : Type 1} → statement M
 write-summary-spec =

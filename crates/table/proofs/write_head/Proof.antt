@@ -3,7 +3,7 @@ use borrow.Author.Needs.{needs}
 use mathlib.Core.Path.{refl}
 use Prim.Native.Nat.{_-_}
 use denote.Ref.{now}
-use Rattle.words.proofs.Stores.{wrote-short, wrote-all}
+use Rattle.answers.proofs.Stores.{wrote-short, wrote-all}
 use Rattle.table.specs.Field.{line}
 use Rattle.table.specs.Lines.{headBytes}
 use Rattle.table.proofs.write_head.Statement.{statement}
@@ -13,8 +13,7 @@ returns : tie.Need-returns
 unfolding headBytes line
 returns c =
     let a = c .before .before .args in
-    let w = wrote-short headBytes (now (a .out)) refl (c .if1 .taken) in
-    (w .answers, w .stores)
+    wrote-short headBytes (now (a .out)) refl (c .if1 .taken)
 
 slice-aggregate-put-bytes : tie.Need-slice-aggregate-put-bytes
 slice-aggregate-put-bytes c = search needs
@@ -29,8 +28,7 @@ returns-2 : tie.Need-returns-2
 unfolding headBytes line
 returns-2 c =
     let a = c .before .before .before .before .before .before .before .args in
-    let w = wrote-all headBytes (now (a .out)) refl (c .before .before .before .before .before .if1 .left) refl (c .before .before .put-bytes .ensures) in
-    (w .answers, w .stores)
+    wrote-all headBytes (now (a .out)) refl (c .before .before .before .before .before .if1 .left) refl (c .before .before .put-bytes .ensures)
 
 pub write-head-spec : {M : Type 1} → statement M
 write-head-spec =

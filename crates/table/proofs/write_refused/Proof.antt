@@ -1,10 +1,9 @@
 -- `table::write_refused` meets its contract. Assumes nothing.
 use borrow.Author.Needs.{needs}
-use mathlib.Core.Path.{ap, _∙_}
+use mathlib.Core.Path.{refl, ap}
 use Prim.Native.Nat.{ℕ}
 use denote.Ref.{now}
-use mathlib.Core.Option.{none}
-use Rattle.words.specs.Writers.{written, stored}
+use Rattle.answers.proofs.Stores.{wrote-same}
 use Rattle.table.specs.Lines.{refusedLine}
 use Rattle.table.proofs.write_refused.Statement.{statement}
 use Rattle.table.proofs.write_refused.Tie as tie
@@ -24,10 +23,7 @@ same-length c = search needs
 returns : tie.Need-returns
 returns c =
     let a = c .before .before .before .before .before .before .args in
-    let number = c .before .before .before .before .number .ensures in (
-      c .before .before .line .ensures .0 ∙ ap (λ (n : ℕ). written none (refusedLine n (a .block)) (now (a .out))) number,
-      c .before .before .line .ensures .1 ∙ ap (λ (n : ℕ). stored none (refusedLine n (a .block)) (now (a .out))) number,
-    )
+    wrote-same refl (ap (λ (n : ℕ). refusedLine n (a .block)) (c .before .before .before .before .number .ensures)) (c .before .before .line .ensures)
 
 pub write-refused-spec : {M : Type 1} → statement M
 write-refused-spec =

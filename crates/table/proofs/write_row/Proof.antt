@@ -1,19 +1,20 @@
 -- `table::write_row` meets its contract. Assumes nothing.
 use borrow.Author.Needs.{needs}
-use mathlib.Core.Path.{sym, _∙_}
+use mathlib.Core.Path.{refl, sym, _∙_}
 use Prim.Native.Nat.{_-_}
 use denote.Ref.{now}
-use Rattle.words.proofs.Stores.{wrote-refused}
-use Rattle.words.proofs.Conditions.{was-true, was-false}
-use Rattle.words.proofs.Signed.{seen-is}
+use Rattle.answers.proofs.Stores.{wrote-refused, wrote-same}
+use Rattle.answers.proofs.Conditions.{was-true, was-false}
+use Rattle.numbers.proofs.Signed.{seen-is}
 use Rattle.source.proofs.Losses.{Counted, lost-refused, lost-packets}
+use Rattle.trace.proofs.Decisions.{label-short}
 use Rattle.table.specs.Lines.{rowBytes}
-use Rattle.table.proofs.Faults.{fault-record, fault-label, fault-jumped, fault-none, label-short}
+use Rattle.table.proofs.Faults.{fault-record, fault-label, fault-jumped, fault-none}
 use Rattle.table.proofs.write_row.Statement.{statement}
 use Rattle.table.proofs.write_row.Tie as tie
 
-known : (c : tie.After-known-told) → Counted (c .before .before .before .before .before .before .args .s) (c .before .lost2 .given .0 .0)
-known c = lost-packets (c .before .before .before .before .before .before .args .s) (sym (c .before .before .before .lost .ensures) ∙ c .before .lost2 .given .1)
+known : (c : tie.After-known-told) → Counted (c .before .before .before .before .before .before .before .args .t .source) (c .before .lost2 .given .0 .0)
+known c = lost-packets (c .before .before .before .before .before .before .before .args .t .source) (sym (c .before .before .before .lost .ensures) ∙ c .before .lost2 .given .1)
 
 lost-requires : tie.Need-lost-requires
 lost-requires c κs = search needs
@@ -26,39 +27,36 @@ enum-told c = search needs
 
 returns : tie.Need-returns
 returns c =
-    let a = c .before .before .before .before .before .args in
-    let w = wrote-refused (rowBytes (now (a .label)) (a .ssrc) (a .s) (a .jumped)) (now (a .out)) (fault-record (now (a .label)) (a .s) (a .jumped) (lost-refused (a .s) (sym (c .before .before .lost .ensures) ∙ c .enum-told .given .1))) in
-    (w .answers, w .stores)
+    let a = c .before .before .before .before .before .before .args in
+    wrote-refused (rowBytes (now (a .label)) (a .ssrc) (a .t)) (now (a .out)) (fault-record (now (a .label)) (a .t) (lost-refused (a .t .source) (sym (c .before .before .lost .ensures) ∙ c .enum-told .given .1)))
 
 is-label-requires : tie.Need-is-label-requires
 is-label-requires c κs = search needs
 
 returns-2 : tie.Need-returns-2
 returns-2 c =
-    let a = c .before .before .before .before .before .before .before .before .args in
-    let w = wrote-refused (rowBytes (now (a .label)) (a .ssrc) (a .s) (a .jumped)) (now (a .out)) (fault-label (now (a .label)) (a .s) (a .jumped) (known (c .before .before) .good) (was-false (c .before .is-label .ensures) (c .if1 .taken))) in
-    (w .answers, w .stores)
+    let a = c .before .before .before .before .before .before .before .before .before .args in
+    wrote-refused (rowBytes (now (a .label)) (a .ssrc) (a .t)) (now (a .out)) (fault-label (now (a .label)) (a .t) (known (c .before .before) .good) (was-false (c .before .is-label .ensures) (c .if1 .taken)))
 
 returns-3 : tie.Need-returns-3
 returns-3 c =
-    let a = c .before .before .before .before .before .before .before .before .before .args in
-    let w = wrote-refused (rowBytes (now (a .label)) (a .ssrc) (a .s) (a .jumped)) (now (a .out)) (fault-jumped (now (a .label)) (a .s) (a .jumped) (known (c .before .before .before) .good) (was-true (c .before .before .is-label .ensures) (c .before .if1 .left)) (c .if2 .taken)) in
-    (w .answers, w .stores)
+    let a = c .before .before .before .before .before .before .before .before .before .before .before .args in
+    wrote-refused (rowBytes (now (a .label)) (a .ssrc) (a .t)) (now (a .out)) (fault-jumped (now (a .label)) (a .t) (known (c .before .before .before .before) .good) (was-true (c .before .before .before .is-label .ensures) (c .before .before .if1 .left)) (c .if2 .taken))
 
 row-requires : tie.Need-row-requires
 row-requires c κs =
-    let s = c .before .before .before .before .before .before .before .before .before .before in
-    let n = known (c .before .before .before .before) in
-    (label-short (now (s .args .label)) (was-true (c .before .before .before .is-label .ensures) (c .before .before .if1 .left)), n .good, seen-is (c .before .before .before .before .before .lost2 .given .0 .0) (search needs) ∙ n .is)
+    let s = c .before .before .before .before .before .before .before .before .before .before .before .before in
+    let n = known (c .before .before .before .before .before) in
+    (label-short (now (s .args .label)) (was-true (c .before .before .before .before .is-label .ensures) (c .before .before .before .if1 .left)), n .good, seen-is (c .before .before .before .before .before .before .lost2 .given .0 .0) (search needs) ∙ n .is)
 
 same-length : tie.Need-same-length
 same-length c = search needs
 
 returns-4 : tie.Need-returns-4
 returns-4 c =
-    let a = c .before .before .before .before .before .before .before .before .before .before .before .before .before .args in
-    let fault = fault-none (now (a .label)) (a .s) (a .jumped) (known (c .before .before .before .before .before .before .before) .good) (was-true (c .before .before .before .before .before .before .is-label .ensures) (c .before .before .before .before .before .if1 .left)) (c .before .before .before .before .if2 .left) in
-    rw fault (c .before .before .row .ensures)
+    let a = c .before .before .before .before .before .before .before .before .before .before .before .before .before .before .before .args in
+    let fault = fault-none (now (a .label)) (a .t) (known (c .before .before .before .before .before .before .before .before) .good) (was-true (c .before .before .before .before .before .before .before .is-label .ensures) (c .before .before .before .before .before .before .if1 .left)) (c .before .before .before .before .if2 .left) in
+    wrote-same (sym fault) refl (c .before .before .row .ensures)
 
 pub write-row-spec : {M : Type 1} → statement M
 write-row-spec =

@@ -3,7 +3,7 @@ use borrow.Author.Needs.{needs}
 use mathlib.Core.Path.{_∙_, ap}
 use mathlib.Core.Bool.{not}
 use borrow.Author.Tests.{lt-ltb, le-ltb}
-use Rattle.words.proofs.Conditions.{cond-ends, cond-goes, was-false, was-true}
+use Rattle.answers.proofs.Conditions.{cond-ends, cond-goes, was-false, was-true}
 use Rattle.breaker.specs.declared.Answer.the-variants.{Go}
 use Rattle.breaker.specs.Answers.{answers}
 use Rattle.breaker.specs.Calls.{startOf}

@@ -3,7 +3,7 @@ use borrow.Author.Needs.{needs}
 use mathlib.Core.Path.{_∙_, ap}
 use Rattle.breaker.specs.declared.Answer.the-variants.{Refused}
 use Rattle.breaker.specs.Answers.{answers}
-use Rattle.words.specs.declared.Refusal.the-variants.{Limits}
+use Rattle.answers.specs.declared.Refusal.the-variants.{Limits}
 use Rattle.breaker.proofs.Breaker.unstarted.Statement.{statement}
 use Rattle.breaker.proofs.Breaker.unstarted.Tie as tie
 

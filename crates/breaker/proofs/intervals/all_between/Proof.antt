@@ -6,8 +6,8 @@ use Prim.Native.Nat.{_-_, _≤_}
 use lib.ListN.{length}
 use lib.Seq.{slice, slice-empty}
 use mathlib.Core.List.{map}
-use Rattle.words.proofs.Conditions.{was-false, was-true}
-use Rattle.words.specs.Conditions.{all}
+use Rattle.answers.proofs.Conditions.{was-false, was-true}
+use Rattle.answers.specs.Conditions.{all}
 use Rattle.breaker.specs.Private.{between}
 use Rattle.breaker.proofs.Places.{fails, passes}
 use Rattle.breaker.proofs.intervals.all_between.Statement.{statement}

@@ -1,8 +1,8 @@
 -- `breaker::intervals::is_between` meets its contract. Assumes nothing.
 use mathlib.Core.Path.{sym}
 use borrow.Author.Tests.{le-leb, lt-leb}
-use Rattle.words.proofs.Conditions.{and-ends, and-goes}
-use Rattle.breaker.proofs.Places.{and-true}
+use Rattle.answers.proofs.Conditions.{and-ends, and-goes}
+use mathlib.Core.Bool.{and-true}
 use Rattle.breaker.proofs.intervals.is_between.Statement.{statement}
 use Rattle.breaker.proofs.intervals.is_between.Tie as tie
 

@@ -8,7 +8,7 @@ use lib.ListN.{length, take, getD}
 use lib.Seq.{slice, slice-empty}
 use mathlib.Core.List.{map}
 use native.Mathlib.Nat.{zero-add}
-use Rattle.words.specs.Conditions.{all}
+use Rattle.answers.specs.Conditions.{all}
 use Rattle.breaker.specs.Windows.{W, P, zeroInterval}
 use Rattle.breaker.specs.Private.{roomy}
 use Rattle.breaker.specs.declared.Interval.{Interval}

@@ -1,7 +1,7 @@
 -- `breaker::limits::is_within` meets its contract. Assumes nothing.
 use mathlib.Core.Path.{refl}
 use borrow.Author.Tests.{le-leb, lt-leb}
-use Rattle.words.proofs.Conditions.{and-ends, and-goes}
+use Rattle.answers.proofs.Conditions.{and-ends, and-goes}
 use Rattle.breaker.proofs.limits.is_within.Statement.{statement}
 use Rattle.breaker.proofs.limits.is_within.Tie as tie
 

@@ -2,9 +2,9 @@
 use borrow.Author.Needs.{needs}
 use mathlib.Core.Path.{sym}
 use borrow.Author.Tests.{lt-ltb, le-ltb, le-leb, lt-leb}
-use Rattle.words.proofs.Conditions.{was-false, was-true, and-ends, and-goes}
+use Rattle.answers.proofs.Conditions.{was-false, was-true, and-ends, and-goes}
 use Rattle.breaker.specs.Limits.{reportOk}
-use Rattle.breaker.proofs.Places.{and-true}
+use mathlib.Core.Bool.{and-true}
 use Rattle.breaker.proofs.limits.report_ok.Statement.{statement}
 use Rattle.breaker.proofs.limits.report_ok.Tie as tie
 

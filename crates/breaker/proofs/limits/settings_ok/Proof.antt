@@ -1,9 +1,9 @@
 -- `breaker::limits::settings_ok` meets its contract. Assumes nothing.
 use borrow.Author.Needs.{needs}
 use mathlib.Core.Path.{sym, _∙_}
-use Rattle.words.proofs.Conditions.{was-false, was-true, and-ends, and-goes}
+use Rattle.answers.proofs.Conditions.{was-false, was-true, and-ends, and-goes}
 use Rattle.breaker.specs.Limits.{settingsOk}
-use Rattle.breaker.proofs.Places.{and-true}
+use mathlib.Core.Bool.{and-true}
 use Rattle.breaker.proofs.limits.settings_ok.Statement.{statement}
 use Rattle.breaker.proofs.limits.settings_ok.Tie as tie
 

@@ -8,7 +8,7 @@ use Prim.Native.Nat.{ℕ, _*_, _≤_}
 use native.Mathlib.Nat.{mul-le-mul, mul-le-mul-right, le-refl}
 use lib.Dec.{ltb}
 use lib.ListN.{length, take, length-take}
-use Rattle.words.specs.Conditions.{all}
+use Rattle.answers.specs.Conditions.{all}
 use Rattle.wide.proofs.Order.{value-of}
 use Rattle.breaker.specs.declared.Interval.{Interval}
 use Rattle.breaker.specs.declared.intervals.Sums.{Sums}

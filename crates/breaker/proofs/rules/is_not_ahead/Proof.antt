@@ -5,7 +5,7 @@ use mathlib.Core.Bool.{_||_}
 use borrow.Author.Tests.{eq-eqb, ne-eqb}
 use Prim.Native.Nat.{ℕ, _^_}
 use lib.Dec.{eqb, leb}
-use Rattle.words.proofs.Conditions.{or-ends, or-goes}
+use Rattle.answers.proofs.Conditions.{or-ends, or-goes}
 use Rattle.breaker.proofs.rules.is_not_ahead.Statement.{statement}
 use Rattle.breaker.proofs.rules.is_not_ahead.Tie as tie
 

@@ -1,6 +1,6 @@
 -- `breaker::rules::may_reduce` meets its contract. Assumes nothing.
 use mathlib.Core.Path.{refl}
-use Rattle.words.proofs.Conditions.{and-ends, and-goes}
+use Rattle.answers.proofs.Conditions.{and-ends, and-goes}
 use Rattle.breaker.proofs.rules.may_reduce.Statement.{statement}
 use Rattle.breaker.proofs.rules.may_reduce.Tie as tie
 

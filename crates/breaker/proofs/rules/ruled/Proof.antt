@@ -3,7 +3,7 @@ use borrow.Author.Needs.{needs}
 use mathlib.Core.Path.{_≡_, _∙_, ap}
 use borrow.Author.Tests.{le-leb, lt-leb, eq-eqb, ne-eqb}
 use Prim.Native.Nat.{ℕ}
-use Rattle.words.proofs.Conditions.{cond-ends, cond-goes}
+use Rattle.answers.proofs.Conditions.{cond-ends, cond-goes}
 use Rattle.breaker.specs.declared.Answer.the-variants.{Go}
 use Rattle.breaker.specs.Answers.{answers}
 use Rattle.breaker.specs.Rules.{stored, windowAfter, tested, rules, ruled}

@@ -2,7 +2,7 @@
 use borrow.Author.Needs.{needs}
 use mathlib.Core.Path.{refl, sym, _∙_}
 use native.Mathlib.Omega.{arith}
-use Rattle.words.proofs.Conditions.{cond-ends, cond-goes}
+use Rattle.answers.proofs.Conditions.{cond-ends, cond-goes}
 use Rattle.breaker.specs.Rules.{runAfter}
 use Rattle.breaker.proofs.Facts.{settings-of, m-high, run-below}
 use Rattle.breaker.proofs.rules.run_after.Statement.{statement}

@@ -6,8 +6,8 @@ use mathlib.Core.Bool.{true, not}
 use borrow.Author.Tests.{lt-ltb, le-ltb}
 use mathlib.Core.List.{map}
 use lib.ListN.{length, take}
-use Rattle.words.proofs.Conditions.{cond-ends, cond-goes, was-false, was-true}
-use Rattle.words.specs.Conditions.{all}
+use Rattle.answers.proofs.Conditions.{cond-ends, cond-goes, was-false, was-true}
+use Rattle.answers.specs.Conditions.{all}
 use Rattle.breaker.specs.declared.Answer.the-variants.{Go, Reduce}
 use Rattle.breaker.specs.declared.Window.{Window}
 use Rattle.breaker.specs.declared.Step.{Step}

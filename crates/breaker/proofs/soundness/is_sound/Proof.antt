@@ -5,11 +5,11 @@ use native.Mathlib.Omega.{arith}
 use borrow.Author.Tests.{lt-ltb, le-ltb, le-leb, lt-leb}
 use mathlib.Core.List.{map}
 use Prim.Native.Nat.{_≤_}
-use Rattle.words.proofs.Conditions.{was-false, was-true, and-goes, and-left, and-right, all-false}
-use Rattle.words.specs.Conditions.{all}
+use Rattle.answers.proofs.Conditions.{was-false, was-true, and-goes, and-left, and-right, all-false}
+use Rattle.answers.specs.Conditions.{all}
 use Rattle.breaker.specs.Windows.{fractionOk, inUse}
 use Rattle.breaker.specs.Soundness.{conditions, sound}
-use Rattle.breaker.proofs.Places.{and-true}
+use mathlib.Core.Bool.{and-true}
 use Rattle.breaker.proofs.Facts.{k-high}
 use Rattle.breaker.proofs.Chains.{either-false}
 use Rattle.breaker.proofs.soundness.is_sound.Statement.{statement}

@@ -1,7 +1,7 @@
 -- `breaker::soundness::number_ok` meets its contract. Assumes nothing.
 use borrow.Author.Needs.{needs}
 use mathlib.Core.Path.{refl}
-use Rattle.words.proofs.Conditions.{or-goes}
+use Rattle.answers.proofs.Conditions.{or-goes}
 use Rattle.breaker.proofs.soundness.number_ok.Statement.{statement}
 use Rattle.breaker.proofs.soundness.number_ok.Tie as tie
 

@@ -6,7 +6,7 @@ use mathlib.Core.List.{List, map}
 use lib.ListN.{drop, length}
 use lib.Seq.{take-all}
 use Prim.Native.Nat.{_≤_}
-use Rattle.words.specs.Conditions.{all}
+use Rattle.answers.specs.Conditions.{all}
 use Rattle.breaker.specs.declared.Interval.{Interval}
 use Rattle.breaker.specs.Windows.{isZero}
 use Rattle.breaker.proofs.Places.{zero-limits, length-mapped}

@@ -2,11 +2,11 @@
 use borrow.Author.Needs.{needs}
 use mathlib.Core.Path.{sym, ap, _∙_}
 use denote.Ref.{now}
-use Rattle.words.proofs.Stores.{wrote-refused}
-use Rattle.trace.specs.Layout.{first}
+use Rattle.answers.proofs.Stores.{wrote-refused}
 use Rattle.trace.specs.Reading.{blockOf}
 use Rattle.capi.specs.Codes.{refusalCode}
 use Rattle.capi.specs.Blocks.{blockFault, foundWords}
+use Rattle.capi.proofs.Answers.{gives}
 use Rattle.capi.proofs.blocks.flasknib_read_block.Statement.{statement}
 use Rattle.capi.proofs.blocks.flasknib_read_block.Tie as tie
 
@@ -37,8 +37,7 @@ same-length c = search needs
 returns : tie.Need-returns
 returns c =
     let told = sym (c .before .before .before .before .before .before .before .read-block .ensures) ∙ c .before .before .before .before .before .length .given .1 in
-    let e = c .before .before .put-found .ensures in
-    (rw told (e .0), rw told (e .1))
+    rw told (c .before .before .put-found .ensures)
 
 same-length-2 : tie.Need-same-length-2
 same-length-2 c = search needs
@@ -46,15 +45,13 @@ same-length-2 c = search needs
 returns-2 : tie.Need-returns-2
 returns-2 c =
     let told = sym (c .before .before .before .before .before .before .before .read-block .ensures) ∙ c .before .before .before .before .before .count .given .1 in
-    let e = c .before .before .put-found2 .ensures in
-    (rw told (e .0), rw told (e .1))
+    rw told (c .before .before .put-found2 .ensures)
 
 returns-3 : tie.Need-returns-3
 returns-3 c =
     let a = c .before .before .before .before .before .before .before .args in
     let told = sym (c .before .before .before .before .read-block .ensures) ∙ c .before .before .refusal .given .1 in
-    let w = wrote-refused (foundWords (blockOf first (now (a .block)))) (now (a .found)) (ap blockFault told) in
-    (c .number .ensures ∙ ap refusalCode (w .answers), w .stores)
+    gives refusalCode (wrote-refused (foundWords (blockOf (now (a .block)))) (now (a .found)) (ap blockFault told)) (c .number .ensures)
 
 pub flasknib-read-block-spec : {M : Type 1} → statement M
 flasknib-read-block-spec =

@@ -1,7 +1,8 @@
 -- `capi::blocks::flasknib_write_label` meets its contract. Assumes nothing.
 use borrow.Author.Needs.{needs}
 use native.Mathlib.Omega.{arith}
-use Rattle.capi.proofs.Answers.{length-lt, coded}
+use Rattle.answers.proofs.Stores.{wrote-fits}
+use Rattle.capi.proofs.Answers.{coded}
 use Rattle.capi.proofs.blocks.flasknib_write_label.Statement.{statement}
 use Rattle.capi.proofs.blocks.flasknib_write_label.Tie as tie
 
@@ -9,17 +10,13 @@ write-label-requires : tie.Need-write-label-requires
 write-label-requires c κs = search needs
 
 length-requires : tie.Need-length-requires
-length-requires c κs =
-    let e = c .before .before .write-label .ensures in
-    length-lt (record { answers = e .0; stores = e .1 }) (omega (arith, c .before .before .before .before .before .before .good))
+length-requires c κs = omega (arith, wrote-fits (c .before .before .write-label .ensures), c .before .before .before .before .before .before .good)
 
 same-length : tie.Need-same-length
 same-length c = search needs
 
 returns : tie.Need-returns
-returns c =
-    let e = c .before .before .before .write-label .ensures in
-    coded (search needs) (c .length .ensures) (record { answers = e .0; stores = e .1 })
+returns c = coded (search needs) (c .length .ensures) (c .before .before .before .write-label .ensures)
 
 pub flasknib-write-label-spec : {M : Type 1} → statement M
 flasknib-write-label-spec =

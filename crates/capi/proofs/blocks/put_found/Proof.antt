@@ -1,20 +1,20 @@
 -- `capi::blocks::put_found` meets its contract. Assumes nothing.
 use borrow.Author.Needs.{needs}
-use mathlib.Core.Path.{refl, ap}
+use mathlib.Core.Path.{refl}
 use mathlib.Core.List.{[], _∷_}
 use native.Mathlib.Omega.{arith}
 use denote.Ref.{now}
 use lib.ListN.{length-set}
-use Rattle.words.proofs.Stores.{wrote-short, wrote-all}
+use Rattle.answers.proofs.Stores.{wrote-short, wrote-all}
 use Rattle.capi.specs.Codes.{refusalCode}
+use Rattle.capi.proofs.Answers.{gives}
 use Rattle.capi.proofs.blocks.put_found.Statement.{statement}
 use Rattle.capi.proofs.blocks.put_found.Tie as tie
 
 returns : tie.Need-returns
 returns c =
     let a = c .before .args in
-    let w = wrote-short (a .kind ∷ a .count ∷ a .ssrc ∷ []) (now (a .found)) refl (c .if1 .taken) in
-    (ap refusalCode (w .answers), w .stores)
+    gives refusalCode (wrote-short (a .kind ∷ a .count ∷ a .ssrc ∷ []) (now (a .found)) refl (c .if1 .taken)) refl
 
 slice-write-found : tie.Need-slice-write-found
 slice-write-found c = search needs
@@ -33,8 +33,7 @@ same-length c = search needs
 returns-2 : tie.Need-returns-2
 returns-2 c =
     let a = c .before .args in
-    let w = wrote-all (a .kind ∷ a .count ∷ a .ssrc ∷ []) (now (a .found)) refl (c .if1 .left) refl refl in
-    (ap refusalCode (w .answers), w .stores)
+    gives refusalCode (wrote-all (a .kind ∷ a .count ∷ a .ssrc ∷ []) (now (a .found)) refl (c .if1 .left) refl refl) refl
 
 pub put-found-spec : {M : Type 1} → statement M
 put-found-spec =

@@ -4,8 +4,9 @@ use mathlib.Core.Path.{refl, ap}
 use mathlib.Core.Bool.{not}
 use denote.Ref.{now}
 use borrow.Author.Tests.{lt-leb, le-leb}
-use Rattle.words.proofs.Conditions.{cond-ends, cond-goes}
+use Rattle.answers.proofs.Conditions.{cond-ends, cond-goes}
 use Rattle.breaker.specs.Calls.{unstarted}
+use Rattle.lent.specs.BreakerWords.{breakerWords}
 use Rattle.capi.specs.BreakerCalls.{starts}
 use Rattle.capi.proofs.Steps.{start-is, start-refused}
 use Rattle.capi.proofs.circuit.flasknib_breaker_start.Statement.{statement}
@@ -19,7 +20,7 @@ unfolding starts
 returns c =
     let a = c .before .before .before .args in
     let t = lt-leb (a .reduce) 1 (c .before .if1 .taken) in
-    start-is (now (a .breaker)) (cond-ends _ _ _ unstarted (ap not t) refl) (start-refused unstarted (now (a .breaker)) refl (c .code .ensures))
+    start-is (now (a .breaker)) (cond-ends _ _ _ unstarted (ap not t) refl) (start-refused (unstarted .answer) (breakerWords (unstarted .breaker)) (now (a .breaker)) refl (c .code .ensures))
 
 start-requires : tie.Need-start-requires
 start-requires c κs = search needs

@@ -2,7 +2,7 @@
 use borrow.Author.Needs.{needs}
 use mathlib.Core.Path.{ap, _∙_}
 use denote.Ref.{now}
-use Rattle.words.proofs.Conditions.{was-false, was-true}
+use Rattle.answers.proofs.Conditions.{was-false, was-true}
 use Rattle.lent.specs.declared.breaker_words.Loaded.{Loaded}
 use Rattle.capi.specs.BreakerCalls.{ticks}
 use Rattle.capi.proofs.Steps.{record-sized, call-malformed, call-made}

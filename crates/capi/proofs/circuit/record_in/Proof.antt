@@ -5,8 +5,8 @@ use mathlib.Core.Bool.{false}
 use denote.Ref.{now}
 use borrow.Author.Tests.{eq-eqb, ne-eqb}
 use lib.ListN.{length}
-use Rattle.words.specs.Conditions.{all}
-use Rattle.words.proofs.Conditions.{and-ends, and-goes}
+use Rattle.answers.specs.Conditions.{all}
+use Rattle.answers.proofs.Conditions.{and-ends, and-goes}
 use Rattle.lent.specs.BreakerWords.{breakerOf, wordsFit}
 use Rattle.capi.specs.BreakerCalls.{isRecord}
 use Rattle.capi.proofs.circuit.record_in.Statement.{statement}

@@ -4,8 +4,9 @@ use mathlib.Core.Path.{sym, ap, _∙_}
 use native.Mathlib.Omega.{arith}
 use mir.Syntax.{w64}
 use mir.ValLaws.{toZ-pos}
-use Rattle.words.proofs.Signed.{seen-is}
-use Rattle.capi.specs.Codes.{lengthCode, lengthIn}
+use Rattle.numbers.proofs.Signed.{seen-is}
+use Rattle.answers.specs.Writers.{lengthIn}
+use Rattle.capi.specs.Codes.{lengthCode}
 use Rattle.capi.proofs.codes.length.Statement.{statement}
 use Rattle.capi.proofs.codes.length.Tie as tie
 

@@ -7,7 +7,7 @@ use lib.IntN.{ℤ, pos, negℤ, _-ℤ_, +ℤ-idl}
 use mir.Syntax.{w64}
 use mir.Val.{SFits, toZ}
 use mir.ValLaws.{toZ-pos}
-use Rattle.words.proofs.Signed.{seen, seen-is}
+use Rattle.numbers.proofs.Signed.{seen, seen-is}
 use Rattle.capi.proofs.Answers.{negative-fits}
 use Rattle.capi.proofs.codes.minus.Statement.{statement}
 use Rattle.capi.proofs.codes.minus.Tie as tie

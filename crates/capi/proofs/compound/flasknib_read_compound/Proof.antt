@@ -1,8 +1,15 @@
 -- `capi::compound::flasknib_read_compound` meets its contract. Assumes nothing.
 use borrow.Author.Needs.{needs}
-use mathlib.Core.Path.{refl, sym, _∙_}
+use mathlib.Core.Path.{refl, sym, ap, _∙_}
+use native.Mathlib.Omega.{arith}
 use denote.Ref.{now}
-use Rattle.capi.proofs.Readings.{read-short, read-refused, read-stored}
+use Rattle.answers.proofs.Stores.{wrote-refused, wrote-short, wrote-all}
+use Rattle.rtcp.specs.Compound.{reading}
+use Rattle.lent.specs.CompoundWords.{compoundWords}
+use Rattle.lent.proofs.Parts.{length-compound}
+use Rattle.capi.specs.Codes.{refusalCode}
+use Rattle.capi.specs.CompoundCalls.{readingFault, readingWords}
+use Rattle.capi.proofs.Answers.{gives}
 use Rattle.capi.proofs.compound.flasknib_read_compound.Statement.{statement}
 use Rattle.capi.proofs.compound.flasknib_read_compound.Tie as tie
 
@@ -24,7 +31,9 @@ number-requires-2 c κs = search needs
 returns : tie.Need-returns
 returns c =
     let a = c .before .before .before .before .before .before .before .before .args in
-    read-short (now (a .found)) (sym (c .before .before .before .before .before .read-compound .ensures) ∙ c .before .before .before .c .given .1) (c .before .if1 .taken) (c .number2 .ensures)
+    let g = c .before .before .before .c .given in
+    let told = sym (c .before .before .before .before .before .read-compound .ensures) ∙ g .1 in
+    rw told (gives refusalCode (wrote-short (compoundWords (g .0 .0)) (now (a .found)) refl (omega (arith, length-compound (g .0 .0), c .before .if1 .taken))) (c .number2 .ensures))
 
 store-requires : tie.Need-store-requires
 store-requires c κs = search needs
@@ -32,7 +41,8 @@ store-requires c κs = search needs
 returns-2 : tie.Need-returns-2
 returns-2 c =
     let a = c .before .before .before .before .before .before .before .args in
-    read-refused (now (a .found)) (sym (c .before .before .before .before .read-compound .ensures) ∙ c .before .before .refusal .given .1) (c .number .ensures)
+    let told = sym (c .before .before .before .before .read-compound .ensures) ∙ c .before .before .refusal .given .1 in
+    gives refusalCode (wrote-refused (readingWords (reading (now (a .bytes)) (a .media))) (now (a .found)) (ap readingFault told)) (c .number .ensures)
 
 same-length : tie.Need-same-length
 same-length c = search needs
@@ -40,7 +50,9 @@ same-length c = search needs
 returns-3 : tie.Need-returns-3
 returns-3 c =
     let a = c .before .before .before .before .before .before .before .before .before .before .before .args in
-    read-stored (now (a .found)) (sym (c .before .before .before .before .before .before .before .before .read-compound .ensures) ∙ c .before .before .before .before .before .before .c .given .1) (c .before .before .before .before .if1 .left) refl (c .before .before .store .ensures)
+    let g = c .before .before .before .before .before .before .c .given in
+    let told = sym (c .before .before .before .before .before .before .before .before .read-compound .ensures) ∙ g .1 in
+    rw told (gives refusalCode (wrote-all (compoundWords (g .0 .0)) (now (a .found)) refl (omega (arith, length-compound (g .0 .0), c .before .before .before .before .if1 .left)) refl (c .before .before .store .ensures)) refl)
 
 pub flasknib-read-compound-spec : {M : Type 1} → statement M
 flasknib-read-compound-spec =

@@ -1,7 +1,8 @@
 -- `capi::rows::flasknib_write_head` meets its contract. Assumes nothing.
 use borrow.Author.Needs.{needs}
 use native.Mathlib.Omega.{arith}
-use Rattle.capi.proofs.Answers.{length-lt, coded}
+use Rattle.answers.proofs.Stores.{wrote-fits}
+use Rattle.capi.proofs.Answers.{coded}
 use Rattle.capi.proofs.rows.flasknib_write_head.Statement.{statement}
 use Rattle.capi.proofs.rows.flasknib_write_head.Tie as tie
 
@@ -9,17 +10,13 @@ write-head-requires : tie.Need-write-head-requires
 write-head-requires c κs = search needs
 
 length-requires : tie.Need-length-requires
-length-requires c κs =
-    let e = c .before .before .write-head .ensures in
-    length-lt (record { answers = e .0; stores = e .1 }) (omega (arith, c .before .before .before .before .before .good))
+length-requires c κs = omega (arith, wrote-fits (c .before .before .write-head .ensures), c .before .before .before .before .before .good)
 
 same-length : tie.Need-same-length
 same-length c = search needs
 
 returns : tie.Need-returns
-returns c =
-    let e = c .before .before .before .write-head .ensures in
-    coded (search needs) (c .length .ensures) (record { answers = e .0; stores = e .1 })
+returns c = coded (search needs) (c .length .ensures) (c .before .before .before .write-head .ensures)
 
 pub flasknib-write-head-spec : {M : Type 1} → statement M
 flasknib-write-head-spec =

@@ -2,15 +2,10 @@
 use borrow.Author.Needs.{needs}
 use mathlib.Core.Path.{sym, ap, _∙_}
 use denote.Ref.{now}
-use Prim.Native.Nat.{_-_}
-use Rattle.trace.specs.Layout.{first as form}
-use Rattle.convert.proofs.Steps.{next-other, next-source, next-goes, step-malformed, step-refuses, step-goes}
-use Rattle.words.proofs.Conditions.{was-true, was-false}
-use Rattle.convert.specs.Runs.{arrived, faultOf}
-use Rattle.words.specs.declared.Refusal.{Refusal}
-use Rattle.words.specs.declared.Refusal.the-variants.{Contents}
-use Rattle.convert.specs.declared.Step.the-variants as step
+use Rattle.answers.proofs.Conditions.{was-true, was-false}
 use Rattle.trace.specs.declared.Block.the-variants as read-as
+use Rattle.convert.specs.Runs.{refuses}
+use Rattle.convert.proofs.Steps.{call-malformed, call-other, call-source, call-goes, step-refuses}
 use Rattle.convert.proofs.Run.block.Statement.{statement}
 use Rattle.convert.proofs.Run.block.Tie as tie
 
@@ -20,8 +15,7 @@ is-sound-requires c κs = search needs
 returns : tie.Need-returns
 returns c =
     let a = c .before .before .before .before .before .args in
-    let s = step-malformed form (a .self) (now (a .block)) (now (a .first)) (now (a .out)) (was-false (c .before .is-sound .ensures) (c .if1 .taken)) in
-    (s .answers, s .stores)
+    step-refuses (a .self) (now (a .zeroth)) (now (a .out)) (call-malformed (a .self) (now (a .zeroth)) (now (a .block)) (was-false (c .before .is-sound .ensures) (c .if1 .taken)))
 
 read-block-requires : tie.Need-read-block-requires
 read-block-requires c κs = search needs
@@ -36,24 +30,21 @@ returns-2 : tie.Need-returns-2
 returns-2 c =
     let a = c .before .before .before .before .before .before .before .before .args in
     let read = c .before .before .read-block in
-    let next = next-other form (a .self) (now (a .block)) (read .result) (sym (read .ensures)) (c .before .match .keys2) in
-    let s = step-refuses form (a .self) (now (a .block)) (now (a .first)) (now (a .out)) (faultOf (read .result)) (was-true (c .before .before .before .before .is-sound .ensures) (c .before .before .before .if1 .left)) next in
-    (ap (λ (r : Refusal). step.Refused r (a .self)) (c .fault-of .ensures) ∙ s .answers, s .stores)
+    step-refuses (a .self) (now (a .zeroth)) (now (a .out))
+    (call-other (a .self) (now (a .zeroth)) (now (a .block)) (was-true (c .before .before .before .before .is-sound .ensures) (c .before .before .before .if1 .left)) (read .result) (sym (read .ensures)) (c .before .match .keys2) ∙ ap refuses (sym (c .fault-of .ensures)))
 
 returns-3 : tie.Need-returns-3
 returns-3 c =
     let a = c .before .before .before .before .before .before .before .before .before .before .before .args in
     let read = c .before .before .before .before .before .read-block in
-    let next = next-source form (a .self) (now (a .block)) (sym (read .ensures) ∙ c .before .before .before .read .given .1) (c .if2 .taken) in
-    let s = step-refuses form (a .self) (now (a .block)) (now (a .first)) (now (a .out)) Contents (was-true (c .before .before .before .before .before .before .before .is-sound .ensures) (c .before .before .before .before .before .before .if1 .left)) next in
-    (s .answers, s .stores)
+    step-refuses (a .self) (now (a .zeroth)) (now (a .out))
+    (call-source (a .self) (now (a .zeroth)) (now (a .block)) (was-true (c .before .before .before .before .before .before .before .is-sound .ensures) (c .before .before .before .before .before .before .if1 .left)) (sym (read .ensures) ∙ c .before .before .before .read .given .1) (c .if2 .taken))
 
 arrivals-requires : tie.Need-arrivals-requires
 arrivals-requires c κs =
-    let a = c .before .before .before .before .before .before .before .before .before .before .before .before .args in
     let read = c .before .before .before .before .before .before .read-block in
     let is = c .before .before .before .before .read .given in
-    (was-true (c .before .before .before .before .before .before .before .before .is-sound .ensures) (c .before .before .before .before .before .before .before .if1 .left), sym (read .ensures) ∙ is .1 ∙ ap (read-as.Arrivals (is .0 .0)) (c .before .if2 .left))
+    ((was-true (c .before .before .before .before .before .before .before .before .is-sound .ensures) (c .before .before .before .before .before .before .before .if1 .left)), sym (read .ensures) ∙ is .1 ∙ ap (read-as.Arrivals (is .0 .0) (is .0 .1 .0)) (c .before .if2 .left))
 
 same-length : tie.Need-same-length
 same-length c = search needs
@@ -62,10 +53,8 @@ returns-4 : tie.Need-returns-4
 returns-4 c =
     let a = c .before .before .before .before .before .before .before .before .before .before .before .before .before .before .before .args in
     let read = c .before .before .before .before .before .before .before .before .before .read-block in
-    let is = c .before .before .before .before .before .before .before .read .given in
-    let next = next-goes form (a .self) (now (a .block)) (sym (read .ensures) ∙ is .1) (c .before .before .before .before .if2 .left) in
-    let s = step-goes form (a .self) (now (a .block)) (now (a .first)) (now (a .out)) (arrived form (a .self) (is .0 .0) (now (a .block))) (was-true (c .before .before .before .before .before .before .before .before .before .before .before .is-sound .ensures) (c .before .before .before .before .before .before .before .before .before .before .if1 .left)) next (c .before .before .arrivals .ensures .0) (c .before .before .arrivals .ensures .1) in
-    (s .answers, s .stores)
+    rw (call-goes (a .self) (now (a .zeroth)) (now (a .block)) (was-true (c .before .before .before .before .before .before .before .before .before .before .before .is-sound .ensures) (c .before .before .before .before .before .before .before .before .before .before .if1 .left)) (sym (read .ensures) ∙ c .before .before .before .before .before .before .before .read .given .1) (c .before .before .before .before .if2 .left))
+    (c .before .before .arrivals .ensures)
 
 pub block-spec : {M : Type 1} → statement M
 block-spec =

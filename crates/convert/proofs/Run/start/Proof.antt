@@ -2,10 +2,9 @@
 use borrow.Author.Needs.{needs}
 use mathlib.Core.Path.{sym, ap, _∙_}
 use denote.Ref.{now}
-use Rattle.trace.specs.Layout.{first as form}
-use Rattle.convert.proofs.Steps.{start-other, start-label}
+use Rattle.source.specs.declared.Totals.{Totals}
 use Rattle.convert.specs.declared.Begin.the-variants as begin
-use Rattle.source.specs.declared.Source.{Source}
+use Rattle.convert.proofs.Steps.{start-other, start-label}
 use Rattle.convert.proofs.Run.start.Statement.{statement}
 use Rattle.convert.proofs.Run.start.Tie as tie
 
@@ -20,20 +19,18 @@ fault-of-requires c κs = search needs
 
 returns : tie.Need-returns
 returns c =
-    let first = now (c .before .before .before .before .args .first) in
     let read = c .before .before .read-block in
-    ap begin.Refused (c .fault-of .ensures) ∙ sym (start-other form first (read .result) (sym (read .ensures)) (c .before .match .keys2))
+    ap begin.Refused (c .fault-of .ensures) ∙ sym (start-other (now (c .before .before .before .before .args .zeroth)) (read .result) (sym (read .ensures)) (c .before .match .keys2))
 
 fresh-requires : tie.Need-fresh-requires
 fresh-requires c κs = search needs
 
 returns-2 : tie.Need-returns-2
 returns-2 c =
-    let first = now (c .before .before .before .before .before .before .args .first) in
     let read = c .before .before .before .before .read-block in
     let is = c .before .before .read .given in
-    ap (λ (s : Source). begin.Started (record { length = is .0 .0; ssrc = is .0 .1 .0; source = s; jumped = 0 })) (c .fresh .ensures)
-    ∙ sym (start-label form first (sym (read .ensures) ∙ is .1))
+    ap (λ (t : Totals). begin.Started (record { length = is .0 .1 .0; ssrc = is .0 .1 .1 .0; totals = t })) (c .fresh .ensures)
+    ∙ sym (start-label (now (c .before .before .before .before .before .before .args .zeroth)) (sym (read .ensures) ∙ is .1))
 
 pub start-spec : {M : Type 1} → statement M
 start-spec =

@@ -3,7 +3,7 @@ use Prim.Native.Nat.{_^_}
 use native.Mathlib.Omega.{arith}
 use lib.Dec.{T}
 use lib.Signed.{nonNeg}
-use Rattle.words.proofs.Signed.{Negative, negative, not-negative, natural-cast, turned-cast, turned-less, negative-modulo, natural-modulo}
+use Rattle.numbers.proofs.Signed.{Negative, negative, not-negative, natural-cast, turned-cast, turned-less, negative-modulo, natural-modulo}
 use Rattle.lent.proofs.access.complement.Statement.{statement}
 use Rattle.lent.proofs.access.complement.Tie as tie
 

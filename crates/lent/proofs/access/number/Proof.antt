@@ -8,10 +8,10 @@ use lib.IntN.{ℤ, pos, negsuc, _-ℤ_}
 use mir.Syntax.{w64}
 use mir.Val.{SFits, toZ}
 use mir.ValLaws.{toZ-pos}
-use Rattle.words.specs.Since.{signed}
-use Rattle.words.proofs.Integers.{minus-neg}
-use Rattle.words.proofs.Signed.{seen, seen-is}
-use Rattle.words.proofs.Differences.{signed-low, signed-high}
+use Rattle.numbers.specs.Since.{signed}
+use Rattle.numbers.proofs.Integers.{minus-neg}
+use Rattle.numbers.proofs.Signed.{seen, seen-is}
+use Rattle.numbers.proofs.Differences.{signed-low, signed-high}
 use Rattle.lent.proofs.access.number.Statement.{statement}
 use Rattle.lent.proofs.access.number.Tie as tie
 

@@ -7,7 +7,7 @@ use Prim.Native.Nat.{ℕ, _+_, _-_, _≤_}
 use denote.Ref.{now}
 use lib.ListN.{length, drop}
 use lib.Seq.{sets}
-use Rattle.words.proofs.Stores.{sets-done}
+use Rattle.answers.proofs.Stores.{sets-done}
 use Rattle.lent.proofs.Pairs.{put-turn}
 use Rattle.lent.proofs.access.put_all.Statement.{statement}
 use Rattle.lent.proofs.access.put_all.Tie as tie

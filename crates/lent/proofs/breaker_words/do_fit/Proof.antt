@@ -5,8 +5,8 @@ use Prim.Native.Nat.{ℕ, _^_}
 use denote.Ref.{now}
 use lib.Dec.{leb, ltb}
 use borrow.Author.Tests.{lt-leb, le-leb, lt-ltb, le-ltb}
-use Rattle.words.proofs.Conditions.{all-false, and-goes}
-use Rattle.breaker.proofs.Places.{and-true}
+use Rattle.answers.proofs.Conditions.{all-false, and-goes}
+use mathlib.Core.Bool.{and-true}
 use Rattle.lent.specs.BreakerWords.{wordsFit}
 use Rattle.lent.proofs.breaker_words.do_fit.Statement.{statement}
 use Rattle.lent.proofs.breaker_words.do_fit.Tie as tie

@@ -8,7 +8,7 @@ use lib.IntN.{ℤ}
 use mir.Syntax.{w32, w64}
 use mir.Val.{SFits, toZ, ofZ}
 use mir.ValLaws.{toZ-ofZ}
-use Rattle.words.specs.Integers.{modulo}
+use Rattle.numbers.specs.Integers.{modulo}
 use Rattle.lent.specs.CompoundWords.{reportWords}
 use Rattle.lent.proofs.compound_words.report_in.Statement.{statement}
 use Rattle.lent.proofs.compound_words.report_in.Tie as tie

@@ -1,8 +1,8 @@
 -- `lent::source_words::load` meets its contract. Assumes nothing.
 use borrow.Author.Needs.{needs}
 use mathlib.Core.Path.{ap, _∙_}
-use Rattle.words.specs.Since.{signed}
-use Rattle.words.proofs.Signed.{seen-is}
+use Rattle.numbers.specs.Since.{signed}
+use Rattle.numbers.proofs.Signed.{seen-is}
 use Rattle.lent.specs.SourceWords.{sourceOf}
 use Rattle.lent.proofs.source_words.load.Statement.{statement}
 use Rattle.lent.proofs.source_words.load.Tie as tie

@@ -5,8 +5,8 @@ use mathlib.Core.List.{[], _∷_}
 use Prim.Native.Nat.{ℕ, _^_}
 use denote.Ref.{now}
 use lib.Seq.{sets}
-use Rattle.words.specs.Integers.{modulo}
-use Rattle.words.proofs.Signed.{seen-is}
+use Rattle.numbers.specs.Integers.{modulo}
+use Rattle.numbers.proofs.Signed.{seen-is}
 use Rattle.lent.specs.SourceWords.{sourceWords}
 use Rattle.lent.proofs.source_words.store.Statement.{statement}
 use Rattle.lent.proofs.source_words.store.Tie as tie

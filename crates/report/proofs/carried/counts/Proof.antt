@@ -2,8 +2,8 @@
 use borrow.Author.Needs.{needs}
 use mathlib.Core.Path.{ap, _∙_}
 use Prim.Native.Nat.{_-_, _%_, _^_}
-use Rattle.words.specs.Integers.{modulo}
-use Rattle.words.proofs.Signed.{seen-is}
+use Rattle.numbers.specs.Integers.{modulo}
+use Rattle.numbers.proofs.Signed.{seen-is}
 use Rattle.report.specs.Carried.{countsOf}
 use Rattle.report.proofs.carried.counts.Statement.{statement}
 use Rattle.report.proofs.carried.counts.Tie as tie

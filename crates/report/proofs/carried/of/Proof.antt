@@ -2,8 +2,8 @@
 use borrow.Author.Needs.{needs}
 use mathlib.Core.Path.{sym, ap, ap₂, _∙_}
 use Prim.Native.Nat.{_-_, _^_}
-use Rattle.words.specs.Integers.{modulo}
-use Rattle.words.proofs.Signed.{seen-is}
+use Rattle.numbers.specs.Integers.{modulo}
+use Rattle.numbers.proofs.Signed.{seen-is}
 use Rattle.source.proofs.Losses.{Counted, lost-refused, lost-packets}
 use Rattle.report.specs.Carried.{carriedOf}
 use Rattle.report.specs.declared.carried.Carried.the-variants.{Fields}

@@ -6,7 +6,7 @@ use Prim.Native.Nat.{ℕ, _-_}
 use denote.Ref.{now}
 use mathlib.Core.List.{[], _∷_}
 use lib.Seq.{sets}
-use Rattle.words.proofs.Stores.{wrote-short, wrote-all}
+use Rattle.answers.proofs.Stores.{wrote-short, wrote-all}
 use Rattle.report.specs.Reports.{feedbackOf, wordsBytes}
 use Rattle.report.proofs.Layouts.{feedback-words, length-feedback}
 use Rattle.report.proofs.layout.feedback.Statement.{statement}
@@ -15,8 +15,7 @@ use Rattle.report.proofs.layout.feedback.Tie as tie
 returns : tie.Need-returns
 returns c =
     let a = c .before .before .args in
-    let w = wrote-short (feedbackOf (a .sender) (a .media) (a .highest) (a .c)) (now (a .out)) refl (omega (arith, length-feedback (a .sender) (a .media) (a .highest) (a .c))) in
-    (w .answers, w .stores)
+    wrote-short (feedbackOf (a .sender) (a .media) (a .highest) (a .c)) (now (a .out)) refl (omega (arith, length-feedback (a .sender) (a .media) (a .highest) (a .c)))
 
 pair-requires : tie.Need-pair-requires
 pair-requires c κs = search needs
@@ -40,8 +39,7 @@ returns-2 c =
     ap₂ (λ (x y : ℕ). wordsBytes (0x88CD0007 ∷ a .sender ∷ a .media ∷ a .highest ∷ a .c .ect0 ∷ a .c .ect1 ∷ x ∷ y ∷ [])) (c .before .before .before .before .before .before .pair .ensures) (c .before .before .before .before .before .pair2 .ensures)
     ∙ sym (feedback-words (a .c) (search needs) (search needs) (a .sender) (a .media) (a .highest)) in
     let size = length-feedback (a .sender) (a .media) (a .highest) (a .c) in
-    let w = wrote-all (feedbackOf (a .sender) (a .media) (a .highest) (a .c)) (now (a .out)) refl (omega arith) (sym size) (c .before .before .put-words .ensures ∙ ap (sets (now (a .out)) 0) bytes) in
-    (w .answers, w .stores)
+    wrote-all (feedbackOf (a .sender) (a .media) (a .highest) (a .c)) (now (a .out)) refl (omega arith) (sym size) (c .before .before .put-words .ensures ∙ ap (sets (now (a .out)) 0) bytes)
 
 pub feedback-spec : {M : Type 1} → statement M
 feedback-spec =

@@ -6,7 +6,7 @@ use Prim.Native.Nat.{ℕ, _-_}
 use denote.Ref.{now}
 use mathlib.Core.List.{[], _∷_}
 use lib.Seq.{sets}
-use Rattle.words.proofs.Stores.{wrote-short, wrote-all}
+use Rattle.answers.proofs.Stores.{wrote-short, wrote-all}
 use Rattle.report.specs.Reports.{summaryOf, wordsBytes}
 use Rattle.report.proofs.Layouts.{summary-words, length-summary}
 use Rattle.report.proofs.layout.summary.Statement.{statement}
@@ -15,8 +15,7 @@ use Rattle.report.proofs.layout.summary.Tie as tie
 returns : tie.Need-returns
 returns c =
     let a = c .before .before .args in
-    let w = wrote-short (summaryOf (a .media) (a .c)) (now (a .out)) refl (omega (arith, length-summary (a .media) (a .c))) in
-    (w .answers, w .stores)
+    wrote-short (summaryOf (a .media) (a .c)) (now (a .out)) refl (omega (arith, length-summary (a .media) (a .c)))
 
 pair-requires : tie.Need-pair-requires
 pair-requires c κs = search needs
@@ -40,8 +39,7 @@ returns-2 c =
     ap₂ (λ (x y : ℕ). wordsBytes (0x0D000005 ∷ a .media ∷ a .c .ect0 ∷ a .c .ect1 ∷ x ∷ y ∷ [])) (c .before .before .before .before .before .before .pair .ensures) (c .before .before .before .before .before .pair2 .ensures)
     ∙ sym (summary-words (a .c) (search needs) (search needs) (a .media)) in
     let size = length-summary (a .media) (a .c) in
-    let w = wrote-all (summaryOf (a .media) (a .c)) (now (a .out)) refl (omega arith) (sym size) (c .before .before .put-words .ensures ∙ ap (sets (now (a .out)) 0) bytes) in
-    (w .answers, w .stores)
+    wrote-all (summaryOf (a .media) (a .c)) (now (a .out)) refl (omega arith) (sym size) (c .before .before .put-words .ensures ∙ ap (sets (now (a .out)) 0) bytes)
 
 pub summary-spec : {M : Type 1} → statement M
 summary-spec =

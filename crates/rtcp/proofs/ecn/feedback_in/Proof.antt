@@ -3,7 +3,7 @@ use borrow.Author.Needs.{needs}
 use denote.Ref.{now}
 use borrow.Author.Tests.{eq-eqb, ne-eqb}
 use native.Mathlib.Omega.{arith}
-use Rattle.words.proofs.Conditions.{was-true, was-false}
+use Rattle.answers.proofs.Conditions.{was-true, was-false}
 use Rattle.rtcp.specs.EcnReports.{feedback, feedbackIn}
 use Rattle.rtcp.proofs.Whole.{feedback-within}
 use Rattle.rtcp.proofs.ecn.feedback_in.Statement.{statement}

@@ -1,7 +1,7 @@
 -- `rtcp::header::padding_at` meets its contract. Assumes nothing.
 use borrow.Author.Needs.{needs}
 use native.Mathlib.Omega.{arith}
-use Rattle.words.proofs.Conditions.{was-true, was-false}
+use Rattle.answers.proofs.Conditions.{was-true, was-false}
 use Rattle.rtcp.specs.Header.{padding}
 use Rattle.rtcp.proofs.header.padding_at.Statement.{statement}
 use Rattle.rtcp.proofs.header.padding_at.Tie as tie

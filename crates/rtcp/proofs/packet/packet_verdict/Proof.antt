@@ -2,7 +2,7 @@
 use borrow.Author.Needs.{needs}
 use denote.Ref.{now}
 use borrow.Author.Tests.{eq-eqb, ne-eqb, le-leb, lt-leb}
-use Rattle.words.proofs.Conditions.{was-true, was-false}
+use Rattle.answers.proofs.Conditions.{was-true, was-false}
 use Rattle.rtcp.specs.Packets.{packetVerdict}
 use Rattle.rtcp.proofs.Whole.{padding-le}
 use Rattle.rtcp.proofs.packet.packet_verdict.Statement.{statement}

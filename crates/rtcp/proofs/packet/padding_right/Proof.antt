@@ -2,7 +2,7 @@
 use borrow.Author.Needs.{needs}
 use denote.Ref.{now}
 use borrow.Author.Tests.{eq-eqb, ne-eqb, le-leb, lt-leb}
-use Rattle.words.proofs.Conditions.{was-true, was-false, all-false}
+use Rattle.answers.proofs.Conditions.{was-true, was-false, all-false}
 use Rattle.rtcp.specs.Packets.{paddingRules, paddingRight}
 use Rattle.rtcp.proofs.packet.padding_right.Statement.{statement}
 use Rattle.rtcp.proofs.packet.padding_right.Tie as tie

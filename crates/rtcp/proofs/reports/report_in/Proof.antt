@@ -6,7 +6,7 @@ use native.Mathlib.Omega.{arith}
 use Prim.Native.Nat.{_+_, _≤_, _*_}
 use lib.ListN.{length}
 use mathlib.Core.Bool.{true}
-use Rattle.words.proofs.Conditions.{was-true, was-false}
+use Rattle.answers.proofs.Conditions.{was-true, was-false}
 use Rattle.rtcp.specs.Header.{count}
 use Rattle.rtcp.specs.Layout.{reportSize}
 use Rattle.rtcp.specs.Packets.{isReport}

@@ -6,9 +6,9 @@ use native.Mathlib.Omega.{arith}
 use Prim.Native.Nat.{ℕ, _+_, _*_, _<_}
 use mir.Syntax.{w32}
 use mir.ValLaws.{toZ-pos}
-use Rattle.words.specs.BigEndian.{word}
-use Rattle.words.specs.Since.{signed}
-use Rattle.words.proofs.Differences.{signed-low, signed-high}
+use Rattle.numbers.specs.BigEndian.{word}
+use Rattle.numbers.specs.Since.{signed}
+use Rattle.numbers.proofs.Differences.{signed-low, signed-high}
 use Rattle.rtcp.proofs.Narrow.{narrow-fits, narrow-is}
 use Rattle.rtcp.proofs.reports.signed24.Statement.{statement}
 use Rattle.rtcp.proofs.reports.signed24.Tie as tie

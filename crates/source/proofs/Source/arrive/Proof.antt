@@ -1,7 +1,7 @@
 -- `source::Source::arrive` meets its contract. Assumes nothing.
 use borrow.Author.Needs.{needs}
 use mathlib.Core.Path.{sym}
-use Rattle.words.proofs.Conditions.{was-false, was-true}
+use Rattle.answers.proofs.Conditions.{was-false, was-true}
 use Rattle.source.proofs.Answers.{arrival-malformed, arrival-mark}
 use Rattle.source.proofs.Source.arrive.Statement.{statement}
 use Rattle.source.proofs.Source.arrive.Tie as tie

@@ -1,6 +1,6 @@
 -- `source::Source::count_block` meets its contract. Assumes nothing.
 use borrow.Author.Needs.{needs}
-use Rattle.words.proofs.Conditions.{was-false, was-true}
+use Rattle.answers.proofs.Conditions.{was-false, was-true}
 use Rattle.source.specs.Blocks.{blockCount}
 use Rattle.source.proofs.Source.count_block.Statement.{statement}
 use Rattle.source.proofs.Source.count_block.Tie as tie

@@ -1,9 +1,9 @@
 -- `source::Source::lost` meets its contract. Assumes nothing.
 use borrow.Author.Needs.{needs}
 use mathlib.Core.Path.{sym, ap, _∙_}
-use Rattle.words.proofs.Conditions.{was-false, was-true}
-use Rattle.source.proofs.Facts.{sound-counting}
-use Rattle.words.proofs.Signed.{seen-is}
+use Rattle.answers.proofs.Conditions.{was-false, was-true}
+use Rattle.source.proofs.Facts.{sound-has-counted}
+use Rattle.numbers.proofs.Signed.{seen-is}
 use Rattle.source.specs.declared.Lost.the-variants.{Packets}
 use Rattle.source.specs.Record.{lost, lostAnswer}
 use Rattle.source.proofs.Source.lost.Statement.{statement}
@@ -28,7 +28,7 @@ packets-requires : tie.Need-packets-requires
 packets-requires c κs =
     let s = c .before .before .before .before .args .self in
     let f = sym (c .before .is-fresh .ensures) ∙ c .if2 .left in
-    (f, sound-counting s (was-true (c .before .before .before .is-sound .ensures) (c .before .before .if1 .left)) f)
+    (f, sound-has-counted s (was-true (c .before .before .before .is-sound .ensures) (c .before .before .if1 .left)) f)
 
 returns-3 : tie.Need-returns-3
 unfolding lostAnswer

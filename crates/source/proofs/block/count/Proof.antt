@@ -8,11 +8,11 @@ use lib.ListN.{length, take, drop, length-drop}
 use lib.Seq.{take-all}
 use mathlib.Core.List.{List}
 use denote.Ref.{now}
-use Rattle.words.proofs.Conditions.{was-true, was-false}
+use Rattle.answers.proofs.Conditions.{was-true, was-false}
 use Rattle.source.specs.declared.Source.{Source}
 use Rattle.source.specs.Record.{fresh}
-use Rattle.source.proofs.Facts.{sound-counting, fresh-none}
-use Rattle.source.proofs.Packets.{Limits, limits, first-whole, first-is}
+use Rattle.source.proofs.Facts.{sound-has-counted, fresh-none}
+use Rattle.source.proofs.Packets.{Limits, limits, front-whole, front-is}
 use Rattle.source.proofs.Opened.{Rest, opened}
 use Rattle.source.proofs.block.count.Statement.{statement}
 use Rattle.source.proofs.block.count.Tie as tie
@@ -23,7 +23,7 @@ limits-of c = limits (c .before .before .before .args .width) (now (c .before .b
 is-fresh-here : (c : tie.Else1) → fresh (c .before .before .before .args .s) ≡ true
 is-fresh-here c = was-true (c .before .is-fresh .ensures) (c .if1 .left)
 
--- what is left behind the first record
+-- what is left behind the record at the front
 rest : (c : tie.After-tallied-arg) → let a = c .before .before .before .before .before .before .before .before .before .args in
     Rest (a .width) (now (a .records)) (take (length (now (a .records)) - a .width) (drop (a .width) (now (a .records)))) (a .s) (c .before .first .result)
 rest c =
@@ -32,7 +32,7 @@ rest c =
     let s = now (a .records) in
     let l = limits-of f in
     let join = c .before .before .before .join16 in
-    let is = first-is (a .width) s (l .wide) (join .ensures) refl in
+    let is = front-is (a .width) s (l .wide) (join .ensures) refl in
     let r = opened (a .width) s l (a .s) (f .before .before .before .pre .0) (is-fresh-here f) _ is (omega (arith, join .ok)) in
     let all = take-all (length s - a .width) (drop (a .width) s) (rw length-drop (omega arith)) in
     subst (λ (part : List ℕ). Rest (a .width) s part (a .s) (c .before .first .result)) (sym all)
@@ -46,7 +46,7 @@ tallied-requires c κs =
     let a = c .before .before .before .args in
     let p = c .before .before .before .pre in
     let l = limits (a .width) (now (a .records)) (p .1) in
-    (sound-counting (a .s) (p .0) (was-false (c .before .is-fresh .ensures) (c .if1 .taken)), l .wide, l .whole, l .few, l .fit)
+    (sound-has-counted (a .s) (p .0) (was-false (c .before .is-fresh .ensures) (c .if1 .taken)), l .wide, l .whole, l .few, l .fit)
 
 returns : tie.Need-returns
 returns c = search needs
@@ -55,13 +55,13 @@ sub-join16 : tie.Need-sub-join16
 sub-join16 c = omega (arith, limits-of c .wide)
 
 shared-slice-read-join16 : tie.Need-shared-slice-read-join16
-shared-slice-read-join16 c = let l = limits-of (c .before) in omega (arith, l .wide, first-whole _ _ l)
+shared-slice-read-join16 c = let l = limits-of (c .before) in omega (arith, l .wide, front-whole _ _ l)
 
 sub-join16-2 : tie.Need-sub-join16-2
 sub-join16-2 c = omega (arith, limits-of (c .before) .wide)
 
 shared-slice-read-join16-2 : tie.Need-shared-slice-read-join16-2
-shared-slice-read-join16-2 c = let l = limits-of (c .before .before) in omega (arith, l .wide, first-whole _ _ l)
+shared-slice-read-join16-2 c = let l = limits-of (c .before .before) in omega (arith, l .wide, front-whole _ _ l)
 
 join16-requires : tie.Need-join16-requires
 join16-requires c κs = search needs
@@ -70,7 +70,7 @@ sub-mark : tie.Need-sub-mark
 sub-mark c = omega (arith, limits-of (c .before .before .before) .wide)
 
 shared-slice-read-mark : tie.Need-shared-slice-read-mark
-shared-slice-read-mark c = let l = limits-of (c .before .before .before .before) in omega (arith, l .wide, first-whole _ _ l)
+shared-slice-read-mark c = let l = limits-of (c .before .before .before .before) in omega (arith, l .wide, front-whole _ _ l)
 
 first-requires : tie.Need-first-requires
 first-requires c κs =
@@ -79,10 +79,10 @@ first-requires c κs =
     omega arith
 
 sub-tallied : tie.Need-sub-tallied
-sub-tallied c = let l = limits-of (c .before .before .before .before .before) in omega (arith, first-whole _ _ l)
+sub-tallied c = let l = limits-of (c .before .before .before .before .before) in omega (arith, front-whole _ _ l)
 
 part-tallied-start : tie.Need-part-tallied-start
-part-tallied-start c = let l = limits-of (c .before .before .before .before .before) in omega (arith, first-whole _ _ l)
+part-tallied-start c = let l = limits-of (c .before .before .before .before .before) in omega (arith, front-whole _ _ l)
 
 part-tallied-end : tie.Need-part-tallied-end
 part-tallied-end c = search needs

@@ -7,7 +7,7 @@ use borrow.Author.Tests.{le-leb, lt-leb, eq-eqb, ne-eqb}
 use lib.ListN.{length}
 use denote.Ref.{now}
 use mathlib.Core.Bool.{and-true}
-use Rattle.words.proofs.Conditions.{all-false}
+use Rattle.answers.proofs.Conditions.{all-false}
 use Rattle.source.specs.Blocks.{packets, marksFit, inLimits}
 use Rattle.source.proofs.block.in_limits.Statement.{statement}
 use Rattle.source.proofs.block.in_limits.Tie as tie

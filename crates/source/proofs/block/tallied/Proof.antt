@@ -7,18 +7,18 @@ use mathlib.Core.Bool.{true}
 use lib.ListN.{length}
 use denote.Ref.{now}
 use Rattle.source.specs.declared.tallies.Tally.{Tally}
-use Rattle.source.specs.Record.{counting}
+use Rattle.source.specs.Record.{hasCounted}
 use Rattle.source.specs.declared.BlockCount.the-variants.{Counted}
 use Rattle.source.specs.Blocks.{Packet}
-use Rattle.source.specs.Tallied.{byte, taken, restored}
-use Rattle.source.proofs.Facts.{facts, highest-fits, counting-sound}
+use Rattle.source.specs.Tallied.{TallyFits, byte, taken, restored}
+use Rattle.source.proofs.Facts.{facts, highest-fits, has-counted-sound}
 use Rattle.source.proofs.Packets.{packet-is, room-left, mark-here, count-end}
 use Rattle.source.proofs.Turns.{Tallied, tallied-start, tallied-next, facts-now}
 use Rattle.source.proofs.block.tallied.Statement.{statement}
 use Rattle.source.proofs.block.tallied.Tie as tie
 
 abbrev Inv-loop : tie.InvT-loop
-Inv-loop s records width t₀ at₀ t at = (4 ≤ width) × (counting s ≡ true) × Tallied width records s at t
+Inv-loop s records width t₀ at₀ t at = (4 ≤ width) × (hasCounted s ≡ true) × Tallied width records s at t
 
 abbrev μ-loop : tie.MeasureT-loop
 μ-loop s records width t₀ at₀ t at = length records - at
@@ -35,7 +35,7 @@ loop-holds : tie.Need-loop-holds Inv-loop μ-loop
 loop-holds c =
     let a = c .before .before .args in
     let p = c .before .before .pre in
-    let start = tallied-start (a .width) (now (a .records)) (a .s) (p .2) (p .3) (p .4) (counting-sound (a .s) (p .0)) in
+    let start = tallied-start (a .width) (now (a .records)) (a .s) (p .2) (p .3) (p .4) (has-counted-sound (a .s) (p .0)) in
     (p .1, p .0, subst (λ (t : Tally). Tallied (a .width) (now (a .records)) (a .s) 0 t) (sym (c .begun .ensures)) start)
 
 add-place : tie.Need-add-place Inv-loop μ-loop
@@ -70,13 +70,9 @@ take-requires c κs =
     let test = c .before .before .before .before .loop-test .taken in
     let third : l .at + a .width - 4 + 2 ≡ l .at + (a .width - 2) = omega arith in
     let f = facts-now (a .width) (now (a .records)) (a .s) (l .inv .1) (l .at) (l .t) (l .inv .2) in
-    let high = highest-fits (restored (a .s) (l .t)) f in (
-      high .0,
-      high .1,
-      f .fits,
-      omega (arith, l .inv .2 .most),
-      rw third (mark-here (a .width) (now (a .records)) (a .s) (l .at) (restored (a .s) (l .t)) (byte 5 (l .t .counts)) (l .inv .2 .count) test),
-    )
+    let high = highest-fits (restored (a .s) (l .t)) f in
+    let fits : TallyFits (l .t) = record { natural = high .0; near = high .1; fits = f .fits; room = omega (arith, l .inv .2 .most) } in
+    (fits, rw third (mark-here (a .width) (now (a .records)) (a .s) (l .at) (restored (a .s) (l .t)) (byte 5 (l .t .counts)) (l .inv .2 .count) test))
 
 add-at : tie.Need-add-at Inv-loop μ-loop
 add-at c = omega (arith, room (c .before .before .before .before .before))

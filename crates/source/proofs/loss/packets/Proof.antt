@@ -9,7 +9,7 @@ use mir.Val.{toZ}
 use mir.ValLaws.{toZ-pos, toZ-ofZ}
 use Rattle.source.proofs.Facts.{facts, highest-fits, Facts}
 use Rattle.source.specs.declared.Source.{Source}
-use Rattle.words.proofs.Integers.{minus-pos, minus-neg}
+use Rattle.numbers.proofs.Integers.{minus-pos, minus-neg}
 use Rattle.source.specs.Record.{arrivals, distinct, lost}
 use Rattle.source.proofs.loss.packets.Statement.{statement}
 use Rattle.source.proofs.loss.packets.Tie as tie

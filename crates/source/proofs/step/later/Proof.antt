@@ -2,54 +2,60 @@
 use borrow.Author.Needs.{needs}
 use mathlib.Core.Path.{sym, ap, _∙_}
 use native.Mathlib.Omega.{arith}
-use Prim.Native.Nat.{ℕ, _-_}
-use Rattle.source.specs.Arrivals.{ahead, behind, later}
+use Rattle.source.specs.Arrivals.{laterBy}
 use Rattle.source.specs.declared.Arrival.the-variants.{Accepted}
-use Rattle.source.proofs.Answers.{later-ahead, later-level, later-behind, later-jump}
+use Rattle.source.proofs.Reached.{within}
 use Rattle.source.proofs.step.later.Statement.{statement}
 use Rattle.source.proofs.step.later.Tie as tie
 
+reach-of-requires : tie.Need-reach-of-requires
+reach-of-requires c κs = search needs
+
+enum-known-up : tie.Need-enum-known-up
+enum-known-up c = search needs
+
+ahead-requires : tie.Need-ahead-requires
+ahead-requires c κs =
+    let p = c .before .before .before .before in
+    let w = within (p .args .d) (p .pre .2) (sym (c .before .up .given .1) ∙ c .before .before .before .reach-of .ensures) in
+    (p .pre .0, p .pre .1, w .0, omega (arith, w .1))
+
+enum-known-k : tie.Need-enum-known-k
+enum-known-k c = search needs
+
 behind-requires : tie.Need-behind-requires
-behind-requires c κs = search needs
+behind-requires c κs =
+    let p = c .before .before .before .before in
+    (p .pre .0, p .pre .1, within (p .args .d) (p .pre .2) (sym (c .before .k .given .1) ∙ c .before .before .before .reach-of .ensures))
+
+enum-told : tie.Need-enum-told
+enum-told c = search needs
 
 returns : tie.Need-returns
 returns c =
-    let a = c .before .before .args in
-    ap Accepted (c .behind .ensures) ∙ sym (later-level (a .s) (a .mark)) ∙ ap (λ (d : ℕ). later (a .s) d (a .mark)) (sym (c .before .if1 .taken))
-
-ahead-requires : tie.Need-ahead-requires
-ahead-requires c κs = search needs
+    let a = c .before .before .before .before .before .args in
+    ap Accepted (c .ahead .ensures) ∙ ap (laterBy (a .s) (a .mark)) (sym (c .before .before .up .given .1) ∙ c .before .before .before .before .reach-of .ensures)
 
 returns-2 : tie.Need-returns-2
 returns-2 c =
-    let a = c .before .before .before .args in
-    ap Accepted (c .ahead .ensures) ∙ sym (later-ahead (a .s) (a .mark) (a .d) (omega arith) (omega arith))
-
-sub-behind : tie.Need-sub-behind
-sub-behind c = search needs
-
-behind-requires-2 : tie.Need-behind-requires-2
-behind-requires-2 c κs = search needs
+    let a = c .before .before .before .before .before .args in
+    ap Accepted (c .behind .ensures) ∙ ap (laterBy (a .s) (a .mark)) (sym (c .before .before .k .given .1) ∙ c .before .before .before .before .reach-of .ensures)
 
 returns-3 : tie.Need-returns-3
 returns-3 c =
-    let a = c .before .before .before .before .args in
-    ap Accepted (c .behind2 .ensures) ∙ sym (later-behind (a .s) (a .mark) (a .d) (omega arith) (omega arith))
-
-returns-4 : tie.Need-returns-4
-returns-4 c =
     let a = c .before .before .before .args in
-    sym (later-jump (a .s) (a .mark) (a .d) (omega arith) (omega arith))
+    ap (laterBy (a .s) (a .mark)) (sym (c .enum-told .given .1) ∙ c .before .before .reach-of .ensures)
 
 pub later-spec : {M : Type 1} → statement M
 later-spec =
     tie.close
     (tie.spec
-    behind-requires
-    returns
+    reach-of-requires
+    enum-known-up
     ahead-requires
+    enum-known-k
+    behind-requires
+    enum-told
+    returns
     returns-2
-    sub-behind
-    behind-requires-2
-    returns-3
-    returns-4)
+    returns-3)

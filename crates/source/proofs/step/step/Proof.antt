@@ -3,12 +3,11 @@ use borrow.Author.Needs.{needs}
 use mathlib.Core.Path.{sym, ap, _∙_}
 use native.Mathlib.Omega.{arith}
 use Prim.Native.Nat.{ℕ, _-_}
-use lib.IntN.{pos, _-ℤ_}
-use Rattle.source.specs.Arrivals.{first, later, distance}
+use Rattle.source.specs.Arrivals.{later}
 use Rattle.source.specs.declared.Arrival.the-variants.{Accepted}
 use Rattle.source.proofs.Answers.{arrival-full, arrival-first, arrival-later}
-use Rattle.source.proofs.Facts.{facts, highest-fits, sound-most, counted-some}
-use Rattle.words.proofs.Integers.{modulo-lt}
+use Rattle.source.proofs.Facts.{facts, highest-fits, sound-most, some-has-counted}
+use Rattle.source.proofs.Kept.{distance-lt}
 use Rattle.source.proofs.step.step.Statement.{statement}
 use Rattle.source.proofs.step.step.Tie as tie
 
@@ -37,13 +36,12 @@ returns-2 c =
 distance-requires : tie.Need-distance-requires
 distance-requires c κs =
     let s = c .before .before .before .before .before .before .args .s in
-    highest-fits s (facts s (counted-some s (c .before .before .before .before .before .before .pre .0) (omega arith))) .0
+    highest-fits s (facts s (some-has-counted s (c .before .before .before .before .before .before .pre .0) (omega arith))) .0
 
 later-requires : tie.Need-later-requires
-unfolding distance
 later-requires c κs =
     let p = c .before .before .before .before .before .before .before in
-    (counted-some (p .args .s) (p .pre .0) (omega arith), omega arith, rw (c .distance .ensures) (modulo-lt 65536 (omega arith) (pos (p .args .wire .0) -ℤ p .args .s .highest .0)))
+    (some-has-counted (p .args .s) (p .pre .0) (omega arith), omega arith, distance-lt _ _ (c .distance .ensures))
 
 returns-3 : tie.Need-returns-3
 returns-3 c =

@@ -14,14 +14,14 @@ fall-requires : tie.Need-fall-requires
 fall-requires c κs = search needs
 
 plus-requires : tie.Need-plus-requires
-plus-requires c κs = let p = c .before .before .before .before .pre in (p .0, omega (arith, c .before .rise .ensures .1), p .1)
+plus-requires c κs = let p = c .before .before .before .before .pre in (p .0 .natural, omega (arith, c .before .rise .ensures .1), p .0 .near)
 
 near-requires : tie.Need-near-requires
-near-requires c κs = (c .before .before .rise .ensures .1, c .before .fall .ensures .1, c .before .before .before .before .before .pre .2)
+near-requires c κs = (c .before .before .rise .ensures .1, c .before .fall .ensures .1, c .before .before .before .before .before .pre .0 .fits)
 
 near-mark-requires : tie.Need-near-mark-requires
 near-mark-requires c κs =
-    (c .before .before .before .rise .ensures .1, c .before .before .fall .ensures .1, c .before .before .before .before .before .before .pre .2)
+    (c .before .before .before .rise .ensures .1, c .before .before .fall .ensures .1, c .before .before .before .before .before .before .pre .0 .fits)
 
 unit-requires : tie.Need-unit-requires
 unit-requires c κs = search needs
@@ -33,7 +33,7 @@ add-raised : tie.Need-add-raised
 add-raised c = omega (arith, c .before .near-mark .ensures .1, c .unit .ensures .1)
 
 raised-requires : tie.Need-raised-requires
-raised-requires c κs = let p = c .before .before .before .before .before .before .before .before .pre in (p .3, omega (arith, c .before .near-mark .ensures .1, c .unit .ensures .1), p .4)
+raised-requires c κs = let p = c .before .before .before .before .before .before .before .before .pre in (p .0 .room, omega (arith, c .before .near-mark .ensures .1, c .unit .ensures .1), p .1)
 
 returns : tie.Need-returns
 returns c =
@@ -43,7 +43,7 @@ returns c =
     let k = c .before .before .before .before .before .fall .ensures .0 in
     let more = ap₂ (λ (u w : ℕ). u + w * 256 ^ 4) (c .before .unit .ensures .0) (c .before .before .near-mark .ensures .0) in
     c .raised .ensures ∙ raised-same (a .t) (c .before .before .before .before .plus .ensures) (c .before .before .before .near .ensures) more
-    ∙ ap₂ (λ (i j : ℕ). nearBy (a .t) i j (a .mark)) up k ∙ near-taken (a .t) (a .mark) (a .d) (p .5) (p .6)
+    ∙ ap₂ (λ (i j : ℕ). nearBy (a .t) i j (a .mark)) up k ∙ near-taken (a .t) (a .mark) (a .d) (p .2) (p .3)
 
 pub near-spec : {M : Type 1} → statement M
 near-spec =

@@ -1,11 +1,12 @@
 -- `source::tallies::take` meets its contract. Assumes nothing.
 use borrow.Author.Needs.{needs}
-use mathlib.Core.Path.{sym, ap, subst, _∙_}
-use Prim.Native.Nat.{ℕ, _-_, _<_}
+use mathlib.Core.Path.{refl, sym, ap, _∙_}
+use Prim.Native.Nat.{_-_}
 use native.Mathlib.Omega.{arith}
-use Rattle.source.specs.Tallied.{takenBy}
+use Rattle.source.specs.Distances.{reachOf}
+use Rattle.source.proofs.Reached.{within}
 use Rattle.source.proofs.Kept.{distance-lt}
-use Rattle.source.proofs.Chosen.{taken-full, taken-by, taken-ahead, taken-behind, taken-jump}
+use Rattle.source.proofs.Chosen.{taken-full, taken-by}
 use Rattle.source.proofs.tallies.take.Statement.{statement}
 use Rattle.source.proofs.tallies.take.Tie as tie
 
@@ -21,53 +22,63 @@ near-requires c κs = search needs
 returns-2 : tie.Need-returns-2
 returns-2 c =
     let a = c .before .before .before .before .before .before .args in
-    let d = c .before .before .distance in
-    c .near .ensures ∙ ap (λ (n : ℕ). takenBy (a .t) n (a .mark)) (sym (c .before .if2 .taken)) ∙ taken-by (a .t) (a .wire) (a .mark) (d .result) (d .ensures) (subst (λ (n : ℕ). n < 65536) (sym (d .ensures)) (distance-lt (a .t .highest) (a .wire))) (omega arith)
+    c .near .ensures ∙ taken-by (a .t) (a .wire) (a .mark) (c .before .before .distance .ensures) (ap reachOf (sym (c .before .if2 .taken))) (omega arith)
 
 add-if3 : tie.Need-add-if3
-add-if3 c = let l = distance-lt (c .before .before .before .before .before .args .t .highest) (c .before .before .before .before .before .args .wire) in omega (arith, c .before .distance .ensures)
+add-if3 c = let l = distance-lt _ _ (c .before .distance .ensures) in omega arith
 
 near-requires-2 : tie.Need-near-requires-2
 near-requires-2 c κs =
     let p = c .before .before .before .before .before .before in
-    let l = distance-lt (p .args .t .highest) (p .args .wire) in
-    (p .pre .0, p .pre .1, p .pre .2, p .pre .3, omega arith, omega (arith, c .before .before .distance .ensures), c .if3 .taken, p .pre .4)
+    (p .pre .0, omega arith, distance-lt _ _ (c .before .before .distance .ensures), c .if3 .taken, p .pre .1)
 
 returns-3 : tie.Need-returns-3
 returns-3 c =
     let a = c .before .before .before .before .before .before .before .args in
-    let d = c .before .before .before .distance in
-    c .near2 .ensures ∙ taken-by (a .t) (a .wire) (a .mark) (d .result) (d .ensures) (subst (λ (n : ℕ). n < 65536) (sym (d .ensures)) (distance-lt (a .t .highest) (a .wire))) (omega arith)
+    c .near2 .ensures ∙ taken-by (a .t) (a .wire) (a .mark) (c .before .before .before .distance .ensures) refl (omega arith)
+
+reach-of-requires : tie.Need-reach-of-requires
+reach-of-requires c κs = distance-lt _ _ (c .before .before .distance .ensures)
+
+enum-known-up : tie.Need-enum-known-up
+enum-known-up c = search needs
 
 ahead-requires : tie.Need-ahead-requires
-ahead-requires c κs = search needs
+ahead-requires c κs =
+    let p = c .before .before .before .before .before .before .before .before .before .before .pre in
+    let d = c .before .before .before .before .before .before .distance in
+    let w = within (d .result) (distance-lt _ _ (d .ensures)) (sym (c .before .up .given .1) ∙ c .before .before .before .reach-of .ensures) in
+    (p .0, omega arith, w .0, omega (arith, w .1), p .1)
 
-returns-4 : tie.Need-returns-4
-returns-4 c =
-    let a = c .before .before .before .before .before .before .before .before .args in
-    let d = c .before .before .before .before .distance in
-    c .ahead .ensures ∙ taken-ahead (a .t) (a .wire) (a .mark) (d .result) (d .ensures) (subst (λ (n : ℕ). n < 65536) (sym (d .ensures)) (distance-lt (a .t .highest) (a .wire))) (omega arith) (omega arith) (c .before .if4 .taken)
-
-sub-behind : tie.Need-sub-behind
-sub-behind c = let l = distance-lt (c .before .before .before .before .before .before .before .before .args .t .highest) (c .before .before .before .before .before .before .before .before .args .wire) in omega (arith, c .before .before .before .before .distance .ensures)
+enum-known-k : tie.Need-enum-known-k
+enum-known-k c = search needs
 
 behind-requires : tie.Need-behind-requires
-behind-requires c κs = search needs
+behind-requires c κs =
+    let p = c .before .before .before .before .before .before .before .before .before .before .pre in
+    let d = c .before .before .before .before .before .before .distance in
+    (p .0, omega arith, within (d .result) (distance-lt _ _ (d .ensures)) (sym (c .before .k .given .1) ∙ c .before .before .before .reach-of .ensures), p .1)
 
-returns-5 : tie.Need-returns-5
-returns-5 c =
-    let a = c .before .before .before .before .before .before .before .before .before .args in
-    let d = c .before .before .before .before .before .distance in
-    c .behind .ensures ∙ taken-behind (a .t) (a .wire) (a .mark) (d .result) (d .ensures) (subst (λ (n : ℕ). n < 65536) (sym (d .ensures)) (distance-lt (a .t .highest) (a .wire))) (omega arith) (c .before .if5 .taken)
+enum-told : tie.Need-enum-told
+enum-told c = search needs
 
 jumped-requires : tie.Need-jumped-requires
 jumped-requires c κs = search needs
 
+returns-4 : tie.Need-returns-4
+returns-4 c =
+    let a = c .before .before .before .before .before .before .before .before .before .before .before .args in
+    c .ahead .ensures ∙ taken-by (a .t) (a .wire) (a .mark) (c .before .before .before .before .before .before .before .distance .ensures) (sym (c .before .before .up .given .1) ∙ c .before .before .before .before .reach-of .ensures) (omega arith)
+
+returns-5 : tie.Need-returns-5
+returns-5 c =
+    let a = c .before .before .before .before .before .before .before .before .before .before .before .args in
+    c .behind .ensures ∙ taken-by (a .t) (a .wire) (a .mark) (c .before .before .before .before .before .before .before .distance .ensures) (sym (c .before .before .k .given .1) ∙ c .before .before .before .before .reach-of .ensures) (omega arith)
+
 returns-6 : tie.Need-returns-6
 returns-6 c =
-    let a = c .before .before .before .before .before .before .before .before .before .args in
-    let d = c .before .before .before .before .before .distance in
-    c .jumped .ensures ∙ taken-jump (a .t) (a .wire) (a .mark) (d .result) (d .ensures) (subst (λ (n : ℕ). n < 65536) (sym (d .ensures)) (distance-lt (a .t .highest) (a .wire))) (omega arith) (omega arith) (omega arith)
+    let a = c .before .before .before .before .before .before .before .before .before .before .args in
+    c .jumped .ensures ∙ taken-by (a .t) (a .wire) (a .mark) (c .before .before .before .before .before .before .distance .ensures) (sym (c .before .enum-told .given .1) ∙ c .before .before .before .reach-of .ensures) (omega arith)
 
 pub take-spec : {M : Type 1} → statement M
 take-spec =
@@ -80,10 +91,13 @@ take-spec =
     add-if3
     near-requires-2
     returns-3
+    reach-of-requires
+    enum-known-up
     ahead-requires
-    returns-4
-    sub-behind
+    enum-known-k
     behind-requires
-    returns-5
+    enum-told
     jumped-requires
+    returns-4
+    returns-5
     returns-6)

@@ -3,7 +3,7 @@ use borrow.Author.Needs.{needs}
 use native.Mathlib.Omega.{arith}
 use denote.Ref.{now}
 use Rattle.table.proofs.Texts.{length-quoted, length-bare, doubled-length}
-use Rattle.words.proofs.Conditions.{was-true, was-false}
+use Rattle.answers.proofs.Conditions.{was-true, was-false}
 use Rattle.table.proofs.field.field_length.Statement.{statement}
 use Rattle.table.proofs.field.field_length.Tie as tie
 

@@ -8,7 +8,7 @@ use lib.Seq.{sets}
 use denote.Ref.{now}
 use Rattle.table.proofs.Texts.{length-turn, doubled-turn, doubled-done}
 use Rattle.table.specs.Field.{doubled, doubledByte}
-use Rattle.words.proofs.Stores.{sets-step}
+use Rattle.answers.proofs.Stores.{sets-step}
 use Rattle.table.proofs.field.put_inner.Statement.{statement}
 use Rattle.table.proofs.field.put_inner.Tie as tie
 

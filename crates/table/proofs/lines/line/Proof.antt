@@ -5,7 +5,7 @@ use native.Mathlib.Omega.{arith}
 use Prim.Native.Nat.{_+_, _-_, _≤_}
 use denote.Ref.{now}
 use lib.ListN.{length}
-use Rattle.words.proofs.Stores.{wrote-short, wrote-all}
+use Rattle.answers.proofs.Stores.{wrote-short, wrote-all}
 use Rattle.table.specs.Parts.{whole}
 use Rattle.table.proofs.Commas.{length-tail, length-whole, minus-most}
 use Rattle.table.proofs.Texts.{field-most}
@@ -54,8 +54,7 @@ returns : tie.Need-returns
 returns c =
     let a = c .before .before .before .before .before .before .before .before .before .args in
     let row = whole (now (a .label)) (now (a .front)) (a .below) (a .size) (now (a .back)) in
-    let w = wrote-short row (now (a .out)) refl (omega (arith, total (c .before))) in
-    (w .answers, w .stores)
+    wrote-short row (now (a .out)) refl (omega (arith, total (c .before)))
 
 put-line-requires : tie.Need-put-line-requires
 put-line-requires c κs = (c .before .before .before .before .before .field-length .ensures, total (c .before .before), c .before .if1 .left)
@@ -68,8 +67,7 @@ returns-2 c =
     let a = c .before .before .before .before .before .before .before .before .before .before .before .before .before .args in
     let row = whole (now (a .label)) (now (a .front)) (a .below) (a .size) (now (a .back)) in
     let size = total (c .before .before .before .before .before) in
-    let w = wrote-all row (now (a .out)) refl (omega (arith, c .before .before .before .before .if1 .left)) size (c .before .before .put-line .ensures) in
-    (w .answers, w .stores)
+    wrote-all row (now (a .out)) refl (omega (arith, c .before .before .before .before .if1 .left)) size (c .before .before .put-line .ensures)
 
 pub line-spec : {M : Type 1} → statement M
 line-spec =

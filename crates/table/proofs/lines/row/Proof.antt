@@ -1,15 +1,13 @@
 -- `table::lines::row` meets its contract. Assumes nothing.
 use borrow.Author.Needs.{needs}
-use mathlib.Core.Path.{sym, ap, _∙_}
-use mathlib.Core.List.{List}
+use mathlib.Core.Path.{refl, sym, ap, _∙_}
 use denote.Ref.{now}
-use mathlib.Core.Option.{none}
 use Prim.Native.Nat.{ℕ, _-_}
 use lib.IntN.{pos}
 use lib.Signed.{ltZ}
 use Rattle.table.specs.Decimal.{decimal, signed}
-use Rattle.words.specs.Writers.{written, stored}
-use Rattle.words.proofs.Signed.{seen}
+use Rattle.answers.proofs.Stores.{wrote-same}
+use Rattle.numbers.proofs.Signed.{seen}
 use Rattle.table.proofs.Commas.{row-parts}
 use Rattle.table.proofs.Minus.{signed-parts, size-of}
 use Rattle.table.proofs.Faults.{highest-decimal}
@@ -37,17 +35,14 @@ same-length c = search needs
 
 returns : tie.Need-returns
 returns c =
-    let s = c .before .before .before .before .before .before .before .before .before .before .before .before in
+    let s = c .before .before .before .before .before .before .before .before .before .before .before .before .before in
     let a = s .args in
     let high = c .before .before .before .before .before .before .before .magnitude .result in
     let size = c .before .before .before .before .before .before .magnitude2 .result in
     let below = ltZ (seen (a .lost)) (pos 0) in
-    let highest = highest-decimal (a .s) (s .pre .1) ∙ ap decimal (sym (size-of (a .s .highest .0) (search needs) (c .before .before .before .before .before .before .before .magnitude .ensures))) in
+    let highest = highest-decimal (a .t .source) (s .pre .1) ∙ ap decimal (sym (size-of (a .t .source .highest .0) (search needs) (c .before .before .before .before .before .before .before .magnitude .ensures))) in
     let lost = ap signed (sym (s .pre .2)) ∙ signed-parts (a .lost) (s .fits .lost) ∙ ap (minus below) (sym (size-of (a .lost) (s .fits .lost) (c .before .before .before .before .before .before .magnitude2 .ensures))) in
-    let parts = row-parts (now (a .label)) (a .ssrc) (a .s) (a .jumped) high below size highest lost in (
-      c .before .before .line .ensures .0 ∙ ap (λ (row : List ℕ). written none row (now (a .out))) (sym parts),
-      c .before .before .line .ensures .1 ∙ ap (λ (row : List ℕ). stored none row (now (a .out))) (sym parts),
-    )
+    wrote-same refl (sym (row-parts (now (a .label)) (a .ssrc) (a .t) high below size highest lost)) (c .before .before .line .ensures)
 
 pub row-spec : {M : Type 1} → statement M
 row-spec =

@@ -5,7 +5,7 @@ use native.Mathlib.Omega.{arith}
 use Prim.Native.Nat.{_+_, _-_}
 use denote.Ref.{now}
 use lib.ListN.{length}
-use Rattle.words.proofs.Stores.{wrote-short, wrote-all}
+use Rattle.answers.proofs.Stores.{wrote-short, wrote-all}
 use Rattle.table.specs.Lines.{refusedLine}
 use Rattle.table.proofs.Digits.{length-u64}
 use Rattle.table.proofs.RefusedLines.{length-refused}
@@ -31,8 +31,7 @@ add-size-2 c =
 returns : tie.Need-returns
 returns c =
     let a = c .before .before .before .before .args in
-    let w = wrote-short (refusedLine (a .number) (a .block)) (now (a .out)) refl (omega (arith, length-refused (a .number) (a .block))) in
-    (w .answers, w .stores)
+    wrote-short (refusedLine (a .number) (a .block)) (now (a .out)) refl (omega (arith, length-refused (a .number) (a .block)))
 
 put-line-requires : tie.Need-put-line-requires
 put-line-requires c κs = search needs
@@ -45,8 +44,7 @@ returns-2 c =
     let a = c .before .before .before .before .before .before .before .before .args in
     let long = length-refused (a .number) (a .block) in
     let size : 8 + c .before .before .before .before .before .before .digits .result + (9 + c .before .before .before .before .before .digits2 .result) ≡ length (refusedLine (a .number) (a .block)) = omega arith in
-    let w = wrote-all (refusedLine (a .number) (a .block)) (now (a .out)) refl (omega (arith, c .before .before .before .before .if1 .left)) size (c .before .before .put-line .ensures) in
-    (w .answers, w .stores)
+    wrote-all (refusedLine (a .number) (a .block)) (now (a .out)) refl (omega (arith, c .before .before .before .before .if1 .left)) size (c .before .before .put-line .ensures)
 
 pub line-spec : {M : Type 1} → statement M
 line-spec =

@@ -8,7 +8,7 @@ use lib.ListN.{length}
 use lib.Seq.{sets}
 use mathlib.Core.List.{List}
 use Rattle.table.specs.Decimal.{decimal}
-use Rattle.words.proofs.Stores.{sets-append}
+use Rattle.answers.proofs.Stores.{sets-append}
 use Rattle.table.proofs.refused.put_counted.Statement.{statement}
 use Rattle.table.proofs.refused.put_counted.Tie as tie
 

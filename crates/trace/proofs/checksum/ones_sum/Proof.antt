@@ -8,7 +8,7 @@ use lib.ListN.{length, drop, getD}
 use denote.Ref.{now}
 use mathlib.Core.List.{[], _∷_}
 use Rattle.trace.proofs.Sums.{lowTotal, carried, carried-twice, ones-swapped, low-turn, low-done}
-use Rattle.words.proofs.BigEndian.{word-two}
+use Rattle.numbers.proofs.BigEndian.{word-two}
 use Rattle.trace.proofs.checksum.ones_sum.Statement.{statement}
 use Rattle.trace.proofs.checksum.ones_sum.Tie as tie
 

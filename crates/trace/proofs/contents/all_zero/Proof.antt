@@ -1,12 +1,12 @@
 -- `trace::contents::all_zero` meets its contract. Assumes nothing.
 use borrow.Author.Needs.{needs}
-use mathlib.Core.Path.{_≡_, _∙_}
+use mathlib.Core.Path.{_≡_, refl, _∙_}
 use Prim.Native.Nat.{ℕ, _+_, _-_, _*_, _≤_}
 use native.Mathlib.Omega.{arith}
 use native.Mathlib.Nat.{zero-add}
 use lib.ListN.{length, drop}
 use denote.Ref.{now}
-use Rattle.trace.proofs.Tallies.{tally, tally-turn, tally-rule, zero-fault}
+use Rattle.trace.proofs.Tallies.{tally, tally-turn, tally-rule}
 use Rattle.trace.specs.Contents.{isZero}
 use Rattle.trace.proofs.contents.all_zero.Statement.{statement}
 use Rattle.trace.proofs.contents.all_zero.Tie as tie
@@ -45,7 +45,7 @@ loop-again c =
     )
 
 returns : tie.Need-returns Inv-loop μ-loop
-returns c = tally-rule (λ (c : ℕ). c) isZero zero-fault _ _ _ (c .before .loop .inv .2) (c .loop-test .left)
+returns c = tally-rule (λ (c : ℕ). c) isZero (λ c. refl) _ _ _ (c .before .loop .inv .2) (c .loop-test .left)
 
 pub all-zero-spec : {M : Type 1} → statement M
 all-zero-spec =

@@ -1,36 +1,47 @@
 -- `trace::read::arrivals_body` meets its contract. Assumes nothing.
 use borrow.Author.Needs.{needs}
 use mathlib.Core.Path.{ap, _∙_}
-use Prim.Native.Nat.{_-_, _*_}
+use Prim.Native.Nat.{ℕ, _-_, _*_, _≤_}
+use native.Mathlib.Omega.{arith}
 use denote.Ref.{now}
-use Rattle.trace.proofs.Decisions.{part-tail, records-none, records-many, records-other, records-rest}
-use Rattle.words.proofs.Conditions.{was-false, was-true}
+use lib.ListN.{drop}
+use Rattle.answers.proofs.Conditions.{was-false, was-true}
+use Rattle.format.specs.Forms.{shapeOf}
+use Rattle.format.proofs.Fits.{fits, records-fit}
+use Rattle.trace.proofs.Decisions.{part-tail, count-right, records-false, records-rest}
 use Rattle.trace.specs.Contents.{every, isZero}
-use Rattle.trace.specs.Layout.{first}
 use Rattle.trace.proofs.read.arrivals_body.Statement.{statement}
 use Rattle.trace.proofs.read.arrivals_body.Tie as tie
 
-returns : tie.Need-returns
-returns c = records-none first _ _ (c .if1 .taken)
+few : (c : tie.Else1) → c .before .before .before .args .n ≤ shapeOf (c .before .before .before .args .form) .most
+few c = count-right _ _ (was-true (c .before .is-count .ensures) (c .if1 .left)) .1
 
-returns-2 : tie.Need-returns-2
-returns-2 c = records-many first _ _ (c .before .if1 .left) (c .if2 .taken)
+room : (c : tie.After-width) → c .before .before .before .before .before .before .args .n * c .width .result ≤ 502
+room c = rw (c .width .ensures) (records-fit (fits (c .before .before .before .before .before .before .args .form)) (few (c .before .before .before)))
+
+is-count-requires : tie.Need-is-count-requires
+is-count-requires c κs = search needs
+
+returns : tie.Need-returns
+returns c = records-false (shapeOf (c .before .before .before .args .form)) _ _ 0 (was-false (c .before .is-count .ensures) (c .if1 .taken))
 
 all-records-requires : tie.Need-all-records-requires
-all-records-requires c κs = search needs
+all-records-requires c κs = (few c, omega (arith, records-fit (fits (c .before .before .before .args .form)) (few c), c .before .before .before .pre))
 
-returns-3 : tie.Need-returns-3
-returns-3 c =
-    records-other first _ _ (c .before .before .before .if1 .left) (c .before .before .if2 .left) (was-false (c .before .all-records .ensures) (c .if3 .taken))
+returns-2 : tie.Need-returns-2
+returns-2 c = records-false (shapeOf (c .before .before .before .before .before .args .form)) _ _ 1 (was-false (c .before .all-records .ensures) (c .if2 .taken))
+
+width-requires : tie.Need-width-requires
+width-requires c κs = search needs
 
 mul-all-zero : tie.Need-mul-all-zero
-mul-all-zero c = search needs
+mul-all-zero c = omega (arith, room c)
 
 sub-all-zero : tie.Need-sub-all-zero
-sub-all-zero c = search needs
+sub-all-zero c = omega (arith, room c)
 
 part-all-zero-start : tie.Need-part-all-zero-start
-part-all-zero-start c = search needs
+part-all-zero-start c = omega (arith, room c)
 
 part-all-zero-end : tie.Need-part-all-zero-end
 part-all-zero-end c = search needs
@@ -38,23 +49,24 @@ part-all-zero-end c = search needs
 all-zero-requires : tie.Need-all-zero-requires
 all-zero-requires c κs = search needs
 
-returns-4 : tie.Need-returns-4
-returns-4 c =
-    let a = c .before .before .before .before .before .before .before .args in
-    records-rest first (a .n) (now (a .body)) (c .before .before .before .before .before .if1 .left) (c .before .before .before .before .if2 .left) (was-true (c .before .before .before .all-records .ensures) (c .before .before .if3 .left))
-    (c .all-zero .ensures ∙ ap (every isZero) (part-tail (now (a .body)) (a .n * 8)))
+returns-3 : tie.Need-returns-3
+returns-3 c =
+    let a = c .before .before .before .before .before .before .before .before .args in
+    let rest = part-tail (now (a .body)) (a .n * c .before .before .width .result) ∙ ap (λ (w : ℕ). drop (a .n * w) (now (a .body))) (c .before .before .width .ensures) in
+    records-rest (shapeOf (a .form)) (a .n) (now (a .body)) (was-true (c .before .before .before .before .before .before .is-count .ensures) (c .before .before .before .before .before .if1 .left)) (was-true (c .before .before .before .before .all-records .ensures) (c .before .before .before .if2 .left)) (c .all-zero .ensures ∙ ap (every isZero) rest)
 
 pub arrivals-body-spec : {M : Type 1} → statement M
 arrivals-body-spec =
     tie.close
     (tie.spec
+    is-count-requires
     returns
-    returns-2
     all-records-requires
-    returns-3
+    returns-2
+    width-requires
     mul-all-zero
     sub-all-zero
     part-all-zero-start
     part-all-zero-end
     all-zero-requires
-    returns-4)
+    returns-3)

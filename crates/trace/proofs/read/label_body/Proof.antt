@@ -4,15 +4,16 @@ use mathlib.Core.Path.{sym, ap, _∙_}
 use Prim.Native.Nat.{_-_}
 use native.Mathlib.Omega.{arith}
 use denote.Ref.{now}
+use borrow.Author.Tests.{lt-leb}
 use lib.Seq.{length-take-le}
-use Rattle.trace.proofs.Decisions.{part-tail, text-long, text-other, text-rest}
-use Rattle.words.proofs.Conditions.{was-false, was-true}
+use Rattle.trace.proofs.Decisions.{part-tail, text-false, text-rest}
+use Rattle.answers.proofs.Conditions.{was-false, was-true}
 use Rattle.trace.specs.Contents.{every, isZero}
 use Rattle.trace.proofs.read.label_body.Statement.{statement}
 use Rattle.trace.proofs.read.label_body.Tie as tie
 
 returns : tie.Need-returns
-returns c = text-long _ _ (c .if1 .taken)
+returns c = text-false _ _ 0 (lt-leb _ 502 (c .if1 .taken))
 
 slice-aggregate-all-allowed : tie.Need-slice-aggregate-all-allowed
 slice-aggregate-all-allowed c = let a = c .before .before .before .args in sym (length-take-le (a .n) (now (a .body)) (omega arith))
@@ -21,7 +22,7 @@ all-allowed-requires : tie.Need-all-allowed-requires
 all-allowed-requires c κs = let a = c .before .before .before .args in rw (length-take-le (a .n) (now (a .body)) (omega arith)) (omega arith)
 
 returns-2 : tie.Need-returns-2
-returns-2 c = text-other _ _ (c .before .before .before .if1 .left) (was-false (c .before .all-allowed .ensures) (c .if2 .taken))
+returns-2 c = text-false _ _ 1 (was-false (c .before .all-allowed .ensures) (c .if2 .taken))
 
 sub-all-zero : tie.Need-sub-all-zero
 sub-all-zero c = search needs

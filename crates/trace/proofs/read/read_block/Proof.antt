@@ -3,27 +3,26 @@ use borrow.Author.Needs.{needs}
 use denote.Ref.{now}
 use mathlib.Core.Path.{_∙_}
 use Rattle.trace.proofs.Decisions.{not-whole, wrong-check, right-check}
-use Rattle.trace.specs.Layout.{first}
-use Rattle.words.proofs.Conditions.{was-false, was-true}
+use Rattle.answers.proofs.Conditions.{was-false, was-true}
 use Rattle.trace.proofs.read.read_block.Statement.{statement}
 use Rattle.trace.proofs.read.read_block.Tie as tie
 
 returns : tie.Need-returns
-returns c = not-whole first _ (c .if1 .taken)
+returns c = not-whole _ (c .if1 .taken)
 
 right-check-requires : tie.Need-right-check-requires
 right-check-requires c κs = search needs
 
 returns-2 : tie.Need-returns-2
 returns-2 c =
-    wrong-check first (now (c .before .before .before .before .args .b)) (c .before .before .if1 .left) (was-false (c .before .right-check .ensures) (c .if2 .taken))
+    wrong-check (now (c .before .before .before .before .args .b)) (c .before .before .if1 .left) (was-false (c .before .right-check .ensures) (c .if2 .taken))
 
 contents-requires : tie.Need-contents-requires
 contents-requires c κs = search needs
 
 returns-3 : tie.Need-returns-3
 returns-3 c =
-    c .contents .ensures ∙ right-check first (now (c .before .before .before .before .before .args .b)) (c .before .before .before .if1 .left) (was-true (c .before .before .right-check .ensures) (c .before .if2 .left))
+    c .contents .ensures ∙ right-check (now (c .before .before .before .before .before .args .b)) (c .before .before .before .if1 .left) (was-true (c .before .before .right-check .ensures) (c .before .if2 .left))
 
 pub read-block-spec : {M : Type 1} → statement M
 read-block-spec =

@@ -1,44 +1,55 @@
 -- `trace::read::record_in` meets its contract. Assumes nothing.
 use borrow.Author.Needs.{needs}
-use native.Mathlib.Nat.{add-zero}
-use Prim.Native.Nat.{_+_}
+use native.Mathlib.Omega.{arith}
+use Prim.Native.Nat.{ℕ, _+_}
 use lib.ListN.{getD}
 use denote.Ref.{now}
-use mathlib.Core.Path.{ap, _∙_}
-use Rattle.words.specs.BigEndian.{word}
+use mathlib.Core.Path.{_≡_, sym, ap, _∙_}
+use Rattle.format.specs.Forms.{shapeOf}
+use Rattle.numbers.specs.BigEndian.{word}
 use Rattle.trace.specs.Layout.{recordAt}
+use Rattle.trace.proofs.Layouts.{time-four}
 use Rattle.trace.proofs.read.record_in.Statement.{statement}
 use Rattle.trace.proofs.read.record_in.Tie as tie
 
-add-long : tie.Need-add-long
-add-long c = search needs
+time-bytes-requires : tie.Need-time-bytes-requires
+time-bytes-requires c κs = search needs
 
-long-requires : tie.Need-long-requires
-long-requires c κs = search needs
+add-behind : tie.Need-add-behind
+add-behind c = search needs
 
-add-short : tie.Need-add-short
-add-short c = search needs
+read32-requires : tie.Need-read32-requires
+read32-requires c κs = search needs
 
-short-requires : tie.Need-short-requires
-short-requires c κs = search needs
+read16-requires : tie.Need-read16-requires
+read16-requires c κs = search needs
 
-add-t5 : tie.Need-add-t5
-add-t5 c = search needs
+add-t7 : tie.Need-add-t7
+add-t7 c = search needs
 
-shared-slice-read-t7 : tie.Need-shared-slice-read-t7
-shared-slice-read-t7 c = search needs
+shared-slice-read-t10 : tie.Need-shared-slice-read-t10
+shared-slice-read-t10 c = search needs
 
 returns : tie.Need-returns
 unfolding recordAt
 returns c =
-    let a = c .before .before .before .before .args in
+    let a = c .before .before .before .before .before .args in
+    let time = c .before .before .before .time-bytes in
+    let mark : a .at + time .result + 2 ≡ a .at + (shapeOf (a .form) .time + 2) = omega (arith, time .ensures) in
     λ i. record {
-      time = (c .before .before .long .ensures ∙ ap (word 4 (now (a .body))) (add-zero (a .at))) i;
-      number = c .before .short .ensures i;
-      mark = getD (now (a .body)) (a .at + 6) 0;
+      time = (c .before .before .read32 .ensures ∙ ap (λ (k : ℕ). word k (now (a .body)) (a .at)) (sym (time-four (a .form)))) i;
+      number = record { 0 = (c .before .read16 .ensures ∙ ap (λ (k : ℕ). word 2 (now (a .body)) (a .at + k)) (time .ensures)) i };
+      mark = ap (λ (k : ℕ). getD (now (a .body)) k 0) mark i;
     }
 
 pub record-in-spec : {M : Type 1} → statement M
 record-in-spec =
     tie.close
-    (tie.spec add-long long-requires add-short short-requires add-t5 shared-slice-read-t7 returns)
+    (tie.spec
+    time-bytes-requires
+    add-behind
+    read32-requires
+    read16-requires
+    add-t7
+    shared-slice-read-t10
+    returns)

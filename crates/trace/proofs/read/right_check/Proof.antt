@@ -11,12 +11,11 @@ ones-sum-requires c κs = search needs
 returns : tie.Need-returns
 returns c = other-sum (now (c .before .before .before .args .b)) (c .before .ones-sum .ensures) (c .if1 .taken)
 
-short-requires : tie.Need-short-requires
-short-requires c κs = search needs
+read16-requires : tie.Need-read16-requires
+read16-requires c κs = search needs
 
 returns-2 : tie.Need-returns-2
-returns-2 c =
-    same-sum (now (c .before .before .before .before .args .b)) (c .before .before .ones-sum .ensures) (c .before .if1 .left) (c .short .ensures)
+returns-2 c = same-sum (now (c .before .before .before .before .args .b)) (c .before .before .ones-sum .ensures) (c .before .if1 .left) (c .read16 .ensures)
 
 pub right-check-spec : {M : Type 1} → statement M
-right-check-spec = tie.close (tie.spec ones-sum-requires returns short-requires returns-2)
+right-check-spec = tie.close (tie.spec ones-sum-requires returns read16-requires returns-2)

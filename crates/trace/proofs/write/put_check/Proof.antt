@@ -6,7 +6,7 @@ use native.Mathlib.Omega.{arith}
 use lib.ListN.{length, take}
 use denote.Ref.{now}
 use lib.Seq.{sets, length-take-le}
-use Rattle.words.specs.BigEndian.{bytes}
+use Rattle.numbers.specs.BigEndian.{bytes}
 use Rattle.trace.proofs.write.put_check.Statement.{statement}
 use Rattle.trace.proofs.write.put_check.Tie as tie
 

@@ -1,0 +1,48 @@
+-- `capi::sources::flasknib_write_summary` meets its contract. Assumes nothing.
+use borrow.Author.Needs.{needs}
+use native.Mathlib.Omega.{arith}
+use denote.Ref.{now}
+use Rattle.source.specs.declared.Source.{Source}
+use Rattle.report.specs.Reports.{fault, summaryBytes}
+use Rattle.answers.proofs.Stores.{wrote-fits}
+use Rattle.capi.proofs.Answers.{coded}
+use Rattle.capi.proofs.Records.{nine-wrote, other-wrote}
+use Rattle.capi.proofs.sources.flasknib_write_summary.Statement.{statement}
+use Rattle.capi.proofs.sources.flasknib_write_summary.Tie as tie
+
+minus-requires : tie.Need-minus-requires
+minus-requires c κs = search needs
+
+returns : tie.Need-returns
+returns c =
+    let a = c .before .before .before .before .args in
+    coded (search needs) (c .minus .ensures) (other-wrote (now (a .words)) (λ (s : Source). fault s) (λ (s : Source). summaryBytes (a .media) s) (now (a .out)) (c .before .if1 .taken))
+
+load-requires : tie.Need-load-requires
+load-requires c κs = search needs
+
+write-summary-requires : tie.Need-write-summary-requires
+write-summary-requires c κs = search needs
+
+length-requires : tie.Need-length-requires
+length-requires c κs = omega (arith, wrote-fits (c .before .before .write-summary .ensures), c .before .before .before .before .before .before .before .before .good)
+
+same-length : tie.Need-same-length
+same-length c = search needs
+
+returns-2 : tie.Need-returns-2
+returns-2 c =
+    let a = c .before .before .before .before .before .before .before .before .before .args in
+    coded (search needs) (c .length .ensures) (nine-wrote (now (a .words)) (λ (s : Source). fault s) (λ (s : Source). summaryBytes (a .media) s) (now (a .out)) (c .before .before .before .before .before .before .if1 .left) (c .before .before .before .before .before .load .ensures) (c .before .before .before .write-summary .ensures))
+
+pub flasknib-write-summary-spec : {M : Type 1} → statement M
+flasknib-write-summary-spec =
+    tie.close
+    (tie.spec
+    minus-requires
+    returns
+    load-requires
+    write-summary-requires
+    length-requires
+    same-length
+    returns-2)

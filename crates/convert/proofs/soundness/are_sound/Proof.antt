@@ -1,0 +1,27 @@
+-- `convert::soundness::are_sound` meets its contract. Assumes nothing.
+use borrow.Author.Needs.{needs}
+use mathlib.Core.Path.{sym, _∙_}
+use Rattle.answers.proofs.Conditions.{all-false}
+use Rattle.source.proofs.Losses.{lost-refused, lost-packets}
+use Rattle.convert.specs.Runs.{soundTotals}
+use Rattle.convert.proofs.Kept.{totals-last}
+use Rattle.convert.proofs.soundness.are_sound.Statement.{statement}
+use Rattle.convert.proofs.soundness.are_sound.Tie as tie
+
+lost-requires : tie.Need-lost-requires
+lost-requires c κs = search needs
+
+enum-told : tie.Need-enum-told
+enum-told c = search needs
+
+enum-told-2 : tie.Need-enum-told-2
+enum-told-2 c = search needs
+
+returns : tie.Need-returns
+returns c = let t = c .before .before .before .before .args .t in all-false (soundTotals t) 0 (lost-refused (t .source) (sym (c .before .before .lost .ensures) ∙ c .enum-told2 .given .1))
+
+returns-2 : tie.Need-returns-2
+returns-2 c = let t = c .before .before .before .before .before .args .t in totals-last t (lost-packets (t .source) (sym (c .before .before .before .lost .ensures) ∙ c .before .enum-told .given .1) .good)
+
+pub are-sound-spec : {M : Type 1} → statement M
+are-sound-spec = tie.close (tie.spec lost-requires enum-told enum-told-2 returns returns-2)

@@ -1,0 +1,5 @@
+-- The laws that other crates cite.
+pub mod BigEndian
+pub mod Integers
+pub mod Differences
+pub mod Signed

@@ -1,0 +1,26 @@
+-- `source::Totals::with_block` meets its contract. Assumes nothing.
+use borrow.Author.Needs.{needs}
+use mathlib.Core.Path.{sym, ap, _∙_}
+use Rattle.source.specs.Totals.{withBlock}
+use Rattle.source.proofs.Totals.with_block.Statement.{statement}
+use Rattle.source.proofs.Totals.with_block.Tie as tie
+
+enum-told : tie.Need-enum-told
+enum-told c = search needs
+
+enum-known-count : tie.Need-enum-known-count
+enum-known-count c = search needs
+
+raised-requires : tie.Need-raised-requires
+raised-requires c κs = search needs
+
+returns : tie.Need-returns
+returns c = search needs
+
+returns-2 : tie.Need-returns-2
+returns-2 c =
+    let is = c .before .before .count .given in
+    (λ i. record { source = is .0 .0; jumped = c .raised .ensures i }) ∙ sym (ap (withBlock (c .before .before .before .before .args .self)) (is .1))
+
+pub with-block-spec : {M : Type 1} → statement M
+with-block-spec = tie.close (tie.spec enum-told enum-known-count raised-requires returns returns-2)

@@ -1,0 +1,210 @@
+"""run.py ECNTABLE FAULTS.so FOLDER: ecntable where a read or a write fails, is interrupted, is not ready or moves few bytes.
+
+A trace of 400 arrivals blocks. Where the calls can be made again the table is that of an undisturbed run and standard error is empty. Where a
+read fails, the rows of the whole blocks before it are followed by `refused 1 block I`; where a write fails, standard output is the table cut
+off. Both say so in one line on standard error. Each check that does not hold is printed; the last line says how many runs there were.
+"""
+import errno
+import os
+import pathlib
+import resource
+import signal
+import struct
+import subprocess
+import sys
+import threading
+import time
+
+BLOCK, PIECE, BLOCKS, RECORDS, SSRC = 512, 65536, 401, 62, 7
+LABEL = b"ward 3, bed 12: " + b"x" * 300
+USAGE = b"usage: ecntable <TRACE >TABLE\n"
+
+
+def block(kind, count, body):
+    """A block of document 01: kind, count, SSRC, body, and the word that makes the ones' complement sum 65,535."""
+    data = struct.pack(">HHI", kind, count, SSRC) + body.ljust(502, b"\0")
+    total = sum(struct.unpack(">255H", data))
+    while total > 0xFFFF:
+        total = (total & 0xFFFF) + (total >> 16)
+    return data + struct.pack(">H", 0xFFFF - total)
+
+
+def trace():
+    blocks = [block(1, len(LABEL), LABEL)]
+    for i in range(BLOCKS - 1):
+        numbers = range(i * RECORDS, (i + 1) * RECORDS)
+        blocks.append(block(2, RECORDS, b"".join(struct.pack(">IHBB", 20 * n, n % 65536, n % 4, 0) for n in numbers)))
+    return b"".join(blocks)
+
+
+class Tried:
+    """The runs of a program on the trace, and the checks that did not hold."""
+
+    def __init__(self, program, library, folder):
+        self.program, self.library = program, library
+        self.path, self.out = pathlib.Path(folder, "faults.trace"), pathlib.Path(folder, "faults.out")
+        self.path.write_bytes(trace())
+        self.runs, self.wrong = 0, []
+        self.table, told = self.run("undisturbed")
+        self.rows = self.table.splitlines(keepends=True)
+        if len(self.rows) != BLOCKS or b"refused" in self.rows[-1] or told:
+            self.wrong.append(f"undisturbed: {len(self.rows)} lines, {told!r}")
+
+    def run(self, name, faults="", words=(), **kept):
+        """Standard output and error of a run; a file as standard input and a pipe as output unless the caller says otherwise."""
+        self.runs += 1
+        environment = dict(os.environ, LC_ALL="C", LD_PRELOAD=os.path.abspath(self.library), FAULTS=faults)
+        with open(self.path, "rb") as opened:
+            options = dict(dict(stdin=opened, stdout=subprocess.PIPE, stderr=subprocess.PIPE), **kept)
+            with subprocess.Popen([self.program, *words], env=environment, **options) as child:
+                try:
+                    out, told = child.communicate(timeout=30)
+                except subprocess.TimeoutExpired:
+                    child.kill()
+                    self.wrong.append(f"{name}: it does not end")
+                    return b"", b""
+            if words and opened.tell() != 0:
+                self.wrong.append(f"{name}: {opened.tell()} bytes were read")
+        if child.returncode != 0:
+            self.wrong.append(f"{name}: ends with status {child.returncode}")
+        return out, told
+
+    def hold(self, name, out, told, table, line):
+        if out != table:
+            self.wrong.append(f"{name}: {out.count(b'%c' % 10)} lines and {len(out)} bytes in place of {table.count(b'%c' % 10)} and {len(table)}")
+        if told != line:
+            self.wrong.append(f"{name}: on standard error {told!r} in place of {line!r}")
+
+    def same(self, name, faults="", **kept):
+        self.hold(name, *self.run(name, faults, **kept), self.table, b"")
+
+    def read_fails(self, name, whole, error, faults="", **kept):
+        """A read fails behind so many whole blocks."""
+        rows = b"".join(self.rows[: max(whole, 1)]) + b"refused 1 block %d\r\n" % whole
+        self.hold(name, *self.run(name, faults, **kept), rows, told("reading standard input", error))
+
+    def write_fails(self, name, size, error, faults="", **kept):
+        """A write fails behind so many bytes of the table."""
+        out, line = self.run(name, faults, **kept)
+        self.hold(name, self.table[:size] if out is None else out, line, self.table[:size], told("writing standard output", error))
+
+
+def told(what, error):
+    return f"ecntable: {what}: {os.strerror(error)}\n".encode()
+
+
+def injected_reads(tried):
+    for again in (errno.EINTR, errno.EAGAIN):
+        for call in (1, 2, 3, 5):
+            tried.same(f"read {call} gives errno {again} five times", f"read fail {call} {again} 5")
+    for call in (1, 3):
+        tried.same(f"from read {call} on nothing is there for 0.3 s", f"read wait {call} {errno.EAGAIN} 300")
+    for size in (1, 511, 700):
+        tried.same(f"each read brings at most {size} bytes", f"read short 1 0 {size}")
+    tried.same("short reads, interrupted and not ready", f"read short 1 0 700; read fail 9 {errno.EINTR} 3; read wait 30 {errno.EAGAIN} 50")
+    for call, whole in ((1, 0), (2, 1), (3, 129), (4, 257), (5, 385), (6, 401)):
+        for error in (errno.EIO, errno.EISDIR):
+            tried.read_fails(f"read {call} fails with errno {error}", whole, error, f"read fail {call} {error} 1")
+    tried.read_fails("read 20 of 700 bytes fails", (BLOCK + 18 * 700) // BLOCK, errno.EIO, f"read short 1 0 700; read fail 20 {errno.EIO} 1")
+    tried.read_fails("interrupted, and then it fails", 129, errno.EIO, f"read fail 3 {errno.EINTR} 2; read fail 5 {errno.EIO} 1")
+
+
+def injected_writes(tried):
+    for again in (errno.EINTR, errno.EAGAIN):
+        for call in (1, 2):
+            tried.same(f"write {call} gives errno {again} five times", f"write fail {call} {again} 5")
+    tried.same("write 2 is not taken for 0.3 s", f"write wait 2 {errno.EAGAIN} 300")
+    for size in (1, 700):
+        tried.same(f"each write takes at most {size} bytes", f"write short 1 0 {size}")
+    for error in (errno.ENOSPC, errno.EIO):
+        tried.write_fails(f"write 1 fails with errno {error}", 0, error, f"write fail 1 {error} 1")
+        tried.write_fails(f"a write fails with errno {error} behind 1,000 bytes", 1000, error, f"write cut 1 {error} 1000")
+    out, line = tried.run("no write takes anything", "write zero 2 0 0")
+    if not tried.table.startswith(out) or line.count(b"\n") != 1 or not line.startswith(b"ecntable: writing standard output: "):
+        tried.wrong.append(f"no write takes anything: {len(out)} bytes, on standard error {line!r}")
+
+
+def limited():
+    """The size of a file is limited to 100,000 bytes, and the signal that says so is ignored."""
+    signal.signal(signal.SIGXFSZ, signal.SIG_IGN)
+    resource.setrlimit(resource.RLIMIT_FSIZE, (100_000, 100_000))
+
+
+def real_files(tried):
+    folder = os.open("/", os.O_RDONLY)
+    tried.read_fails("a folder is read", 0, errno.EISDIR, stdin=folder)
+    os.close(folder)
+    tried.read_fails("standard input is closed", 0, errno.EBADF, preexec_fn=lambda: os.close(0))
+    with open("/dev/full", "wb") as full:
+        tried.write_fails("the disk is full", 0, errno.ENOSPC, stdout=full)
+    with open(tried.out, "wb") as out:
+        tried.write_fails("the file grows too large", 100_000, errno.EFBIG, stdout=out, preexec_fn=limited)
+    if tried.out.read_bytes() != tried.table[:100_000]:
+        tried.wrong.append(f"the file grows too large: {tried.out.stat().st_size} bytes that are not the table's")
+    reading, writing = os.pipe()
+    os.close(reading)
+    tried.write_fails("nobody reads", 0, errno.EPIPE, stdout=writing, preexec_fn=lambda: signal.signal(signal.SIGPIPE, signal.SIG_IGN))
+    os.close(writing)
+    tried.write_fails("standard output is closed", 0, errno.EBADF, preexec_fn=lambda: os.close(1))
+    with open("/dev/full", "wb") as full:
+        out, _ = tried.run("both outputs are full", stdout=full, stderr=full)
+
+
+def real_pipes(tried):
+    """Pipes that do not block, and have nothing to read or no room for 0.3 s."""
+    reading, writing = os.pipe()
+    os.set_blocking(reading, False)
+
+    def feed():
+        whole = tried.path.read_bytes()
+        try:
+            with open(writing, "wb", buffering=0) as pipe:
+                for piece in (whole[:70_000], whole[70_000:]):
+                    time.sleep(0.3)
+                    pipe.write(piece)
+        except BrokenPipeError:
+            pass  # a run that ends too early is told from its table
+
+    feeder = threading.Thread(target=feed)
+    feeder.start()
+    tried.same("a pipe is empty for 0.3 s", stdin=reading)
+    os.close(reading)
+    feeder.join()
+
+    reading, writing = os.pipe()
+    os.set_blocking(writing, False)
+    drained = []
+
+    def drain():
+        time.sleep(0.3)
+        with open(reading, "rb") as pipe:
+            drained.append(pipe.read())
+
+    drainer = threading.Thread(target=drain)
+    drainer.start()
+    _, line = tried.run("a pipe is full for 0.3 s", stdout=writing)
+    os.close(writing)
+    drainer.join()
+    tried.hold("a pipe is full for 0.3 s", drained[0], line, tried.table, b"")
+
+
+def arguments(tried):
+    for words in (["x"], [""], ["--help"], ["a", "b"], [str(tried.path)]):
+        name = f"started with {words}"
+        tried.hold(name, *tried.run(name, words=words), b"", USAGE)
+
+
+def main(program, library, folder):
+    tried = Tried(program, library, folder)
+    for part in (injected_reads, injected_writes, real_files, real_pipes, arguments):
+        part(tried)
+    for line in tried.wrong:
+        print("faults: FAILED,", line)
+    if tried.wrong:
+        return 1
+    print(f"faults: {tried.runs} runs with calls that fail, are interrupted, are not ready or move few bytes: no cut of a table is unseen")
+    return 0
+
+
+if __name__ == "__main__":
+    sys.exit(main(*sys.argv[1:]))
