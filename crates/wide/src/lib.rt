@@ -1,8 +1,11 @@
-// Exact products of two 64-bit numbers, in two words, and their order.
+// Exact products of two 64-bit numbers, in two words, and their order. docs/BREAKER.md does the same on paper, under these names.
 ghost use mathlib.Core.Path.{_≡_};
 ghost use Prim.Native.Nat.{_*_};
 ghost use lib.Dec.{ltb};
-ghost use Rattle.wide.specs.Products.{value, wideOf, halvesOf};
+ghost use Rattle.wide.specs.Products.{value, wideOf, halfProductsOf};
+
+// 2^32. The upper half of a 64-bit number x is x / HALF, the lower half x % HALF.
+const HALF: u64 = 0x1_0000_0000;
 
 // A number of up to 128 bits: high · 2^64 + low.
 pub struct Wide {
@@ -10,25 +13,25 @@ pub struct Wide {
     pub low: u64,
 }
 
-// The products of the 32-bit halves of two numbers a and b, in the order of multiplication on paper. The first letter is the half of a,
-// the second the half of b: h the upper one, l the lower one.
-pub struct Halves {
+// The products of the halves of two numbers a and b, in the order used on paper: both halves of a by the lower half of b, then both by the
+// upper one. The first letter is the half of a, the second the half of b: l the lower one, h the upper one.
+pub struct HalfProducts {
     pub ll: u64,
     pub hl: u64,
     pub lh: u64,
     pub hh: u64,
 }
 
-impl Halves {
+impl HalfProducts {
     // The four half-products of a and b.
     pub fn of(a: u64, b: u64) -> Self
-        ensures { λ r. ⌜ r ≡ halvesOf a b ⌝ }
+        ensures { λ r. ⌜ r ≡ halfProductsOf a b ⌝ }
     {
-        let ah = a / 4294967296;
-        let al = a % 4294967296;
-        let bh = b / 4294967296;
-        let bl = b % 4294967296;
-        Halves {
+        let ah = a / HALF;
+        let al = a % HALF;
+        let bh = b / HALF;
+        let bl = b % HALF;
+        HalfProducts {
             ll: al * bl,
             hl: ah * bl,
             lh: al * bh,
@@ -38,16 +41,19 @@ impl Halves {
 }
 
 impl Wide {
-    // The whole product of a and b: the half-products added column by column, from the right, each with the carry of the one before.
+    // The whole product of a and b: each half-product at its place, ll at 0, hl and lh at 1, hh at 2, and the columns added up from the
+    // right. Of ll, hl and lh the upper half stands one column further left. Column 2 is the last and takes hh whole.
     pub fn product(a: u64, b: u64) -> Self
         ensures { λ r. ⌜ r ≡ wideOf (a * b) ⌝ }
     {
-        let h = Halves::of(a, b);
-        let first = h.hl + h.ll / 4294967296;
-        let second = h.lh + first % 4294967296;
+        let h = HalfProducts::of(a, b);
+        let column0 = h.ll % HALF;
+        let column1 = h.ll / HALF + h.hl % HALF + h.lh % HALF;
+        let carry = column1 / HALF;
+        let column2 = h.hl / HALF + h.lh / HALF + h.hh + carry;
         Wide {
-            high: h.hh + first / 4294967296 + second / 4294967296,
-            low: second % 4294967296 * 4294967296 + h.ll % 4294967296,
+            high: column2,
+            low: column1 % HALF * HALF + column0,
         }
     }
 

@@ -1,39 +1,47 @@
--- `wide::Wide::product` meets its contract: no column overflows. Assumes nothing.
+-- `wide::Wide::product` meets its contract: no column overflows, and the columns give the two words. Assumes nothing.
 use borrow.Author.Needs.{needs}
-use native.Mathlib.Nat.{lt-of-le-of-lt, le-add-right}
-use Rattle.wide.proofs.Columns.{Columns, columns-of}
+use Prim.Native.Nat.{_<_, _^_}
+use native.Mathlib.Omega.{arith}
+use Rattle.wide.specs.Products.{column2}
+use Rattle.wide.proofs.Columns.{words-are, column2-fits}
 use Rattle.wide.proofs.Wide.product.Statement.{statement}
 use Rattle.wide.proofs.Wide.product.Tie as tie
 
-known : (c : tie.After-of) → Columns (c .before .args .a) (c .before .args .b) (c .of .result)
-known c = columns-of (c .before .args .a) (c .before .args .b) (c .before .fits .a .fits) (c .before .fits .b .fits) (c .of .result) (c .of .ensures)
+-- column 2 fits a word, and with it what it is added up from
+column2-fits-word : (c : tie.After-of) → column2 (c .of .result) < 2 ^ 64
+column2-fits-word c =
+    column2-fits (c .before .args .a) (c .before .args .b) (c .before .fits .a .fits) (c .before .fits .b .fits) (c .of .ensures)
 
 of-requires : tie.Need-of-requires
 of-requires c κs = search needs
 
-add-first : tie.Need-add-first
-add-first c = record { fits = known (c .before .before) .first-fits }
+add-column1 : tie.Need-add-column1
+add-column1 c = search needs
 
-add-second : tie.Need-add-second
-add-second c = record { fits = known (c .before .before .before) .second-fits }
+add-column1-2 : tie.Need-add-column1-2
+add-column1-2 c = search needs
 
-add-t7 : tie.Need-add-t7
-add-t7 c = record { fits = lt-of-le-of-lt (le-add-right _ _) (known (c .before .before .before .before) .upper-fits) }
+add-column2 : tie.Need-add-column2
+add-column2 c = search needs
 
-add-t9 : tie.Need-add-t9
-add-t9 c = record { fits = known (c .before .before .before .before) .upper-fits }
+add-column2-2 : tie.Need-add-column2-2
+add-column2-2 c = omega (arith, column2-fits-word (c .before .before .before .before .before .before .before))
 
-mul-t11 : tie.Need-mul-t11
-mul-t11 c = search needs
+add-column2-3 : tie.Need-add-column2-3
+add-column2-3 c = omega (arith, column2-fits-word (c .before .before .before .before .before .before .before))
 
-add-t13 : tie.Need-add-t13
-add-t13 c = search needs
+mul-t9 : tie.Need-mul-t9
+mul-t9 c = search needs
+
+add-t10 : tie.Need-add-t10
+add-t10 c = search needs
 
 returns : tie.Need-returns
 returns c =
-    let k = known (c .before .before .before .before .before) in
-    λ i. record { high = k .upper-is i; low = k .lower-is i }
+    let start = c .before .before .before .before .before .before .before .before in
+    words-are (start .args .a) (start .args .b) (c .before .before .before .before .before .before .before .of .ensures)
 
 pub product-spec : {M : Type 1} → statement M
 product-spec =
-    tie.close (tie.spec of-requires add-first add-second add-t7 add-t9 mul-t11 add-t13 returns)
+    tie.close
+    (tie.spec of-requires add-column1 add-column1-2 add-column2 add-column2-2 add-column2-3 mul-t9 add-t10 returns)

@@ -1,9 +1,9 @@
--- `wide::Halves::of` meets its contract: each half-product fits. Assumes nothing.
+-- `wide::HalfProducts::of` meets its contract: each half-product fits. Assumes nothing.
 use borrow.Author.Needs.{needs}
 use native.Mathlib.Omega.{arith}
 use Rattle.wide.proofs.Columns.{half-fits}
-use Rattle.wide.proofs.Halves.of.Statement.{statement}
-use Rattle.wide.proofs.Halves.of.Tie as tie
+use Rattle.wide.proofs.HalfProducts.of.Statement.{statement}
+use Rattle.wide.proofs.HalfProducts.of.Tie as tie
 
 mul-t7 : tie.Need-mul-t7
 mul-t7 c = half-fits (omega arith) (omega arith)
