@@ -5,6 +5,7 @@ use answers::Written;
 use convert::Begin;
 use convert::Run;
 use convert::Step;
+use format::block::BLOCK;
 use libc::STDOUT_FILENO;
 use shell::failures::has_arguments;
 use shell::printing::Output;
@@ -46,7 +47,7 @@ fn take_block(
     p: Progress,
     rest: Input,
     name: &[u8],
-    first: &[u8],
+    zeroth: &[u8],
     block: &[u8],
     lines: &mut [u8],
 ) -> Progress {
@@ -54,7 +55,7 @@ fn take_block(
     let kept = p.out;
     let out = kept.with_room(ROOM, name, lines);
     let used = out.used;
-    match run.block(first, block, &mut lines[used..]) {
+    match run.block(zeroth, block, &mut lines[used..]) {
         Step::Taken(next, n) => Progress {
             run: next,
             block: number_after(p.block),
@@ -70,7 +71,7 @@ fn take_block(
 fn take_next(
     p: Progress,
     name: &[u8],
-    first: &[u8],
+    zeroth: &[u8],
     pieces: &mut [u8],
     lines: &mut [u8],
 ) -> Progress {
@@ -81,7 +82,7 @@ fn take_next(
             p,
             rest,
             name,
-            first,
+            zeroth,
             &pieces[from..to],
             lines,
         ),
@@ -97,7 +98,7 @@ fn take_next(
 fn take_rest(
     start: Progress,
     name: &[u8],
-    first: &[u8],
+    zeroth: &[u8],
     pieces: &mut [u8],
     lines: &mut [u8],
 ) -> Output {
@@ -107,7 +108,7 @@ fn take_rest(
         if !p.going {
             return p.out;
         }
-        p = take_next(p, name, first, pieces, lines);
+        p = take_next(p, name, zeroth, pieces, lines);
         turns -= 1;
     }
     p.out
@@ -117,14 +118,14 @@ fn take_rest(
 fn take_all(
     out: Output,
     name: &[u8],
-    first: &mut [u8],
+    zeroth: &mut [u8],
     pieces: &mut [u8],
     lines: &mut [u8],
 ) -> Output {
-    let Next::Block { from, to, rest } = Input::begin(name, first) else {
+    let Next::Block { from, to, rest } = Input::begin(name, zeroth) else {
         return out.with_refused(Refusal::Incomplete, 0, name, lines);
     };
-    match Run::start(&first[from..to]) {
+    match Run::start(&zeroth[from..to]) {
         Begin::Started(run) => {
             let start = Progress {
                 run,
@@ -133,27 +134,27 @@ fn take_all(
                 out,
                 going: true,
             };
-            take_rest(start, name, first, pieces, lines)
+            take_rest(start, name, zeroth, pieces, lines)
         }
         Begin::Refused(refusal) => out.with_refused(refusal, 0, name, lines),
     }
 }
 
 // Prints the head line and the rows.
-fn convert_all(name: &[u8], first: &mut [u8], pieces: &mut [u8], lines: &mut [u8]) {
+fn convert_all(name: &[u8], zeroth: &mut [u8], pieces: &mut [u8], lines: &mut [u8]) {
     let Written::Length(n) = write_head(lines) else {
         return;
     };
     let head = Output::new(STDOUT_FILENO).with_kept(n, lines);
-    take_all(head, name, first, pieces, lines).flushed(name, lines);
+    take_all(head, name, zeroth, pieces, lines).flushed(name, lines);
 }
 
 fn main() {
     if has_arguments(b"usage: ecntable <TRACE >TABLE\n") {
         return;
     }
-    let mut first = [0u8; 512];
+    let mut zeroth = [0u8; BLOCK];
     let mut pieces = io::large_buffer();
     let mut lines = io::large_buffer();
-    convert_all(b"ecntable", &mut first, &mut pieces, &mut lines);
+    convert_all(b"ecntable", &mut zeroth, &mut pieces, &mut lines);
 }

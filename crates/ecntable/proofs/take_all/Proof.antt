@@ -9,11 +9,11 @@ use Rattle.ecntable.proofs.take_all.Statement.{statement}
 use Rattle.ecntable.proofs.take_all.Tie as tie
 
 -- the block lies within the buffer
-lies : (c : tie.After-known-told) → (c .before .from .given .0 .0 < c .before .from .given .0 .1 .0) × (c .before .from .given .0 .1 .0 ≤ c .before .from .given .0 .0 + 512) × (c .before .from .given .0 .1 .0 ≤ length (now (c .before .before .before .before .before .before .before .before .before .before .before .args .first)))
+lies : (c : tie.After-known-told) → (c .before .from .given .0 .0 < c .before .from .given .0 .1 .0) × (c .before .from .given .0 .1 .0 ≤ c .before .from .given .0 .0 + 512) × (c .before .from .given .0 .1 .0 ≤ length (now (c .before .before .before .before .before .before .before .before .before .before .before .args .zeroth)))
 lies c =
     let is = c .before .from .given in
     let given = c .before .before .before .before .before .begin in
-    block-within (length (now (c .before .before .before .before .before .before .before .before .before .before .before .args .first))) (given .result) (is .0 .0) (is .0 .1 .0) (is .0 .1 .1 .0) (is .1) (given .ensures)
+    block-within (length (now (c .before .before .before .before .before .before .before .before .before .before .before .args .zeroth))) (given .result) (is .0 .0) (is .0 .1 .0) (is .0 .1 .1 .0) (is .1) (given .ensures)
 
 begin-requires : tie.Need-begin-requires
 begin-requires c κs = search needs

@@ -6,10 +6,10 @@ use Rattle.ecntable.proofs.take_rest.Statement.{statement}
 use Rattle.ecntable.proofs.take_rest.Tie as tie
 
 abbrev Inv-loop : tie.InvT-loop
-Inv-loop name first pieces₀ lines₀ p₀ turns₀ pieces lines p turns = (length pieces ≡ length pieces₀) × (length lines ≡ length lines₀)
+Inv-loop name zeroth pieces₀ lines₀ p₀ turns₀ pieces lines p turns = (length pieces ≡ length pieces₀) × (length lines ≡ length lines₀)
 
 abbrev μ-loop : tie.MeasureT-loop
-μ-loop name first pieces₀ lines₀ p₀ turns₀ pieces lines p turns = turns
+μ-loop name zeroth pieces₀ lines₀ p₀ turns₀ pieces lines p turns = turns
 
 loop-holds : tie.Need-loop-holds Inv-loop μ-loop
 loop-holds c = search needs
