@@ -63,8 +63,8 @@ uint8_t flasknib_read_compound(const uint8_t *bytes, size_t length, uint32_t med
 /* ---- the circuit breaker ---------------------------------------------------------------------------------------------------------
  * 75 words: k, m, timeout (ms), whether reductions are allowed; state (0 running, else the reason of the stop); time of the last report or
  * start, whether there was a report, its highest number, media run, whether a trial is under way, intervals in the window; then 32
- * intervals, newest first, of length (ms) and fraction lost each. Other values of a yes-or-no word than 0 and 1, and another state than 0
- * to 3, are malformed (9).
+ * intervals, newest first, of length (ms) and fraction lost each. Other values of a yes-or-no word than 0 and 1, another state than 0 to 3,
+ * and a highest number of 2^32 or more are malformed (9).
  */
 #define FLASKNIB_BREAKER_WORDS 75
 

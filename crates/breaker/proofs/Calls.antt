@@ -1,11 +1,10 @@
--- What every call does to a record, whatever its answer: a sound one stays sound, and a stop is stored. Assumes nothing.
-use mathlib.Core.Path.{_≡_, refl, _∙_, ap}
+-- What every call does to a record: a sound one stays sound, one that fits its types does so again, a stop is stored, a refusal changes nothing.
+-- Assumes nothing.
+use mathlib.Core.Path.{_≡_, refl}
 use mathlib.Core.Bool.{Bool, true, false, not, _&&_}
 use Prim.Native.Nat.{ℕ, _-_, _<_}
-use native.Mathlib.Omega.{arith}
-use borrow.Author.Tests.{leb-false, not-false}
+use borrow.Author.Tests.{leb-false, ltb-true, not-false}
 use lib.Dec.{leb, ltb, eqb}
-use Rattle.answers.specs.declared.Refusal.{Refusal}
 use Rattle.answers.specs.declared.Refusal.the-variants.{Malformed, Limits, Time}
 use Rattle.breaker.specs.declared.Reason.{Reason}
 use Rattle.breaker.specs.declared.Reason.the-variants.{Timeout, Media, Congestion}
@@ -21,9 +20,11 @@ use Rattle.breaker.specs.Answers.{answers, stops}
 use Rattle.breaker.specs.Limits.{timeOk, reportOk}
 use Rattle.breaker.specs.Windows.{emptyWindow}
 use Rattle.breaker.specs.Soundness.{sound}
-use Rattle.breaker.specs.Rules.{stored, late, runAfter, windowAfter, holds, tested, ruled, rules}
-use Rattle.breaker.specs.Private.{Accepted, InTime}
+use Rattle.breaker.specs.Rules.{stored, late, runAfter, windowAfter, holds, ruled}
+use Rattle.breaker.specs.Private.{Accepted}
 use Rattle.breaker.specs.Calls.{unlessStopped, reportOf, tickOf}
+use Rattle.breaker.specs.Runs.{Call, report, tick}
+use Rattle.breaker.specs.Theorems.{Typed, numberFits}
 use Rattle.breaker.proofs.Chains.{by-test}
 use Rattle.breaker.proofs.Facts.{settings-of, m-low}
 use Rattle.breaker.proofs.Kept.{Whole, Fit, empty-fit, same-fit, after-fit, stored-sound, stop-sound}
@@ -38,94 +39,86 @@ pub record Halted (b : Breaker) (reason : Reason) : Type 0 where
   pub isSound : sound b ≡ true
   pub stopped : b .state ≡ Stopped reason
 
--- the answer is no stop
-abbrev NoStop : Answer → Type 0
-NoStop a = (reason : Reason) → a ≡ Stop reason → ⊥
-
-go-no-stop : NoStop Go
-go-no-stop reason e = let z : _≡_ {A = ℕ} 0 1 = cc in omega arith
-
-reduce-no-stop : NoStop Reduce
-reduce-no-stop reason e = let z : _≡_ {A = ℕ} 0 1 = cc in omega arith
-
-refused-no-stop : (refusal : Refusal) → NoStop (Refused refusal)
-refused-no-stop refusal reason e = let z : _≡_ {A = ℕ} 0 1 = cc in omega arith
-
 module _ (b : Breaker) where
-  -- what a step may be
-  pub record Fine (s : Step) : Type 0 where
+  -- what an answer says of the record beside it
+  abbrev pub Beside : Answer → Breaker → Type 0
+  Beside Go next = Unit {0}
+  Beside Reduce next = Unit {0}
+  Beside (Stop reason) next = Halted next reason
+  Beside (Refused refusal) next = next ≡ b
+
+  -- what the step of a call may be
+  pub record Fine (c : Call) (s : Step) : Type 0 where
     pub kept : Held b → Held (s .breaker)
-    pub stop : (reason : Reason) → s .answer ≡ Stop reason → Halted (s .breaker) reason
+    pub typed : numberFits c ≡ true → Typed b → Typed (s .breaker)
+    pub beside : Beside (s .answer) (s .breaker)
 
   -- ---- the ends of a chain
 
-  same-fine : (a : Answer) → NoStop a → Fine (answers a b)
-  same-fine a n = record { kept = λ h. h; stop = λ reason e. absurd (n reason e) }
+  same-fine : {c : Call} (a : Answer) → Beside a b → Fine c (answers a b)
+  same-fine a d = record { kept = λ h. h; typed = λ _ t. t; beside = d }
 
-  stop-fine : (reason : Reason) → sound b ≡ true → Fine (stops reason b)
+  stop-fine : {c : Call} (reason : Reason) → sound b ≡ true → Fine c (stops reason b)
   stop-fine reason h =
       record {
         kept = λ k. record { isSound = stop-sound b reason h; places = k .places };
-        stop = λ other e. record { isSound = stop-sound b reason h; stopped = cc };
+        typed = λ _ t. record { number = t .number; places = t .places };
+        beside = record { isSound = stop-sound b reason h; stopped = refl };
       }
 
-  stored-fine : (a : Answer) → NoStop a → (r : Report) (run : ℕ) (trial : Bool) (w : Window) → sound b ≡ true → reportOk r ≡ true → run < b .settings .m
-      → (Whole (b .window) → Fit (b .settings .k) w) → Fine (answers a (stored b r run trial w))
-  stored-fine a n r run trial w h limits below fit =
+  stored-fine : (a : Answer) → ((next : Breaker) → Beside a next) → (r : Report) (run : ℕ) (trial : Bool) (w : Window) → sound b ≡ true → reportOk r ≡ true
+      → run < b .settings .m → (Whole (b .window) → Fit (b .settings .k) w) → Fine (report r) (answers a (stored b r run trial w))
+  stored-fine a d r run trial w h limits below fit =
       record {
         kept = λ k. record { isSound = stored-sound b r run trial w h limits below (fit (k .places)); places = fit (k .places) .places };
-        stop = λ reason e. absurd (n reason e);
+        typed = λ n t. record { number = ltb-true _ _ n; places = fit (t .places) .places };
+        beside = d _;
       }
 
   -- ---- a chain, test by test
 
-  by-state : (s : State) (x : Step) → b .state ≡ s → sound b ≡ true → (s ≡ Running → Fine x) → Fine (unlessStopped s b x)
+  by-state : {c : Call} (s : State) (x : Step) → b .state ≡ s → sound b ≡ true → (s ≡ Running → Fine c x) → Fine c (unlessStopped s b x)
   by-state Running x e h f = f refl
   by-state (Stopped reason) x e h f =
-      record { kept = λ k. k; stop = λ other q. record { isSound = h; stopped = e ∙ ap Stopped (cc) } }
+      record { kept = λ k. k; typed = λ _ t. t; beside = record { isSound = h; stopped = e } }
 
   -- ---- the calls
 
-  pub tick-fine : (time : ℕ) → Fine (tickOf b time)
+  pub tick-fine : (time : ℕ) → Fine (tick time) (tickOf b time)
   unfolding tickOf
   tick-fine time =
-      by-test Fine (not (sound b)) _ _ (λ _. same-fine (Refused Malformed) (refused-no-stop Malformed))
+      by-test (Fine (tick time)) (not (sound b)) _ _ (λ _. same-fine (Refused Malformed) refl)
       (λ q. let h = not-false (sound b) q in
       by-state (b .state) _ refl h
-      (λ _. by-test Fine (not (timeOk time)) _ _ (λ _. same-fine (Refused Limits) (refused-no-stop Limits))
-      (λ _. by-test Fine (ltb time (b .last)) _ _ (λ _. same-fine (Refused Time) (refused-no-stop Time))
-      (λ _. by-test Fine (late b time) _ _ (λ _. stop-fine Timeout h) (λ _. same-fine Go go-no-stop)))))
+      (λ _. by-test (Fine (tick time)) (not (timeOk time)) _ _ (λ _. same-fine (Refused Limits) refl)
+      (λ _. by-test (Fine (tick time)) (ltb time (b .last)) _ _ (λ _. same-fine (Refused Time) refl)
+      (λ _. by-test (Fine (tick time)) (late b time) _ _ (λ _. stop-fine Timeout h) (λ _. same-fine Go tt)))))
 
-  tested-fine : (r : Report) (run : ℕ) → InTime b r → run < b .settings .m → Fine (tested b r run (windowAfter b r))
-  unfolding tested
-  tested-fine r run t m =
-      let h = t .accepted .isSound in
-      let limits = t .accepted .inLimits in
-      let k = b .settings .k in
-      let w = windowAfter b r in
-      by-test Fine (ltb (w .used) k) _ _ (λ _. stored-fine Go go-no-stop r run (b .trial) w h limits m (after-fit b r t))
-      (λ _. by-test Fine (not (holds k w r)) _ _ (λ _. stored-fine Go go-no-stop r run false w h limits m (after-fit b r t))
-      (λ _. by-test Fine (b .settings .reduce && not (b .trial)) _ _ (λ _. stored-fine Reduce reduce-no-stop r run true emptyWindow h limits m (λ _. empty-fit k))
-      (λ _. stop-fine Congestion h)))
-
-  ruled-fine : (r : Report) → Accepted b r → Fine (ruled b r)
-  unfolding ruled rules
+  ruled-fine : (r : Report) → Accepted b r → Fine (report r) (ruled b r)
+  unfolding ruled
   ruled-fine r a =
       let h = a .isSound in
       let limits = a .inLimits in
+      let k = b .settings .k in
       let run = runAfter b r in
-      by-test Fine (eqb (r .rate) 0) _ _ (λ _. stored-fine Go go-no-stop r 0 (b .trial) emptyWindow h limits (m-low (b .settings) (settings-of b h)) (λ _. empty-fit (b .settings .k)))
-      (λ _. by-test Fine (late b (r .time)) _ _ (λ _. stop-fine Timeout h)
-      (λ t. by-test Fine (leb (b .settings .m) run) _ _ (λ _. stop-fine Media h)
-      (λ m. by-test Fine (not (b .reported)) _ _ (λ _. stored-fine Go go-no-stop r run (b .trial) (b .window) h limits (leb-false _ _ m) (same-fit b h))
-      (λ _. tested-fine r run (record { accepted = a; inTime = leb-false _ _ t }) (leb-false _ _ m)))))
+      let w = windowAfter b r in
+      by-test (Fine (report r)) (eqb (r .rate) 0) _ _ (λ _. stored-fine Go (λ _. tt) r 0 (b .trial) emptyWindow h limits (m-low (b .settings) (settings-of b h)) (λ _. empty-fit k))
+      (λ _. by-test (Fine (report r)) (late b (r .time)) _ _ (λ _. stop-fine Timeout h)
+      (λ t. by-test (Fine (report r)) (leb (b .settings .m) run) _ _ (λ _. stop-fine Media h)
+      (λ m. let below = leb-false _ _ m in
+      by-test (Fine (report r)) (not (b .reported)) _ _ (λ _. stored-fine Go (λ _. tt) r run (b .trial) (b .window) h limits below (same-fit b h))
+      (λ _. let fit = after-fit b r (record { accepted = a; inTime = leb-false _ _ t }) in
+      by-test (Fine (report r)) (ltb (w .used) k) _ _ (λ _. stored-fine Go (λ _. tt) r run (b .trial) w h limits below fit)
+      (λ _. by-test (Fine (report r)) (not (holds b r)) _ _ (λ _. stored-fine Go (λ _. tt) r run false w h limits below fit)
+      (λ _. by-test (Fine (report r)) (b .settings .reduce && not (b .trial)) _ _ (λ _. stored-fine Reduce (λ _. tt) r run true emptyWindow h limits below (λ _. empty-fit k))
+      (λ _. stop-fine Congestion h)))))))
 
-  pub report-fine : (r : Report) → Fine (reportOf b r)
+  pub report-fine : (r : Report) → Fine (report r) (reportOf b r)
   unfolding reportOf
   report-fine r =
-      by-test Fine (not (sound b)) _ _ (λ _. same-fine (Refused Malformed) (refused-no-stop Malformed))
+      by-test (Fine (report r)) (not (sound b)) _ _ (λ _. same-fine (Refused Malformed) refl)
       (λ q. let h = not-false (sound b) q in
       by-state (b .state) _ refl h
-      (λ s. by-test Fine (not (reportOk r)) _ _ (λ _. same-fine (Refused Limits) (refused-no-stop Limits))
-      (λ l. by-test Fine (leb (r .time) (b .last)) _ _ (λ _. same-fine (Refused Time) (refused-no-stop Time))
+      (λ s. by-test (Fine (report r)) (not (reportOk r)) _ _ (λ _. same-fine (Refused Limits) refl)
+      (λ l. by-test (Fine (report r)) (leb (r .time) (b .last)) _ _ (λ _. same-fine (Refused Time) refl)
       (λ t. ruled-fine r (record { isSound = h; running = s; inLimits = not-false (reportOk r) l; later = leb-false _ _ t })))))

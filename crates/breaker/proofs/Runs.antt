@@ -1,5 +1,5 @@
--- The theorems over runs: sound stays sound, stopped stays stopped. Assumes nothing.
-use mathlib.Core.Path.{_≡_, refl, _∙_, ap}
+-- The theorems over runs: sound stays sound, typed stays typed, stopped stays stopped. Assumes nothing.
+use mathlib.Core.Path.{_≡_, refl, _∙_, ap, subst}
 use mathlib.Core.Bool.{Bool, true, not, cond, _&&_}
 use mathlib.Core.List.{List, [], _∷_, map}
 use Prim.Native.Nat.{ℕ, zero-le}
@@ -18,13 +18,13 @@ use Rattle.breaker.specs.Limits.{settingsOk, timeOk}
 use Rattle.breaker.specs.Soundness.{sound}
 use Rattle.breaker.specs.Calls.{fresh, unstarted, startOf, unlessStopped, reportOf, tickOf}
 use Rattle.breaker.specs.Runs.{Call, report, tick, called, answersOf, after}
-use Rattle.breaker.specs.Theorems.{SoundStart, SoundCall, SoundRun, StaysStopped}
+use Rattle.breaker.specs.Theorems.{SoundStart, SoundCall, SoundRun, Typed, TypedStart, TypedCall, RefusedKeeps, StaysStopped}
 use Rattle.breaker.specs.Windows.{emptyWindow}
 use Rattle.breaker.proofs.Chains.{by-test}
 use Rattle.breaker.proofs.Facts.{m-low}
-use Rattle.breaker.proofs.Calls.{Held, Halted, Fine, tick-fine, report-fine}
+use Rattle.breaker.proofs.Calls.{Held, Halted, Beside, Fine, tick-fine, report-fine}
 
-call-fine : (b : Breaker) (c : Call) → Fine b (called b c)
+call-fine : (b : Breaker) (c : Call) → Fine b c (called b c)
 unfolding called
 call-fine b (report r) = report-fine b r
 call-fine b (tick time) = tick-fine b time
@@ -65,6 +65,26 @@ run-held b (c ∷ cs) h = run-held (called b c .breaker) cs (call-fine b c .kept
 pub sound-run : SoundRun
 sound-run s time calls e = run-held (startOf s time .breaker) calls (start-held s time e) .isSound
 
+-- ---- typed stays typed
+
+fresh-typed : (s : Settings) (time : ℕ) → Typed (fresh s time)
+unfolding emptyWindow
+fresh-typed s time = record { number = omega arith; places = refl }
+
+pub typed-start : TypedStart
+unfolding startOf
+typed-start s time =
+    by-test (λ x. Typed (x .breaker)) (not (settingsOk s)) _ _ (λ _. fresh-typed _ 0)
+    (λ _. by-test (λ x. Typed (x .breaker)) (not (timeOk time)) _ _ (λ _. fresh-typed _ 0) (λ _. fresh-typed s time))
+
+pub typed-call : TypedCall
+typed-call b c t n = call-fine b c .typed n t
+
+-- ---- refused keeps the record
+
+pub refused-keeps : RefusedKeeps
+refused-keeps b c refusal e = subst (λ (a : Answer). Beside b a (called b c .breaker)) e (call-fine b c .beside)
+
 -- ---- stopped stays stopped
 
 -- a call on a record that has stopped
@@ -92,5 +112,5 @@ module _ (b : Breaker) (reason : Reason) (h : Halted b reason) where
 
 pub stays-stopped : StaysStopped
 stays-stopped b c reason later e =
-    let h = call-fine b c .stop reason e in
+    let h = subst (λ (a : Answer). Beside b a (called b c .breaker)) e (call-fine b c .beside) in
     (halted-answers (called b c .breaker) reason h later, halted-after (called b c .breaker) reason h later)

@@ -31,7 +31,7 @@ fresh s time =
       window = emptyWindow;
     }
 
--- a start that is refused has no record: the one beside the refusal is all zero
+-- a start that is refused, with 10, has no record: the one beside the refusal is all zero
 abbrev pub unstarted : Step
 unstarted = refuses Limits (fresh (record { k = 0; m = 0; timeout = 0; reduce = false }) 0)
 

@@ -1,22 +1,27 @@
 -- What the private functions ask and promise. No public call and no theorem cites this file.
 use mathlib.Core.Path.{_≡_}
-use mathlib.Core.Bool.{Bool, true, _&&_}
+use mathlib.Core.Bool.{Bool, true, false, _&&_, not, cond}
 use mathlib.Core.List.{List, [], _∷_}
-use Prim.Native.Nat.{_-_, _<_}
-use lib.Dec.{leb}
+use Prim.Native.Nat.{ℕ, _-_, _<_}
+use lib.Dec.{leb, ltb}
+use lib.ListN.{take}
 use Rattle.answers.specs.Conditions.{all}
+use Rattle.breaker.specs.declared.Reason.the-variants.{Congestion}
 use Rattle.breaker.specs.declared.State.the-variants.{Running}
 use Rattle.breaker.specs.declared.Interval.{Interval}
 use Rattle.breaker.specs.declared.intervals.Sums.{Sums}
 use Rattle.breaker.specs.declared.Opening.{Opening}
 use Rattle.breaker.specs.declared.Opening.the-variants.{Answered, Open}
+use Rattle.breaker.specs.declared.Window.{Window}
 use Rattle.breaker.specs.declared.Breaker.{Breaker}
 use Rattle.breaker.specs.declared.Report.{Report}
 use Rattle.breaker.specs.declared.Step.{Step}
-use Rattle.breaker.specs.Answers.{answers}
+use Rattle.breaker.specs.Answers.{answers, goes, reduces, stops}
 use Rattle.breaker.specs.Calls.{opened}
 use Rattle.breaker.specs.Limits.{reportOk}
-use Rattle.breaker.specs.Windows.{W, P}
+use Rattle.breaker.specs.Windows.{emptyWindow, W, P}
+use Rattle.breaker.specs.Condition.{condition}
+use Rattle.breaker.specs.Rules.{stored}
 use Rattle.breaker.specs.Soundness.{sound}
 
 -- ---- intervals
@@ -58,3 +63,15 @@ pub record Accepted (b : Breaker) (r : Report) : Type 0 where
 pub record InTime (b : Breaker) (r : Report) : Type 0 where
   pub accepted : Accepted b r
   pub inTime : r .time - b .last < b .settings .timeout
+
+-- the congestion rule with the media run and the window as the program has them
+
+unfoldable pub exceeds : ℕ → Window → Report → Bool
+exceeds k w r = condition (r .rate) (r .rtt) (P (take k (w .intervals))) (r .size) (W (take k (w .intervals)))
+
+unfoldable pub tested : Breaker → Report → ℕ → Window → Step
+tested b r run w =
+    cond (ltb (w .used) (b .settings .k)) (goes (stored b r run (b .trial) w))
+    (cond (not (exceeds (b .settings .k) w r)) (goes (stored b r run false w))
+    (cond (b .settings .reduce && not (b .trial)) (reduces (stored b r run true emptyWindow))
+    (stops Congestion b)))

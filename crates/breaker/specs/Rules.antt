@@ -1,10 +1,12 @@
 -- Document 01, "The breaker": the rules for a report that is not refused.
 use mathlib.Core.Bool.{Bool, true, false, _&&_, _||_, not, cond}
+use mathlib.Core.List.{List}
 use Prim.Native.Nat.{ℕ, _+_, _-_, _^_}
 use lib.Dec.{leb, ltb, eqb}
-use lib.ListN.{take, length}
+use lib.ListN.{take}
 use Rattle.numbers.specs.Since.{since}
 use Rattle.breaker.specs.declared.Reason.the-variants.{Timeout, Media, Congestion}
+use Rattle.breaker.specs.declared.Interval.{Interval}
 use Rattle.breaker.specs.declared.Window.{Window}
 use Rattle.breaker.specs.declared.Breaker.{Breaker}
 use Rattle.breaker.specs.declared.Report.{Report}
@@ -43,27 +45,27 @@ runAfter b r = cond (not (b .reported)) 0 (cond (notAhead (r .highest) (b .highe
 unfoldable pub windowAfter : Breaker → Report → Window
 windowAfter b r = pushed (b .settings .k) (record { length = r .time - b .last; fraction = r .fraction }) (b .window)
 
--- the condition over the last k lengths, with this report's rate, Tr and s
-unfoldable pub holds : ℕ → Window → Report → Bool
-holds k w r = condition (r .rate) (r .rtt) (P (take k (w .intervals))) (r .size) (W (take k (w .intervals)))
+abbrev pub lastIntervals : Breaker → Report → List Interval
+lastIntervals b r = take (b .settings .k) (windowAfter b r .intervals)
 
--- the congestion rule, with the window `w` that the interval makes: tested with k intervals in the window; Go where the condition does not
--- hold, which ends a trial; Reduce if that is allowed and none is under trial; else a stop
-unfoldable pub tested : Breaker → Report → ℕ → Window → Step
-tested b r run w =
-    cond (ltb (w .used) (b .settings .k)) (goes (stored b r run (b .trial) w))
-    (cond (not (holds (b .settings .k) w r)) (goes (stored b r run false w))
-    (cond (b .settings .reduce && not (b .trial)) (reduces (stored b r run true emptyWindow))
-    (stops Congestion b)))
+-- the condition over the last k intervals, with this report's rate, Tr and s
+unfoldable pub holds : Breaker → Report → Bool
+holds b r = condition (r .rate) (r .rtt) (P (lastIntervals b r)) (r .size) (W (lastIntervals b r))
 
--- the rules in their order: rate 0, the timeout, the media run, the first report, the congestion rule
-unfoldable pub rules : Breaker → Report → ℕ → Window → Step
-rules b r run w =
+-- the rules in their order
+unfoldable pub ruled : Breaker → Report → Step
+ruled b r =
+    -- rate 0 empties the window and sets the media run to 0
     cond (eqb (r .rate) 0) (goes (stored b r 0 (b .trial) emptyWindow))
     (cond (late b (r .time)) (stops Timeout b)
-    (cond (leb (b .settings .m) run) (stops Media b)
-    (cond (not (b .reported)) (goes (stored b r run (b .trial) (b .window)))
-    (tested b r run w))))
-
-unfoldable pub ruled : Breaker → Report → Step
-ruled b r = rules b r (runAfter b r) (windowAfter b r)
+    -- the media run is at m
+    (cond (leb (b .settings .m) (runAfter b r)) (stops Media b)
+    -- the first report after a start closes no interval
+    (cond (not (b .reported)) (goes (stored b r (runAfter b r) (b .trial) (b .window)))
+    -- fewer than k intervals: no test
+    (cond (ltb (windowAfter b r .used) (b .settings .k)) (goes (stored b r (runAfter b r) (b .trial) (windowAfter b r)))
+    -- a test where the condition does not hold ends a trial
+    (cond (not (holds b r)) (goes (stored b r (runAfter b r) false (windowAfter b r)))
+    -- a reduction is allowed and none is under trial: a trial begins, with an empty window
+    (cond (b .settings .reduce && not (b .trial)) (reduces (stored b r (runAfter b r) true emptyWindow))
+    (stops Congestion b)))))))

@@ -1,17 +1,19 @@
 -- What holds of every run of the breaker, and what the condition means.
 use mathlib.Core.Path.{_≡_}
-use mathlib.Core.Bool.{true}
+use mathlib.Core.Bool.{Bool, true}
 use mathlib.Core.List.{List, map}
-use Prim.Native.Nat.{ℕ, _*_}
+use Prim.Native.Nat.{ℕ, _*_, _^_, _<_}
+use lib.Dec.{ltb}
 use lib.ListN.{length}
+use Rattle.answers.specs.declared.Refusal.{Refusal}
 use Rattle.breaker.specs.declared.Reason.{Reason}
 use Rattle.breaker.specs.declared.Settings.{Settings}
 use Rattle.breaker.specs.declared.Breaker.{Breaker}
-use Rattle.breaker.specs.declared.Answer.the-variants.{Go, Stop}
+use Rattle.breaker.specs.declared.Answer.the-variants.{Go, Stop, Refused}
 use Rattle.breaker.specs.Soundness.{sound}
 use Rattle.breaker.specs.Condition.{condition}
 use Rattle.breaker.specs.Calls.{startOf}
-use Rattle.breaker.specs.Runs.{Call, called, answersOf, after}
+use Rattle.breaker.specs.Runs.{Call, report, tick, called, answersOf, after}
 use Rattle.breaker.specs.Throughput.{Fraction, whole, _times_, square, above, throughputSquared}
 
 -- a start that is not refused makes a sound record
@@ -25,6 +27,27 @@ SoundCall = (b : Breaker) (c : Call) → length (b .window .intervals) ≡ 32 �
 -- so no call of a run from a start is refused with 9
 abbrev pub SoundRun : Type 0
 SoundRun = (s : Settings) (time : ℕ) (calls : List Call) → startOf s time .answer ≡ Go → sound (after (startOf s time .breaker) calls) ≡ true
+
+-- a record's highest number has 32 bits and its array 32 places, as their types say
+pub record Typed (b : Breaker) : Type 0 where
+  pub number : b .highest < 2 ^ 32
+  pub places : length (b .window .intervals) ≡ 32
+
+-- a report's highest number has 32 bits
+abbrev pub numberFits : Call → Bool
+numberFits (report r) = ltb (r .highest) (2 ^ 32)
+numberFits (tick time) = true
+
+-- every start makes such a record, and every call keeps it one
+abbrev pub TypedStart : Type 0
+TypedStart = (s : Settings) (time : ℕ) → Typed (startOf s time .breaker)
+
+abbrev pub TypedCall : Type 0
+TypedCall = (b : Breaker) (c : Call) → Typed b → numberFits c ≡ true → Typed (called b c .breaker)
+
+-- a refused call hands the record back as it was
+abbrev pub RefusedKeeps : Type 0
+RefusedKeeps = (b : Breaker) (c : Call) (refusal : Refusal) → called b c .answer ≡ Refused refusal → called b c .breaker ≡ b
 
 -- stopped stays stopped: whatever calls follow a stop, each answer is that stop, and the breaker stays as the stop left it
 abbrev pub StaysStopped : Type 0

@@ -6,8 +6,8 @@ ghost use Prim.Native.Nat.{_≤_};
 ghost use lib.ListN.{take};
 ghost use Rattle.answers.specs.Conditions.{all};
 ghost use Rattle.breaker.specs.Limits.{reportOk};
-ghost use Rattle.breaker.specs.Private.{roomy, Accepted, InTime};
-ghost use Rattle.breaker.specs.Rules.{notAhead, runAfter, windowAfter, holds, tested, ruled};
+ghost use Rattle.breaker.specs.Private.{roomy, Accepted, InTime, exceeds, tested};
+ghost use Rattle.breaker.specs.Rules.{notAhead, runAfter, windowAfter, ruled};
 use crate::Answer;
 use crate::Breaker;
 use crate::Interval;
@@ -64,7 +64,7 @@ fn window_after(b: Breaker, r: Report) -> Window
 // Whether the condition holds over the last k intervals: two products of two words.
 fn exceeds(window: Window, k: usize, r: Report) -> bool
     requires { ⌜ (k ≤ 32) × (all (map roomy (take k (window .intervals))) ≡ true) × (reportOk r ≡ true) ⌝ }
-    ensures { λ b. ⌜ b ≡ holds k window r ⌝ }
+    ensures { λ b. ⌜ b ≡ exceeds k window r ⌝ }
 {
     let last = window.intervals;
     let sums = intervals::summed(last, k);

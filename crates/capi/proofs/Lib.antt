@@ -1,6 +1,8 @@
--- What the functions' proofs share.
+-- What the functions' proofs share, and what other crates cite.
 pub mod Answers
 pub mod Records
 pub mod Fronts
 pub mod Steps
-pub mod Chained
+pub mod SourceChains
+pub mod BreakerChains
+pub mod SomeChains

@@ -5,7 +5,7 @@ use mathlib.Core.Option.{Option, some}
 use Prim.Native.Nat.{ℕ}
 use borrow.Author.Tests.{eq-eqb, ne-eqb}
 use lib.Dec.{eqb}
-use lib.IntN.{ℤ, pos, negℤ}
+use lib.IntN.{pos, negℤ}
 use lib.ListN.{length}
 use lib.Seq.{sets}
 use Rattle.answers.specs.declared.Refusal.{Refusal}
@@ -23,7 +23,7 @@ use Rattle.source.specs.Arrivals.{arrival}
 use Rattle.source.specs.Blocks.{blockCount}
 use Rattle.lent.specs.SourceWords.{sourceOf, sourceWords}
 use Rattle.capi.proofs.Fronts.{sets-whole}
-use Rattle.capi.specs.Sources.{recordFault, arriveAnswer, arriveWords, blockAnswer, blockWords}
+use Rattle.capi.specs.Sources.{recordFault, arriveAnswer, arriveWords, CountsArrival, blockAnswer, blockWords, CountsBlock}
 
 -- ---- a writer of a record
 
@@ -49,46 +49,37 @@ module _ (words : List ℕ) (fault : Source → Option Refusal) (bytes : Source 
 -- ---- one arrival
 
 module _ (words : List ℕ) (wire mark : ℕ) where
-  -- what the call answers and leaves
-  pub record Arrives (answer : ℕ) (next : List ℕ) : Type 0 where
-    pub answers : answer ≡ arriveAnswer words wire mark
-    pub leaves : next ≡ arriveWords words wire mark
-
-  pub arrives-other : (length words ≡ 9 → ⊥) → Arrives 9 words
+  pub arrives-other : (length words ≡ 9 → ⊥) → CountsArrival words wire mark 9 words
   unfolding arriveAnswer arriveWords
-  arrives-other h = let t = ne-eqb (length words) 9 h in record { answers = rw t; leaves = rw t }
+  arrives-other h = let t = ne-eqb (length words) 9 h in record { answers = rw t; stores = rw t }
 
   pub arrives-next : {next : Source} → length words ≡ 9 → arrival (sourceOf words) (record { 0 = wire }) mark ≡ Accepted next
-      → Arrives 0 (sets words 0 (sourceWords next))
+      → CountsArrival words wire mark 0 (sets words 0 (sourceWords next))
   unfolding arriveAnswer arriveWords sourceWords
   arrives-next {next} h e =
       let t = eq-eqb (length words) 9 h in
-      record { answers = rw (t, e); leaves = rw (t, e) (sets-whole words (sourceWords next) h) }
+      record { answers = rw (t, e); stores = rw (t, e) (sets-whole words (sourceWords next) h) }
 
   pub arrives-refused : {refusal : Refusal} {same : Source} → length words ≡ 9 → arrival (sourceOf words) (record { 0 = wire }) mark ≡ Refused refusal same
-      → Arrives (numberOf refusal) words
+      → CountsArrival words wire mark (numberOf refusal) words
   unfolding arriveAnswer arriveWords
-  arrives-refused h e = let t = eq-eqb (length words) 9 h in record { answers = rw (t, e); leaves = rw (t, e) }
+  arrives-refused h e = let t = eq-eqb (length words) 9 h in record { answers = rw (t, e); stores = rw (t, e) }
 
 -- ---- a block of arrivals
 
 module _ (words : List ℕ) (width : ℕ) (records : List ℕ) where
-  pub record CountsBlock (answer : ℤ) (next : List ℕ) : Type 0 where
-    pub answers : answer ≡ blockAnswer words width records
-    pub leaves : next ≡ blockWords words width records
-
-  pub counts-other : (length words ≡ 9 → ⊥) → CountsBlock (negℤ (pos 9)) words
+  pub counts-other : (length words ≡ 9 → ⊥) → CountsBlock words width records (negℤ (pos 9)) words
   unfolding blockAnswer blockWords
-  counts-other h = let t = ne-eqb (length words) 9 h in record { answers = rw t; leaves = rw t }
+  counts-other h = let t = ne-eqb (length words) 9 h in record { answers = rw t; stores = rw t }
 
   pub counts-next : {next : Source} {jumps : ℕ} → length words ≡ 9 → blockCount (sourceOf words) width records ≡ Counted next jumps
-      → CountsBlock (pos jumps) (sets words 0 (sourceWords next))
+      → CountsBlock words width records (pos jumps) (sets words 0 (sourceWords next))
   unfolding blockAnswer blockWords sourceWords
   counts-next {next} h e =
       let t = eq-eqb (length words) 9 h in
-      record { answers = rw (t, e); leaves = rw (t, e) (sets-whole words (sourceWords next) h) }
+      record { answers = rw (t, e); stores = rw (t, e) (sets-whole words (sourceWords next) h) }
 
   pub counts-refused : {refusal : Refusal} {same : Source} → length words ≡ 9 → blockCount (sourceOf words) width records ≡ NotCounted refusal same
-      → CountsBlock (negℤ (pos (numberOf refusal))) words
+      → CountsBlock words width records (negℤ (pos (numberOf refusal))) words
   unfolding blockAnswer blockWords
-  counts-refused h e = let t = eq-eqb (length words) 9 h in record { answers = rw (t, e); leaves = rw (t, e) }
+  counts-refused h e = let t = eq-eqb (length words) 9 h in record { answers = rw (t, e); stores = rw (t, e) }

@@ -12,14 +12,14 @@ use Rattle.answers.specs.declared.Refusal.the-variants.{Malformed}
 use Rattle.answers.specs.Conditions.{all}
 use Rattle.answers.proofs.Conditions.{cond-ends, cond-goes, and-left}
 use Rattle.answers.proofs.Stores.{wrote-refused}
-use Rattle.breaker.specs.declared.Breaker.{Breaker}
 use Rattle.breaker.specs.declared.Step.{Step}
 use Rattle.breaker.specs.declared.Answer.{Answer}
 use Rattle.breaker.specs.declared.Answer.the-variants.{Go, Reduce, Stop, Refused}
+use Rattle.breaker.specs.Runs.{Call, called}
 use Rattle.lent.specs.BreakerWords.{breakerWords, breakerOf, wordsFit}
 use Rattle.lent.proofs.Pairs.{length-breaker}
-use Rattle.capi.specs.Codes.{Gives}
-use Rattle.capi.specs.BreakerCalls.{answerCode, isRefused, refusalIn, isRecord, callAnswer, leftBy, callLeft, startCode}
+use Rattle.capi.specs.Codes.{Gives, Leaves}
+use Rattle.capi.specs.BreakerCalls.{answerCode, isRefused, refusalIn, isRecord, callAnswer, leftBy, callLeft, TakesCall, startCode, PutsStart}
 use Rattle.capi.proofs.Answers.{gives}
 use Rattle.capi.proofs.Fronts.{sets-whole}
 
@@ -29,22 +29,21 @@ use Rattle.capi.proofs.Fronts.{sets-whole}
 pub record-sized : (old : List ℕ) → isRecord old ≡ true → length old ≡ 75
 record-sized old q = eqb-true (length old) 75 (and-left (eqb (length old) 75) (all (wordsFit old)) q)
 
--- what a call on a record gives and leaves
-abbrev pub Calls : (Breaker → Step) → List ℕ → ℕ → List ℕ → Type 0
-Calls call old r left = (r ≡ callAnswer call old) × (left ≡ callLeft call old)
-
-module _ (call : Breaker → Step) (old : List ℕ) {r : ℕ} where
+module _ (call : Call) (old : List ℕ) {r : ℕ} where
   -- words that are no record
-  pub call-malformed : isRecord old ≡ false → r ≡ answerCode (Refused Malformed) → Calls call old r old
+  pub call-malformed : isRecord old ≡ false → r ≡ answerCode (Refused Malformed) → TakesCall call old r old
   unfolding callAnswer callLeft
-  call-malformed e h = (cond-ends _ _ _ _ (ap not e) h, cond-ends _ _ _ _ (ap not e) refl)
+  call-malformed e h = record { answers = cond-ends _ _ _ _ (ap not e) h; stores = cond-ends _ _ _ _ (ap not e) refl }
 
   -- a record, on which the call gives s
-  pub call-made : {s : Step} {left : List ℕ} → isRecord old ≡ true → s ≡ call (breakerOf old) → r ≡ answerCode (s .answer) → left ≡ leftBy s old
-      → Calls call old r left
+  pub call-made : {s : Step} {out : List ℕ} → isRecord old ≡ true → s ≡ called (breakerOf old) call → Leaves (answerCode (s .answer)) (leftBy s old) r out
+      → TakesCall call old r out
   unfolding callAnswer callLeft
-  call-made t e h k =
-      (cond-goes _ _ _ _ (ap not t) (h ∙ ap (λ (s : Step). answerCode (s .answer)) e), cond-goes _ _ _ _ (ap not t) (k ∙ ap (λ (s : Step). leftBy s old) e))
+  call-made t e h =
+      record {
+        answers = cond-goes _ _ _ _ (ap not t) (h .answers ∙ ap (λ (s : Step). answerCode (s .answer)) e);
+        stores = cond-goes _ _ _ _ (ap not t) (h .stores ∙ ap (λ (s : Step). leftBy s old) e);
+      }
 
 -- what is stored in the place of the last record
 pub back-stored : (s : Step) (old : List ℕ) {left : List ℕ} → isRefused (s .answer) ≡ false → length old ≡ 75 → length (s .breaker .window .intervals) ≡ 32
@@ -52,9 +51,6 @@ pub back-stored : (s : Step) (old : List ℕ) {left : List ℕ} → isRefused (s
 back-stored s old e n p k = cond-goes _ _ _ _ e (k ∙ sets-whole old (breakerWords (s .breaker)) (n ∙ sym (length-breaker (s .breaker) p)))
 
 -- ---- a start
-
-abbrev pub Starts : Step → List ℕ → ℕ → List ℕ → Type 0
-Starts s old r left = Gives startCode (refusalIn (s .answer)) (breakerWords (s .breaker)) old r left
 
 -- a refused start
 pub start-refused : (a : Answer) (new old : List ℕ) {r : ℕ} → isRefused a ≡ true → r ≡ answerCode a → Gives startCode (refusalIn a) new old r old
@@ -71,5 +67,5 @@ no-refusal (Stop reason) e = refl
 no-refusal (Refused refusal) e = absurd (false≢true (sym e))
 
 -- what is proved of one start holds of one that is equal
-pub start-is : {s s′ : Step} (old : List ℕ) {r : ℕ} {left : List ℕ} → s ≡ s′ → Starts s old r left → Starts s′ old r left
-start-is old {r} {left} e h = subst (λ (x : Step). Starts x old r left) e h
+pub start-is : {s s′ : Step} (old : List ℕ) {r : ℕ} {left : List ℕ} → s ≡ s′ → PutsStart s old r left → PutsStart s′ old r left
+start-is old {r} {left} e h = subst (λ (x : Step). PutsStart x old r left) e h

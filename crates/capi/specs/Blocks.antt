@@ -1,10 +1,23 @@
--- What reading a trace block leaves in the lent words (include/flasknib.h, "trace blocks and table rows").
+-- What the functions of trace blocks and table rows give and leave (include/flasknib.h, "trace blocks and table rows").
 use Prim.Native.Nat.{ℕ}
 use mathlib.Core.List.{List, [], _∷_}
 use mathlib.Core.Option.{Option, none, some}
+use lib.IntN.{ℤ}
 use Rattle.answers.specs.declared.Refusal.{Refusal}
+use Rattle.format.specs.declared.Form.{Form}
+use Rattle.format.specs.Forms.{shapeOf}
+use Rattle.source.specs.declared.Totals.{Totals}
 use Rattle.trace.specs.declared.Block.{Block}
 use Rattle.trace.specs.declared.Block.the-variants.{Label, Arrivals, Refused}
+use Rattle.trace.specs.Layout.{labelBlock, arrivalsBlock}
+use Rattle.trace.specs.Reading.{blockOf}
+use Rattle.trace.specs.Writing.{labelFault, recordsOf, arrivalsFault}
+use Rattle.table.specs.Lines.{headBytes, rowFault, rowBytes}
+use Rattle.lent.specs.SourceWords.{sourceOf}
+use Rattle.capi.specs.Codes.{lengthCode, refusalCode, Gives}
+use Rattle.capi.specs.Sources.{recordFault}
+
+-- ---- flasknib_read_block
 
 -- the block's refusal
 abbrev pub blockFault : Block → Option Refusal
@@ -17,3 +30,51 @@ abbrev pub foundWords : Block → List ℕ
 foundWords (Label form length ssrc) = 1 ∷ length ∷ ssrc ∷ []
 foundWords (Arrivals form count ssrc) = 2 ∷ count ∷ ssrc ∷ []
 foundWords (Refused refusal) = []
+
+-- "Trace file": 1, 13, 14, 12; or 0 and the three words
+abbrev pub ReadsBlock : List ℕ → List ℕ → ℕ → List ℕ → Type 0
+ReadsBlock block old r found =
+    Gives refusalCode
+    (blockFault (blockOf block))
+    (foundWords (blockOf block))
+    old r found
+
+-- ---- flasknib_write_label, flasknib_write_arrivals
+
+-- "Trace file", block 0: 10, 12; or the block's 512 bytes
+abbrev pub WritesLabel : List ℕ → ℕ → List ℕ → ℤ → List ℕ → Type 0
+WritesLabel label ssrc old r out =
+    Gives lengthCode
+    (labelFault label)
+    (labelBlock (shapeOf Form.One) label ssrc)
+    old r out
+
+-- "Trace file", the others: 10, 12; or the block's 512 bytes
+abbrev pub WritesArrivals : List ℕ → List ℕ → List ℕ → ℕ → List ℕ → ℤ → List ℕ → Type 0
+WritesArrivals times numbers marks ssrc old r out =
+    Gives lengthCode
+    (arrivalsFault (shapeOf Form.One) times numbers marks)
+    (arrivalsBlock (shapeOf Form.One) (recordsOf times numbers marks) ssrc)
+    old r out
+
+-- ---- flasknib_write_head, flasknib_write_row
+
+-- "Table", the head line: 12; or its bytes
+abbrev pub WritesHead : List ℕ → ℤ → List ℕ → Type 0
+WritesHead old r out =
+    Gives lengthCode
+    none
+    headBytes
+    old r out
+
+-- what a row shows
+abbrev pub totalsOf : List ℕ → ℕ → Totals
+totalsOf words jumped = record { source = sourceOf words; jumped = jumped }
+
+-- "Table", a row: 9, 10, 12; or its bytes
+abbrev pub WritesRow : List ℕ → ℕ → List ℕ → ℕ → List ℕ → ℤ → List ℕ → Type 0
+WritesRow label ssrc words jumped old r out =
+    Gives lengthCode
+    (recordFault words (rowFault label (totalsOf words jumped)))
+    (rowBytes label ssrc (totalsOf words jumped))
+    old r out

@@ -12,14 +12,16 @@ use Rattle.answers.specs.declared.Written.{Written}
 use Rattle.answers.specs.declared.Written.the-variants as writer
 use Rattle.answers.specs.Conditions.{all}
 use Rattle.answers.specs.Refusals.{numberOf}
-use Rattle.breaker.specs.declared.Breaker.{Breaker}
 use Rattle.breaker.specs.declared.Answer.{Answer}
 use Rattle.breaker.specs.declared.Answer.the-variants.{Go, Reduce, Stop, Refused}
 use Rattle.breaker.specs.declared.Step.{Step}
 use Rattle.breaker.specs.Answers.{reasonNumber}
-use Rattle.breaker.specs.Calls.{unstarted, startOf, reportOf, tickOf}
+use Rattle.breaker.specs.Calls.{unstarted, startOf}
+use Rattle.breaker.specs.Runs.{Call, report, tick, called}
+use Rattle.breaker.specs.Theorems.{numberFits}
 use Rattle.lent.specs.declared.breaker_words.Loaded.{Loaded}
-use Rattle.lent.specs.BreakerWords.{breakerWords, breakerOf, wordsFit, Typed}
+use Rattle.lent.specs.BreakerWords.{breakerWords, breakerOf, wordsFit}
+use Rattle.capi.specs.Codes.{Gives, Leaves}
 
 -- 0 Go, 1 Reduce, 256 and a stop's reason, 512 and a refusal's number
 abbrev pub answerCode : Answer → ℕ
@@ -40,35 +42,7 @@ refusalIn Reduce = none
 refusalIn (Stop reason) = none
 refusalIn (Refused refusal) = some refusal
 
--- ---- a report and a tick: `call` is what they do to a record
-
--- 75 words that are those of a record
-abbrev pub isRecord : List ℕ → Bool
-isRecord old = eqb (length old) 75 && all (wordsFit old)
-
-abbrev pub recordIn : List ℕ → Loaded
-recordIn old = record { ok = isRecord old; breaker = breakerOf old }
-
--- 9 where the words are no record, else the call's own answer
-unfoldable pub callAnswer : (Breaker → Step) → List ℕ → ℕ
-callAnswer call old = cond (not (isRecord old)) (answerCode (Refused Malformed)) (answerCode (call (breakerOf old) .answer))
-
--- a refused call leaves the words as they were; any other leaves those of the next record
-abbrev pub leftBy : Step → List ℕ → List ℕ
-leftBy s old = cond (isRefused (s .answer)) old (breakerWords (s .breaker))
-
-unfoldable pub callLeft : (Breaker → Step) → List ℕ → List ℕ
-callLeft call old = cond (not (isRecord old)) old (leftBy (call (breakerOf old)) old)
-
--- a report, and a tick
-abbrev pub reports : ℕ → ℕ → ℕ → ℕ → ℕ → ℕ → Breaker → Step
-reports time highest fraction rtt size rate b =
-    reportOf b (record { time = time; highest = highest; fraction = fraction; rtt = rtt; size = size; rate = rate })
-
-abbrev pub ticks : ℕ → Breaker → Step
-ticks time b = tickOf b time
-
--- ---- a start
+-- ---- flasknib_breaker_start
 
 -- `reduce` is 0 or 1, else refusal 10
 unfoldable pub starts : ℕ → ℕ → ℕ → ℕ → ℕ → Step
@@ -81,15 +55,65 @@ abbrev pub startCode : Written → ℕ
 startCode (writer.Length n) = answerCode Go
 startCode (writer.Refused refusal) = answerCode (Refused refusal)
 
+-- the step of a start: its refusal, 12; or Go and the record's 75 words
+abbrev pub PutsStart : Step → List ℕ → ℕ → List ℕ → Type 0
+PutsStart s old r out =
+    Gives startCode
+    (refusalIn (s .answer))
+    (breakerWords (s .breaker))
+    old r out
+
+-- "The breaker", a start: 10, 12; or Go and the record's 75 words
+abbrev pub StartsBreaker : ℕ → ℕ → ℕ → ℕ → ℕ → List ℕ → ℕ → List ℕ → Type 0
+StartsBreaker k m timeout reduce time old r out = PutsStart (starts k m timeout reduce time) old r out
+
+-- ---- flasknib_breaker_report, flasknib_breaker_tick
+
+-- 75 words that are those of a record
+abbrev pub isRecord : List ℕ → Bool
+isRecord old = eqb (length old) 75 && all (wordsFit old)
+
+abbrev pub recordIn : List ℕ → Loaded
+recordIn old = record { ok = isRecord old; breaker = breakerOf old }
+
+-- 9 where the words are no record, else the call's own answer
+unfoldable pub callAnswer : Call → List ℕ → ℕ
+callAnswer c old =
+    cond (not (isRecord old)) (answerCode (Refused Malformed))
+    (answerCode (called (breakerOf old) c .answer))
+
+-- a refused call leaves the words as they were; any other leaves those of the next record
+abbrev pub leftBy : Step → List ℕ → List ℕ
+leftBy s old = cond (isRefused (s .answer)) old (breakerWords (s .breaker))
+
+unfoldable pub callLeft : Call → List ℕ → List ℕ
+callLeft c old =
+    cond (not (isRecord old)) old
+    (leftBy (called (breakerOf old) c) old)
+
+-- "The breaker": 9, the stop, 10, 11, or the rules' answer; and the next record
+abbrev pub TakesCall : Call → List ℕ → ℕ → List ℕ → Type 0
+TakesCall c old r out =
+    Leaves
+    (callAnswer c old)
+    (callLeft c old)
+    r out
+
+abbrev pub TakesReport : List ℕ → ℕ → ℕ → ℕ → ℕ → ℕ → ℕ → ℕ → List ℕ → Type 0
+TakesReport old time highest fraction rtt size rate r out =
+    TakesCall (report (record { time = time; highest = highest; fraction = fraction; rtt = rtt; size = size; rate = rate })) old r out
+
+abbrev pub TakesTick : List ℕ → ℕ → ℕ → List ℕ → Type 0
+TakesTick old time r out = TakesCall (tick time) old r out
+
 -- ---- what follows
 
 -- a call that hands the record back as it was, as one on a stopped breaker, leaves the words as they were
 abbrev pub UnchangedLeaves : Type 0
-UnchangedLeaves = (call : Breaker → Step) (old : List ℕ) → call (breakerOf old) .breaker ≡ breakerOf old → callLeft call old ≡ old
+UnchangedLeaves = (c : Call) (old : List ℕ) → called (breakerOf old) c .breaker ≡ breakerOf old → callLeft c old ≡ old
 
--- after a call that is not refused the words are again a record, the one that the call gave, so that the next call goes on from there (its
--- numbers fit, as their types say)
+-- the words that a call leaves of a record are again a record, the one that the call hands back, so that the next call goes on from there
 abbrev pub NextIsRecord : Type 0
 NextIsRecord =
-    (call : Breaker → Step) (old : List ℕ) → isRecord old ≡ true → isRefused (call (breakerOf old) .answer) ≡ false → Typed (call (breakerOf old) .breaker)
-    → (isRecord (callLeft call old) ≡ true) × (breakerOf (callLeft call old) ≡ call (breakerOf old) .breaker)
+    (c : Call) (old : List ℕ) → isRecord old ≡ true → numberFits c ≡ true
+    → (isRecord (callLeft c old) ≡ true) × (breakerOf (callLeft c old) ≡ called (breakerOf old) c .breaker)

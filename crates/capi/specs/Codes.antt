@@ -25,3 +25,8 @@ refusalCode (Refused refusal) = numberOf refusal
 pub record Gives {A : Type 0} (code : Written → A) (fault : Option Refusal) (new old : List ℕ) (r : A) (out : List ℕ) : Type 0 where
   pub answers : r ≡ code (written fault new old)
   pub stores : out ≡ stored fault new old
+
+-- what a function answers, and leaves in the place of the words that it was lent
+pub record Leaves {A : Type 0} (answer : A) (next : List ℕ) (r : A) (out : List ℕ) : Type 0 where
+  pub answers : r ≡ answer
+  pub stores : out ≡ next

@@ -1,5 +1,6 @@
 pub mod Codes
 pub mod Sources
-pub mod Blocks
 pub mod CompoundCalls
 pub mod BreakerCalls
+pub mod Blocks
+pub mod Chains

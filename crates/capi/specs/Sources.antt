@@ -9,24 +9,21 @@ use lib.ListN.{length}
 use Rattle.answers.specs.declared.Refusal.{Refusal}
 use Rattle.answers.specs.declared.Refusal.the-variants.{Malformed}
 use Rattle.answers.specs.Refusals.{numberOf}
-use Rattle.source.specs.declared.Totals.{Totals}
 use Rattle.source.specs.declared.Arrival.{Arrival}
 use Rattle.source.specs.declared.Arrival.the-variants.{Accepted, Refused}
 use Rattle.source.specs.declared.BlockCount.{BlockCount}
 use Rattle.source.specs.declared.BlockCount.the-variants.{Counted, Refused as NotCounted}
 use Rattle.source.specs.Arrivals.{arrival}
 use Rattle.source.specs.Blocks.{blockCount}
+use Rattle.report.specs.Reports.{fault, feedbackBytes, summaryBytes}
 use Rattle.lent.specs.SourceWords.{sourceOf, sourceWords}
+use Rattle.capi.specs.Codes.{lengthCode, Gives, Leaves}
 
 -- a record in another number of words than 9 is refused with 9, before the refusals of its values
 unfoldable pub recordFault : List ℕ → Option Refusal → Option Refusal
 recordFault words fault = cond (eqb (length words) 9) fault (some Malformed)
 
--- what a row shows
-abbrev pub totalsOf : List ℕ → ℕ → Totals
-totalsOf words jumped = record { source = sourceOf words; jumped = jumped }
-
--- ---- one arrival
+-- ---- flasknib_arrive
 
 -- 0, or the refusal
 abbrev pub arrivalCode : Arrival → ℕ
@@ -45,7 +42,15 @@ unfoldable pub arriveWords : List ℕ → ℕ → ℕ → List ℕ
 arriveWords words wire mark =
     cond (eqb (length words) 9) (arrivalWords words (arrival (sourceOf words) (record { 0 = wire }) mark)) words
 
--- ---- a block of arrivals
+-- "Counting arrivals": 9, 10, 8, 7; or 0 and the next record
+abbrev pub CountsArrival : List ℕ → ℕ → ℕ → ℕ → List ℕ → Type 0
+CountsArrival words wire mark r out =
+    Leaves
+    (arriveAnswer words wire mark)
+    (arriveWords words wire mark)
+    r out
+
+-- ---- flasknib_count_block
 
 -- the jumps, or minus the refusal
 abbrev pub countCode : BlockCount → ℤ
@@ -64,3 +69,29 @@ blockAnswer words width records =
 unfoldable pub blockWords : List ℕ → ℕ → List ℕ → List ℕ
 blockWords words width records =
     cond (eqb (length words) 9) (countWords words (blockCount (sourceOf words) width records)) words
+
+-- "Trace file", the records of an arrivals block: 9, 10; or the jumps and the next record
+abbrev pub CountsBlock : List ℕ → ℕ → List ℕ → ℤ → List ℕ → Type 0
+CountsBlock words width records r out =
+    Leaves
+    (blockAnswer words width records)
+    (blockWords words width records)
+    r out
+
+-- ---- flasknib_write_feedback, flasknib_write_summary
+
+-- "Packets", ECN feedback: 9, 12; or its 32 bytes
+abbrev pub WritesFeedback : List ℕ → ℕ → ℕ → List ℕ → ℤ → List ℕ → Type 0
+WritesFeedback words sender media old r out =
+    Gives lengthCode
+    (recordFault words (fault (sourceOf words)))
+    (feedbackBytes sender media (sourceOf words))
+    old r out
+
+-- "Packets", the ECN summary block: 9, 12; or its 24 bytes
+abbrev pub WritesSummary : List ℕ → ℕ → List ℕ → ℤ → List ℕ → Type 0
+WritesSummary words media old r out =
+    Gives lengthCode
+    (recordFault words (fault (sourceOf words)))
+    (summaryBytes media (sourceOf words))
+    old r out

@@ -7,12 +7,8 @@ use trace::write::write_arrivals;
 use trace::write::write_label;
 ghost use mathlib.Core.List.{[], _∷_};
 ghost use mathlib.Core.Option.{none};
-ghost use Rattle.format.specs.Forms.{shapeOf};
-ghost use Rattle.trace.specs.Layout.{labelBlock, arrivalsBlock};
-ghost use Rattle.trace.specs.Reading.{blockOf};
-ghost use Rattle.trace.specs.Writing.{labelFault, recordsOf, arrivalsFault};
-ghost use Rattle.capi.specs.Codes.{lengthCode, refusalCode, Gives};
-ghost use Rattle.capi.specs.Blocks.{blockFault, foundWords};
+ghost use Rattle.capi.specs.Codes.{refusalCode, Gives};
+ghost use Rattle.capi.specs.Blocks.{ReadsBlock, WritesLabel, WritesArrivals};
 
 // Stores the three words of a block at the front of found. Gives 0, or refusal 12.
 fn put_found(kind: u64, count: usize, ssrc: u32, found: &mut [u64]) -> u8
@@ -30,7 +26,7 @@ fn put_found(kind: u64, count: usize, ssrc: u32, found: &mut [u64]) -> u8
 // Reads a block. Gives 0 and three words at the front of found, or refusal 1, 13 or 14, or 12 where found has fewer words.
 #[no_mangle]
 pub extern "C" fn flasknib_read_block(block: &[u8], found: &mut [u64]) -> u8
-    ensures { λ r. ⌜ Gives refusalCode (blockFault (blockOf (now (block .entry)))) (foundWords (blockOf (now (block .entry)))) (now (found .entry)) r (now (found .exit)) ⌝ }
+    ensures { λ r. ⌜ ReadsBlock (now (block .entry)) (now (found .entry)) r (now (found .exit)) ⌝ }
 {
     match read_block(block) {
         Block::Label {
@@ -50,7 +46,7 @@ pub extern "C" fn flasknib_read_block(block: &[u8], found: &mut [u64]) -> u8
 // Writes a label block. Gives its length, or minus refusal 10 or 12.
 #[no_mangle]
 pub extern "C" fn flasknib_write_label(label: &[u8], ssrc: u32, out: &mut [u8]) -> i64
-    ensures { λ r. ⌜ Gives lengthCode (labelFault (now (label .entry))) (labelBlock (shapeOf Form.One) (now (label .entry)) ssrc) (now (out .entry)) r (now (out .exit)) ⌝ }
+    ensures { λ r. ⌜ WritesLabel (now (label .entry)) ssrc (now (out .entry)) r (now (out .exit)) ⌝ }
 {
     codes::length(write_label(Form::One, label, ssrc, out))
 }
@@ -64,7 +60,7 @@ pub extern "C" fn flasknib_write_arrivals(
     ssrc: u32,
     out: &mut [u8],
 ) -> i64
-    ensures { λ r. ⌜ Gives lengthCode (arrivalsFault (shapeOf Form.One) (now (times .entry)) (now (numbers .entry)) (now (marks .entry))) (arrivalsBlock (shapeOf Form.One) (recordsOf (now (times .entry)) (now (numbers .entry)) (now (marks .entry))) ssrc) (now (out .entry)) r (now (out .exit)) ⌝ }
+    ensures { λ r. ⌜ WritesArrivals (now (times .entry)) (now (numbers .entry)) (now (marks .entry)) ssrc (now (out .entry)) r (now (out .exit)) ⌝ }
 {
     codes::length(write_arrivals(Form::One, times, numbers, marks, ssrc, out))
 }

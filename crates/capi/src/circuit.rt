@@ -1,9 +1,8 @@
 // The circuit breaker for C. A record is lent as 75 words; what a call answers is one number.
 ghost use mathlib.Core.Path.{_≡_};
 ghost use lib.ListN.{length};
-ghost use Rattle.lent.specs.BreakerWords.{breakerWords};
-ghost use Rattle.capi.specs.Codes.{Gives};
-ghost use Rattle.capi.specs.BreakerCalls.{answerCode, isRefused, refusalIn, recordIn, leftBy, callAnswer, callLeft, reports, ticks, starts, startCode};
+ghost use Rattle.capi.specs.Codes.{Leaves};
+ghost use Rattle.capi.specs.BreakerCalls.{answerCode, isRefused, recordIn, leftBy, PutsStart, StartsBreaker, TakesReport, TakesTick};
 use answers::Refusal;
 use breaker::Answer;
 use breaker::Breaker;
@@ -57,8 +56,7 @@ fn record_in(words: &[u64]) -> Loaded
 // Stores the next record in the place of the last, unless the call is refused, and gives the answer's number.
 fn put_back(step: Step, words: &mut [u64]) -> u16
     requires { ⌜ length (now words) ≡ 75 ⌝ }
-    ensures answers { λ r. ⌜ r ≡ answerCode (step .answer) ⌝ }
-    ensures stores { λ _. ⌜ now (words .exit) ≡ leftBy step (now (words .entry)) ⌝ }
+    ensures { λ r. ⌜ Leaves (answerCode (step .answer)) (leftBy step (now (words .entry))) r (now (words .exit)) ⌝ }
 {
     let answer = step.answer;
     let next = step.breaker;
@@ -71,7 +69,7 @@ fn put_back(step: Step, words: &mut [u64]) -> u16
 
 // Stores the record of a start at the front of the words, if there are enough, and gives the number of Go or of the refusal.
 fn put_front(step: Step, words: &mut [u64]) -> u16
-    ensures { λ r. ⌜ Gives startCode (refusalIn (step .answer)) (breakerWords (step .breaker)) (now (words .entry)) r (now (words .exit)) ⌝ }
+    ensures { λ r. ⌜ PutsStart step (now (words .entry)) r (now (words .exit)) ⌝ }
 {
     let answer = step.answer;
     let next = step.breaker;
@@ -95,7 +93,7 @@ pub extern "C" fn flasknib_breaker_start(
     time: u64,
     breaker: &mut [u64],
 ) -> u16
-    ensures { λ r. ⌜ Gives startCode (refusalIn (starts k m timeout reduce time .answer)) (breakerWords (starts k m timeout reduce time .breaker)) (now (breaker .entry)) r (now (breaker .exit)) ⌝ }
+    ensures { λ r. ⌜ StartsBreaker k m timeout reduce time (now (breaker .entry)) r (now (breaker .exit)) ⌝ }
 {
     if 1 < reduce {
         return code(Answer::Refused(Refusal::Limits));
@@ -120,8 +118,7 @@ pub extern "C" fn flasknib_breaker_report(
     size: u64,
     rate: u64,
 ) -> u16
-    ensures answers { λ r. ⌜ r ≡ callAnswer (reports time highest fraction rtt size rate) (now (breaker .entry)) ⌝ }
-    ensures stores { λ _. ⌜ now (breaker .exit) ≡ callLeft (reports time highest fraction rtt size rate) (now (breaker .entry)) ⌝ }
+    ensures { λ r. ⌜ TakesReport (now (breaker .entry)) time highest fraction rtt size rate r (now (breaker .exit)) ⌝ }
 {
     let given = record_in(breaker);
     if !given.ok {
@@ -142,8 +139,7 @@ pub extern "C" fn flasknib_breaker_report(
 // A tick on the record in `breaker`: the answer, and the next record in its place.
 #[no_mangle]
 pub extern "C" fn flasknib_breaker_tick(breaker: &mut [u64], time: u64) -> u16
-    ensures answers { λ r. ⌜ r ≡ callAnswer (ticks time) (now (breaker .entry)) ⌝ }
-    ensures stores { λ _. ⌜ now (breaker .exit) ≡ callLeft (ticks time) (now (breaker .entry)) ⌝ }
+    ensures { λ r. ⌜ TakesTick (now (breaker .entry)) time r (now (breaker .exit)) ⌝ }
 {
     let given = record_in(breaker);
     if !given.ok {

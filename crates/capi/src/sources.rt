@@ -9,17 +9,12 @@ use report::write_feedback;
 use report::write_summary;
 use source::Arrival;
 use source::BlockCount;
-ghost use mathlib.Core.Path.{_≡_};
-ghost use Rattle.report.specs.Reports.{fault, feedbackBytes, summaryBytes};
-ghost use Rattle.lent.specs.SourceWords.{sourceOf};
-ghost use Rattle.capi.specs.Codes.{lengthCode, Gives};
-ghost use Rattle.capi.specs.Sources.{recordFault, arriveAnswer, arriveWords, blockAnswer, blockWords};
+ghost use Rattle.capi.specs.Sources.{CountsArrival, CountsBlock, WritesFeedback, WritesSummary};
 
 // Counts one arrival. Gives 0 and the next record, or refusal 9, 10, 8 or 7.
 #[no_mangle]
 pub extern "C" fn flasknib_arrive(words: &mut [u64], wire: u16, mark: u8) -> u8
-    ensures { λ r. ⌜ r ≡ arriveAnswer (now (words .entry)) wire mark ⌝ }
-    ensures { λ _. ⌜ now (words .exit) ≡ arriveWords (now (words .entry)) wire mark ⌝ }
+    ensures { λ r. ⌜ CountsArrival (now (words .entry)) wire mark r (now (words .exit)) ⌝ }
 {
     if words.len() != WORDS {
         return 9;
@@ -36,8 +31,7 @@ pub extern "C" fn flasknib_arrive(words: &mut [u64], wire: u16, mark: u8) -> u8
 // Counts the records of one arrivals block. Gives the jumps and the next record, or minus refusal 9 or 10.
 #[no_mangle]
 pub extern "C" fn flasknib_count_block(words: &mut [u64], records: &[u8], width: usize) -> i64
-    ensures { λ r. ⌜ r ≡ blockAnswer (now (words .entry)) width (now (records .entry)) ⌝ }
-    ensures { λ _. ⌜ now (words .exit) ≡ blockWords (now (words .entry)) width (now (records .entry)) ⌝ }
+    ensures { λ r. ⌜ CountsBlock (now (words .entry)) width (now (records .entry)) r (now (words .exit)) ⌝ }
 {
     if words.len() != WORDS {
         return codes::minus(Refusal::Malformed);
@@ -59,7 +53,7 @@ pub extern "C" fn flasknib_write_feedback(
     media: u32,
     out: &mut [u8],
 ) -> i64
-    ensures { λ r. ⌜ Gives lengthCode (recordFault (now (words .entry)) (fault (sourceOf (now (words .entry))))) (feedbackBytes sender media (sourceOf (now (words .entry)))) (now (out .entry)) r (now (out .exit)) ⌝ }
+    ensures { λ r. ⌜ WritesFeedback (now (words .entry)) sender media (now (out .entry)) r (now (out .exit)) ⌝ }
 {
     if words.len() != WORDS {
         return codes::minus(Refusal::Malformed);
@@ -70,7 +64,7 @@ pub extern "C" fn flasknib_write_feedback(
 // Writes the XR ECN summary block. Gives its length, or minus refusal 9 or 12.
 #[no_mangle]
 pub extern "C" fn flasknib_write_summary(words: &[u64], media: u32, out: &mut [u8]) -> i64
-    ensures { λ r. ⌜ Gives lengthCode (recordFault (now (words .entry)) (fault (sourceOf (now (words .entry))))) (summaryBytes media (sourceOf (now (words .entry)))) (now (out .entry)) r (now (out .exit)) ⌝ }
+    ensures { λ r. ⌜ WritesSummary (now (words .entry)) media (now (out .entry)) r (now (out .exit)) ⌝ }
 {
     if words.len() != WORDS {
         return codes::minus(Refusal::Malformed);

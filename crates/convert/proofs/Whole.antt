@@ -45,11 +45,11 @@ row-written : (row out : List ℕ) → length row ≤ length out → (written no
 unfolding written stored
 row-written row out h = let t = le-ltb (length out) (length row) h in (rw t, rw t)
 
-abbrev kept : Run → List ℕ → Kept
+abbrev pub kept : Run → List ℕ → Kept
 kept run zeroth = record { run = run; zeroth = zeroth }
 
 -- what is printed from block i on
-abbrev rest : ℕ → List (List ℕ) → Run → List ℕ → Printed
+abbrev pub rest : ℕ → List (List ℕ) → Run → List ℕ → Printed
 rest i bs run zeroth = closed ecntable (walk ecntable i bs (kept run zeroth))
 
 -- a block that is refused ends the run, and one that is not is followed by the rest
@@ -66,7 +66,7 @@ module _ (zeroth : List ℕ) (i : ℕ) (b : List ℕ) (bs : List (List ℕ)) (ru
   rest-ends {refusal} e =
       by-next e ∙ closed-ends ecntable (turned i (taken (kept run zeroth) (refuses refusal))) more (record { refusal = refusal; block = i }) refl
 
-  rest-goes : {next : Run} → nextOf run b ≡ goes next → rest i (b ∷ bs) run zeroth ≡ both (toOutput (rowOf next zeroth)) (rest (suc i) bs next zeroth)
+  pub rest-goes : {next : Run} → nextOf run b ≡ goes next → rest i (b ∷ bs) run zeroth ≡ both (toOutput (rowOf next zeroth)) (rest (suc i) bs next zeroth)
   unfolding more
   rest-goes {next} e = by-next e ∙ closed-goes ecntable (turned i (taken (kept run zeroth) (goes next))) more refl
 
@@ -107,21 +107,29 @@ module _ (outs : ℕ → List ℕ) (zeroth : List ℕ) where
       let both-print = prints-both (rowOf next zeroth) (rest-goes zeroth i b bs run n) (rest-prints (suc i) bs next (o .1) (next-good run zeroth b next (o .0) g n) enough) in
       (calls-go zeroth i b bs run outs (call-next run zeroth b g ∙ n) room ∙ both-print .0, both-print .1)
 
+-- what is printed by what block 0 does
+printed-by : (trace : List ℕ) (r : Begin) → startOf (blocksOf trace .zeroth) ≡ r
+    → printed trace ≡ closed ecntable (onward (turned 0 (begun (blocksOf trace .zeroth) r)) (walk ecntable 1 (blocksOf trace .others)))
+unfolding printed printedBy walked
+printed-by trace r e = ap (λ (r : Begin). closed ecntable (onward (turned 0 (begun (blocksOf trace .zeroth) r)) (walk ecntable 1 (blocksOf trace .others)))) e
+
+pub printed-started : (trace : List ℕ) (run : Run) → startOf (blocksOf trace .zeroth) ≡ begin.Started run
+    → printed trace ≡ both (toOutput headBytes) (rest 1 (blocksOf trace .others) run (blocksOf trace .zeroth))
+printed-started trace run e =
+    printed-by trace (begin.Started run) e
+    ∙ closed-goes ecntable (turned 0 (begun (blocksOf trace .zeroth) (begin.Started run))) (walk ecntable 1 (blocksOf trace .others)) refl
+
 pub calls-print : CallsPrint
-unfolding printed printedBy walked blocksOf closed
+unfolding blocksOf closed
 calls-print outs trace o enough = go (startOf (blocksOf trace .zeroth)) refl enough
   where
     bs : Blocks
     bs = blocksOf trace
 
-    by-start : (r : Begin) → startOf (bs .zeroth) ≡ r → printed trace ≡ closed ecntable (onward (turned 0 (begun (bs .zeroth) r)) (walk ecntable 1 (bs .others)))
-    by-start r e = ap (λ (r : Begin). closed ecntable (onward (turned 0 (begun (bs .zeroth) r)) (walk ecntable 1 (bs .others)))) e
-
     go : (r : Begin) → startOf (bs .zeroth) ≡ r → EnoughBy outs bs r → Prints (headBytes ++ callsBy outs bs r) (printed trace)
     go (begin.Started run) e room =
-        prints-both headBytes
-        (by-start (begin.Started run) e ∙ closed-goes ecntable (turned 0 (begun (bs .zeroth) (begin.Started run))) (walk ecntable 1 (bs .others)) refl)
-        (rest-prints outs (bs .zeroth) 1 (bs .others) run (cut-octets (length trace) (drop blockBytes trace) (octets-drop blockBytes trace o)) (start-good (bs .zeroth) run e) room)
+        prints-both headBytes (printed-started trace run e)
+        (rest-prints outs (bs .zeroth) 1 (bs .others) run (cut-octets (length trace) (drop blockBytes trace) o) (start-good (bs .zeroth) run e) room)
     go (begin.Refused refusal) e room =
-        let q = by-start (begin.Refused refusal) e ∙ closed-ends ecntable (turned 0 (begun (bs .zeroth) (begin.Refused refusal))) (walk ecntable 1 (bs .others)) (record { refusal = refusal; block = 0 }) refl in
+        let q = printed-by trace (begin.Refused refusal) e ∙ closed-ends ecntable (turned 0 (begun (bs .zeroth) (begin.Refused refusal))) (walk ecntable 1 (bs .others)) (record { refusal = refusal; block = 0 }) refl in
         (ap (λ (p : Printed). p .out) (sym q), ap (λ (p : Printed). p .err) q)

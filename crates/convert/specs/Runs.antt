@@ -41,12 +41,13 @@ rowOf run zeroth = rowBytes (labelOf run zeroth) (run .ssrc) (run .totals)
 
 -- ---- block 0: a label
 
--- the refusal of a block of the wrong kind for its place, or of one that cannot be read
+-- the refusal of a block of the wrong kind for its place, 14, or of one that cannot be read
 abbrev pub faultOf : Block → Refusal
 faultOf (read.Label form n ssrc) = Contents
 faultOf (read.Arrivals form n ssrc) = Contents
 faultOf (read.Refused refusal) = refusal
 
+-- 14 for arrivals
 abbrev pub startBy : Block → Begin
 startBy (read.Label form n ssrc) = begin.Started (record { length = n; ssrc = ssrc; totals = freshTotals })
 startBy (read.Arrivals form n ssrc) = begin.Refused Contents
@@ -70,6 +71,7 @@ pub data Next : Type 0 where
   goes : Run → Next
   refuses : Refusal → Next
 
+-- 14 for another SSRC, and for a label
 abbrev pub nextBy : Run → List ℕ → Block → Next
 nextBy run b (read.Arrivals form n ssrc) = cond (eqb ssrc (run .ssrc)) (goes (arrived run form n b)) (refuses Contents)
 nextBy run b (read.Label form n ssrc) = refuses Contents
@@ -109,6 +111,7 @@ runConditions run zeroth =
 unfoldable pub soundRun : Run → List ℕ → Bool
 soundRun run zeroth = all (runConditions run zeroth)
 
+-- 9 first of all
 unfoldable pub callNext : Run → List ℕ → List ℕ → Next
 callNext run zeroth b = cond (soundRun run zeroth) (nextOf run b) (refuses Malformed)
 

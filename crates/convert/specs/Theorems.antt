@@ -2,9 +2,10 @@
 use mathlib.Core.Path.{_≡_}
 use mathlib.Core.List.{List, [], _∷_, _++_}
 use Prim.Native.Nat.{ℕ, suc, _≤_, _<_}
-use lib.ListN.{length, take, getD}
+use lib.ListN.{length, take, drop, getD}
 use Rattle.answers.specs.Refusals.{numberOf}
 use Rattle.answers.specs.declared.Refusal.{Refusal}
+use Rattle.format.specs.Blocks.{blockBytes}
 use Rattle.table.specs.Lines.{headBytes, refusedLine}
 use Rattle.walk.specs.Blocks.{Blocks, blocksOf}
 use Rattle.convert.specs.declared.Run.{Run}
@@ -43,8 +44,9 @@ abbrev pub EnoughBy : (ℕ → List ℕ) → Blocks → Begin → Type 0
 EnoughBy outs bs (begin.Started run) = Enough outs (bs .zeroth) 1 (bs .others) run
 EnoughBy outs bs (begin.Refused refusal) = Unit {0}
 
--- the head line and the calls over a trace's blocks give what ecntable prints on standard output, and it prints nothing else
+-- the head line and the calls over a trace's blocks give what ecntable prints on standard output, and it prints nothing else, where
+-- what stands behind block 0 are bytes
 abbrev pub CallsPrint : Type 0
 CallsPrint =
-    (outs : ℕ → List ℕ) (trace : List ℕ) → ((i : ℕ) → getD trace i 0 < 256) → EnoughBy outs (blocksOf trace) (startOf (blocksOf trace .zeroth))
+    (outs : ℕ → List ℕ) (trace : List ℕ) → ((i : ℕ) → getD (drop blockBytes trace) i 0 < 256) → EnoughBy outs (blocksOf trace) (startOf (blocksOf trace .zeroth))
     → (headBytes ++ callsBy outs (blocksOf trace) (startOf (blocksOf trace .zeroth)) ≡ printed trace .out) × (printed trace .err ≡ [])

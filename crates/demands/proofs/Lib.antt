@@ -5,6 +5,8 @@ pub mod Steps
 pub mod Order
 pub mod Runs
 pub mod Demand
-pub mod TableRow
+pub mod Traces
+pub mod PrintedTable
 pub mod ReadBack
 pub mod WorkedExamples
+pub mod Witnesses

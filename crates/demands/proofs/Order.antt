@@ -88,7 +88,7 @@ tally-sum m (p ∷ ps) = ap (λ (n : ℕ). n + bit (eqb (p .mark) m)) (tally-sum
 perm-tally : (m : ℕ) {ps qs : List TruePacket} → List·Permᴰ ps qs → tally m ps ≡ tally m qs
 perm-tally m {ps} {qs} r = tally-sum m ps ∙ perm-sum (λ p. bit (eqb (p .mark) m)) r ∙ sym (tally-sum m qs)
 
-perm-length : {ps qs : List TruePacket} → List·Permᴰ ps qs → length ps ≡ length qs
+pub perm-length : {ps qs : List TruePacket} → List·Permᴰ ps qs → length ps ≡ length qs
 perm-length List·Permᴰ·nil = refl
 perm-length (List·Permᴰ·cons e r) = ap suc (perm-length r)
 perm-length (List·Permᴰ·swap e f) = refl

@@ -1,6 +1,6 @@
 -- Written reports read back. Assumes nothing.
 use mathlib.Core.Path.{_≡_, refl, sym, ap, _∙_}
-use mathlib.Core.List.{List, [], _++_}
+use mathlib.Core.List.{List, [], _∷_, _++_, flatMap}
 use Prim.Native.Nat.{ℕ, _+_, _^_, _<_}
 use native.Mathlib.Nat.{add-zero, mod-eq-of-lt}
 use native.Mathlib.Omega.{arith}
@@ -18,13 +18,12 @@ use Rattle.rtcp.specs.declared.MaybeReport.{MaybeReport}
 use Rattle.rtcp.specs.declared.MaybeFeedback.{MaybeFeedback}
 use Rattle.rtcp.specs.declared.MaybeSummary.{MaybeSummary}
 use Rattle.rtcp.specs.declared.Reading.{Reading}
-use Rattle.rtcp.specs.Header.{padding}
-use Rattle.rtcp.specs.Packets.{isReport, isFeedback, blocksFrom, paddingRight, bodyRight, mayStand, packetVerdict}
+use Rattle.rtcp.specs.Header.{headerAt, padding}
+use Rattle.rtcp.specs.Packets.{isReport, isFeedback, blocksFrom, paddingRight, bodyRight, mayStand}
 use Rattle.rtcp.specs.Entries.{entryFor}
 use Rattle.rtcp.specs.ReportBlocks.{reportIn}
-use Rattle.rtcp.specs.EcnReports.{counts, feedback, feedbackIn, isSummary, summaryIn}
-use Rattle.rtcp.specs.Walk.{walk}
-use Rattle.rtcp.specs.Compound.{withPacket, withBlock, reading}
+use Rattle.rtcp.specs.EcnReports.{counts, feedback, feedbackIn, blockAt, isSummary, summaryIn}
+use Rattle.rtcp.specs.Compound.{beginsIn, firstFeedback, firstSummary, blocks, reading}
 use Rattle.demands.specs.RoundTrip.{emptyRr, xrPacket, FeedbackReadsBack, SummaryReadsBack, NothingMadeUp}
 
 -- ---- a field in the middle of a packet
@@ -92,14 +91,25 @@ module _ (c : Counts) (f : Fits c) where
 
 -- ---- the whole compounds
 
+-- the second packet of the one, and the block in that of the other
+abbrev feedbackBehind : ℕ → ℕ → ℕ → ℕ → Counts → MaybeFeedback
+feedbackBehind from sender media highest c =
+    let b : List ℕ = emptyRr from ++ feedbackOf sender media highest c in
+    feedbackIn (headerAt b 8) b 8 media
+
+abbrev summaryBehind : ℕ → ℕ → Counts → MaybeSummary
+summaryBehind from media c =
+    let b : List ℕ = emptyRr from ++ xrPacket from (summaryOf media c) in
+    summaryIn (blockAt b 16) b 16 media
+
 feedback-scan : (from sender media highest : ℕ) (c : Counts)
     → reading (emptyRr from ++ feedbackOf sender media highest c) media
     ≡ Reading.Read (record {
       report = MaybeReport.Absent;
-      feedback = feedbackIn (emptyRr from ++ feedbackOf sender media highest c) 8 media;
+      feedback = firstFeedback (feedbackBehind from sender media highest c ∷ []);
       summary = MaybeSummary.Absent;
     })
-unfolding reading walk packetVerdict padding paddingRight mayStand bodyRight isReport isFeedback blocksFrom reportIn entryFor withPacket feedbackIn word bytes emptyRr feedbackOf countsBytes
+unfolding reading flatMap beginsIn blocks headerAt padding paddingRight mayStand bodyRight isReport isFeedback blocksFrom reportIn entryFor feedbackIn word bytes emptyRr feedbackOf countsBytes
 feedback-scan from sender media highest c = refl
 
 summary-scan : (from media : ℕ) (c : Counts)
@@ -107,17 +117,17 @@ summary-scan : (from media : ℕ) (c : Counts)
     ≡ Reading.Read (record {
       report = MaybeReport.Absent;
       feedback = MaybeFeedback.Absent;
-      summary = summaryIn (emptyRr from ++ xrPacket from (summaryOf media c)) 16 media;
+      summary = firstSummary (summaryBehind from media c ∷ []);
     })
-unfolding reading walk packetVerdict padding paddingRight mayStand bodyRight isReport isFeedback blocksFrom reportIn entryFor withPacket withBlock feedbackIn summaryIn isSummary word bytes emptyRr xrPacket summaryOf countsBytes
+unfolding reading flatMap beginsIn blocks headerAt padding paddingRight mayStand bodyRight isReport isFeedback blocksFrom reportIn entryFor feedbackIn summaryIn blockAt isSummary word bytes emptyRr xrPacket summaryOf countsBytes
 summary-scan from media c = refl
 
 -- ---- what is found in them
 
 module _ (from media : ℕ) (c : Counts) (f : Fits c) (m : media < 2 ^ 32) where
   feedback-found : (sender highest : ℕ) → sender < 2 ^ 32 → highest < 2 ^ 32
-      → feedbackIn (emptyRr from ++ feedbackOf sender media highest c) 8 media ≡ MaybeFeedback.Present (record { sender = sender; highest = highest; counts = c })
-  unfolding feedbackIn isFeedback feedback emptyRr feedbackOf bytes
+      → feedbackBehind from sender media highest c ≡ MaybeFeedback.Present (record { sender = sender; highest = highest; counts = c })
+  unfolding headerAt feedbackIn isFeedback feedback emptyRr feedbackOf bytes
   feedback-found sender highest hs hh =
       let head : List ℕ = emptyRr from ++ bytes 4 0x88CD0007 in
       let b : List ℕ = emptyRr from ++ feedbackOf sender media highest c in
@@ -129,8 +139,8 @@ module _ (from media : ℕ) (c : Counts) (f : Fits c) (m : media < 2 ^ 32) where
         counts = counts-back c f (head ++ bytes 4 sender ++ bytes 4 media ++ bytes 4 highest) i;
       }))
 
-  summary-found : summaryIn (emptyRr from ++ xrPacket from (summaryOf media c)) 16 media ≡ MaybeSummary.Present c
-  unfolding summaryIn isSummary entryFor emptyRr xrPacket summaryOf countsBytes word bytes
+  summary-found : summaryBehind from media c ≡ MaybeSummary.Present c
+  unfolding blockAt summaryIn isSummary entryFor emptyRr xrPacket summaryOf countsBytes word bytes
   summary-found =
       let head : List ℕ = emptyRr from ++ bytes 4 0x80CF0007 ++ bytes 4 from ++ bytes 4 0x0D000005 in
       let b : List ℕ = emptyRr from ++ xrPacket from (summaryOf media c) in
@@ -140,15 +150,15 @@ module _ (from media : ℕ) (c : Counts) (f : Fits c) (m : media < 2 ^ 32) where
 pub feedback-reads-back : FeedbackReadsBack
 feedback-reads-back s from sender media hs hm =
     feedback-scan from sender media (highestOf s) (countsOf s)
-    ∙ ap (λ (f : MaybeFeedback). Reading.Read (record { report = MaybeReport.Absent; feedback = f; summary = MaybeSummary.Absent }))
+    ∙ ap (λ (f : MaybeFeedback). Reading.Read (record { report = MaybeReport.Absent; feedback = firstFeedback (f ∷ []); summary = MaybeSummary.Absent }))
     (feedback-found from media (countsOf s) (counts-fit s) hm sender (highestOf s) hs (modulo-lt (2 ^ 32) (omega arith) (s .highest .0)))
 
 pub summary-reads-back : SummaryReadsBack
 summary-reads-back s from media hm =
     summary-scan from media (countsOf s)
-    ∙ ap (λ (f : MaybeSummary). Reading.Read (record { report = MaybeReport.Absent; feedback = MaybeFeedback.Absent; summary = f }))
+    ∙ ap (λ (f : MaybeSummary). Reading.Read (record { report = MaybeReport.Absent; feedback = MaybeFeedback.Absent; summary = firstSummary (f ∷ []) }))
     (summary-found from media (countsOf s) (counts-fit s) hm)
 
 pub nothing-made-up : NothingMadeUp
-unfolding reading walk packetVerdict padding paddingRight mayStand bodyRight isReport isFeedback blocksFrom reportIn entryFor withPacket feedbackIn word bytes emptyRr
+unfolding reading flatMap beginsIn blocks headerAt padding paddingRight mayStand bodyRight isReport isFeedback blocksFrom reportIn entryFor feedbackIn word bytes emptyRr
 nothing-made-up from media = refl

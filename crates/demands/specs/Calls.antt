@@ -68,6 +68,5 @@ Steady (p ∷ ps) = (pos 0 ≤ℤ p .number) × (p .number ≤ℤ pos 65535) × 
 
 -- a list of calls as the user describes it
 pub record Described (ps : List TruePacket) : Type 0 where
-  pub some : 1 ≤ length (arrivals ps)
   pub few : length (arrivals ps) ≤ 2 ^ 48
   pub steady : Steady (arrivals ps)

@@ -7,12 +7,16 @@
 use mathlib.Core.Path.{_≡_}
 use mathlib.Core.List.{List}
 use mathlib.Core.Option.{none}
-use Prim.Native.Nat.{ℕ, _^_}
+use mathlib.Core.Bool.{true}
+use Prim.Native.Nat.{ℕ, _^_, _≤_}
 use Rattle.numbers.specs.Integers.{modulo}
 use Rattle.source.specs.Record.{freshRecord}
 use Rattle.report.specs.Reports.{fault, feedbackOf, feedbackBytes, summaryOf, summaryBytes}
+use Rattle.source.specs.Totals.{mostJumped}
+use Rattle.trace.specs.Contents.{labelOk}
 use Rattle.demands.specs.Calls.{TruePacket, AnsweredFrom, arrivals, run, Described}
 use Rattle.demands.specs.Count.{baseOf, highestOf, count, countsIn, SameArrivals}
+use Rattle.demands.specs.TableRow.{Row}
 
 pub record Outcome (ps : List TruePacket) : Type 0 where
   -- every arrival is accepted, and every call with a mark above 3 is refused with 10 and the given state
@@ -24,6 +28,8 @@ pub record Outcome (ps : List TruePacket) : Type 0 where
   pub feedback : (sender media : ℕ)
       → feedbackBytes sender media (run ps) ≡ feedbackOf sender media (modulo (2 ^ 32) (highestOf (arrivals ps))) (countsIn (arrivals ps))
   pub summary : (media : ℕ) → summaryBytes media (run ps) ≡ summaryOf media (countsIn (arrivals ps))
+  -- and so does a row of the table, with any label that a trace can have
+  pub row : (label : List ℕ) (ssrc jumped : ℕ) → labelOk label ≡ true → jumped ≤ mostJumped → Row ps label ssrc jumped
   -- any other such list with the same arrivals and the same first one ends in the same state
   pub order : (qs : List TruePacket) → Described qs → SameArrivals (arrivals ps) (arrivals qs) → baseOf (arrivals ps) ≡ baseOf (arrivals qs) → run ps ≡ run qs
 

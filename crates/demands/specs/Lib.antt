@@ -1,6 +1,8 @@
 pub mod Calls
 pub mod Count
 pub mod RoundTrip
-pub mod Demand3
 pub mod TableRow
+pub mod Demand3
+pub mod PrintedTable
 pub mod Examples
+pub mod Witnesses

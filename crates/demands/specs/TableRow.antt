@@ -1,15 +1,12 @@
 -- Demand 3 in the table: "every report written from it carries that count", and so does a row (document 01, "Table": the full values).
 use mathlib.Core.Path.{_≡_}
-use mathlib.Core.Bool.{true}
 use mathlib.Core.List.{List, [], _∷_}
 use mathlib.Core.Option.{none}
-use Prim.Native.Nat.{ℕ, _≤_}
-use Rattle.source.specs.Totals.{mostJumped}
-use Rattle.trace.specs.Contents.{labelOk}
+use Prim.Native.Nat.{ℕ}
 use Rattle.table.specs.Decimal.{decimal, signed}
 use Rattle.table.specs.Field.{asField, line}
 use Rattle.table.specs.Lines.{rowFault, rowBytes}
-use Rattle.demands.specs.Calls.{TruePacket, arrivals, run, Described}
+use Rattle.demands.specs.Calls.{TruePacket, arrivals, run}
 use Rattle.demands.specs.Count.{highestOf, duplicatesOf, tally, lostOf}
 
 -- the texts of a row's numbers, from the count over a list of arrivals
@@ -26,11 +23,11 @@ countTexts ssrc ps jumped =
     ∷ decimal jumped
     ∷ []
 
--- the row of the state at the end of a list of calls, with any label that a trace can have: it is not refused, and has the count's values
+-- the label, and these texts
+abbrev pub countRow : List ℕ → ℕ → List TruePacket → ℕ → List ℕ
+countRow label ssrc ps jumped = line (asField label) (countTexts ssrc ps jumped)
+
+-- the row of the state at the end of a list of calls: it is not refused, and has the count's values
 pub record Row (ps : List TruePacket) (label : List ℕ) (ssrc jumped : ℕ) : Type 0 where
   pub accepted : rowFault label (record { source = run ps; jumped = jumped }) ≡ none
-  pub bytes : rowBytes label ssrc (record { source = run ps; jumped = jumped }) ≡ line (asField label) (countTexts ssrc (arrivals ps) jumped)
-
-abbrev pub RowCarriesCount : Type 0
-RowCarriesCount =
-    (ps : List TruePacket) → Described ps → (label : List ℕ) (ssrc jumped : ℕ) → labelOk label ≡ true → jumped ≤ mostJumped → Row ps label ssrc jumped
+  pub bytes : rowBytes label ssrc (record { source = run ps; jumped = jumped }) ≡ countRow label ssrc (arrivals ps) jumped

@@ -70,6 +70,11 @@ unfolding intervalWords
 length-words [] = refl
 length-words (x ∷ xs) = omega (arith, length-words xs)
 
+pub length-intervals : (n : ℕ) (ws : List ℕ) → length (intervalsOf n ws) ≡ n
+unfolding intervalsOf
+length-intervals zero ws = refl
+length-intervals (suc n) ws = ap suc (length-intervals n (drop 2 ws))
+
 pub length-breaker : (b : Breaker) → length (b .window .intervals) ≡ 32 → length (breakerWords b) ≡ 75
 unfolding breakerWords
 length-breaker b h = omega (arith, length-words (b .window .intervals))

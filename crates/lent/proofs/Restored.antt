@@ -3,7 +3,7 @@ use mathlib.Core.Path.{_≡_, refl, sym, ap, _∙_}
 use mathlib.Core.Bool.{Bool, true, false, _&&_}
 use mathlib.Core.List.{List, [], _∷_, _++_}
 use Prim.Native.Nat.{ℕ, zero, suc, _+_, _%_, _^_, _≤_, _<_}
-use native.Mathlib.Nat.{add-zero}
+use native.Mathlib.Nat.{add-zero, mod-lt}
 use native.Mathlib.Omega.{arith}
 use borrow.Author.Tests.{leb-true, ltb-true, lt-ltb}
 use lib.Dec.{leb, ltb, eqb}
@@ -14,8 +14,8 @@ use Rattle.answers.proofs.Conditions.{all-true}
 use Rattle.breaker.specs.declared.Reason.the-variants.{Timeout, Media, Congestion}
 use Rattle.breaker.specs.declared.State.{State}
 use Rattle.breaker.specs.declared.State.the-variants.{Running, Stopped}
-use Rattle.lent.specs.BreakerWords.{flag, stateNumber, stateOf, breakerWords, settingsOf, windowOf, breakerOf, wordsFit, BreakerRestored, WordsRestored}
-use Rattle.lent.proofs.Pairs.{intervals-back, words-back}
+use Rattle.lent.specs.BreakerWords.{flag, stateNumber, stateOf, breakerWords, settingsOf, windowOf, breakerOf, wordsFit, BreakerRestored, ReadTyped, WordsRestored}
+use Rattle.lent.proofs.Pairs.{length-intervals, intervals-back, words-back}
 
 -- ---- one word
 
@@ -72,6 +72,10 @@ breaker-restored b t =
           },
       λ i. flag-fits (b .settings .reduce) i && (state-fits (b .state) i && (flag-fits (b .reported) i && (fits i && (flag-fits (b .trial) i && true)))),
     )
+
+pub read-typed : ReadTyped
+unfolding breakerOf windowOf
+read-typed ws = record { number = mod-lt (getD ws 7 0) (omega arith); places = length-intervals 32 (drop 11 ws) }
 
 -- the n words from `at` on, and a list by its first words
 unfoldable gets : ℕ → ℕ → List ℕ → List ℕ

@@ -2,7 +2,7 @@
 use mathlib.Core.Path.{_≡_}
 use mathlib.Core.Bool.{Bool, true, cond}
 use mathlib.Core.List.{List, [], _∷_}
-use Prim.Native.Nat.{ℕ, zero, suc, _%_, _^_, _<_}
+use Prim.Native.Nat.{ℕ, zero, suc, _%_, _^_}
 use lib.Dec.{leb, ltb, eqb}
 use lib.ListN.{length, drop, getD}
 use Rattle.answers.specs.Conditions.{all}
@@ -14,6 +14,7 @@ use Rattle.breaker.specs.declared.Interval.{Interval}
 use Rattle.breaker.specs.declared.Window.{Window}
 use Rattle.breaker.specs.declared.Breaker.{Breaker}
 use Rattle.breaker.specs.Answers.{reasonNumber}
+use Rattle.breaker.specs.Theorems.{Typed}
 use Rattle.lent.specs.declared.breaker_words.Loaded.{Loaded}
 
 -- ---- the words of a record
@@ -93,13 +94,12 @@ loaded ws = record { ok = all (wordsFit ws); breaker = breakerOf ws }
 
 -- ---- both ways are inverse
 
--- the record's numbers fit their words: the highest number has 32 bits and there are 32 intervals, as their types say
-pub record Typed (b : Breaker) : Type 0 where
-  pub number : b .highest < 2 ^ 32
-  pub places : length (b .window .intervals) ≡ 32
-
 abbrev pub BreakerRestored : Type 0
 BreakerRestored = (b : Breaker) → Typed b → (breakerOf (breakerWords b) ≡ b) × (all (wordsFit (breakerWords b)) ≡ true)
 
 abbrev pub WordsRestored : Type 0
 WordsRestored = (ws : List ℕ) → length ws ≡ 75 → all (wordsFit ws) ≡ true → breakerWords (breakerOf ws) ≡ ws
+
+-- whatever the words, what they are read as fits its types
+abbrev pub ReadTyped : Type 0
+ReadTyped = (ws : List ℕ) → Typed (breakerOf ws)

@@ -2,7 +2,5 @@
 pub mod Whole
 pub mod Places
 pub mod Narrow
-pub mod Scans
-pub mod Turns
-pub mod Chains
-pub mod JustWhatIsThere
+pub mod Begins
+pub mod Left

@@ -1,7 +1,8 @@
 -- The compound reader (document 01, "Packets" and the order of refusals). `b` is the compound, asked about the source `media`.
-use Prim.Native.Nat.{ℕ, _+_}
+use Prim.Native.Nat.{ℕ, zero, suc, _+_, _-_}
+use mathlib.Core.Path.{_≡_}
 use mathlib.Core.Bool.{cond}
-use mathlib.Core.List.{List, [], _∷_}
+use mathlib.Core.List.{List, [], _∷_, _++_, map, flatMap}
 use lib.Dec.{ltb, leb, eqb}
 use lib.ListN.{length}
 use Rattle.answers.specs.declared.Refusal.the-variants.{Incomplete, BlockSize, Limits}
@@ -12,70 +13,77 @@ use Rattle.rtcp.specs.declared.Compound.{Compound}
 use Rattle.rtcp.specs.declared.Reading.{Reading}
 use Rattle.rtcp.specs.declared.Verdict.{Verdict}
 use Rattle.rtcp.specs.Layout.{xr, xrHead, compoundMost}
-use Rattle.rtcp.specs.Header.{kind, size}
-use Rattle.rtcp.specs.Packets.{Check, must, firstFault, bodyEnd, packetVerdict}
+use Rattle.rtcp.specs.Header.{size, headerAt}
+use Rattle.rtcp.specs.Packets.{Check, must, firstFault, bodyEnd, packetChecks}
 use Rattle.rtcp.specs.ReportBlocks.{reportIn}
-use Rattle.rtcp.specs.EcnReports.{feedbackIn, summaryIn}
-use Rattle.rtcp.specs.Walk.{Turn, go, stop, scan}
+use Rattle.rtcp.specs.EcnReports.{feedbackIn, blockAt, summaryIn}
 
--- what came first stays
-abbrev pub firstReport : MaybeReport → MaybeReport → MaybeReport
-firstReport (MaybeReport.Present x) new = MaybeReport.Present x
-firstReport MaybeReport.Absent new = new
+-- where packets begin, or the blocks of a packet: at `from` and behind each of them, below `end`; in at most so many turns
+unfoldable pub beginsIn : ℕ → List ℕ → ℕ → ℕ → List ℕ
+beginsIn zero b from end = []
+beginsIn (suc turns) b from end = cond (ltb from end) (from ∷ beginsIn turns b (from + size b from) end) []
 
-abbrev pub firstFeedback : MaybeFeedback → MaybeFeedback → MaybeFeedback
-firstFeedback (MaybeFeedback.Present x) new = MaybeFeedback.Present x
-firstFeedback MaybeFeedback.Absent new = new
+abbrev pub begins : List ℕ → ℕ → ℕ → List ℕ
+begins b from end = beginsIn (end - from) b from end
 
-abbrev pub firstSummary : MaybeSummary → MaybeSummary → MaybeSummary
-firstSummary (MaybeSummary.Present x) new = MaybeSummary.Present x
-firstSummary MaybeSummary.Absent new = new
+-- the turns are always enough, so that nobody has to count them
+abbrev pub BeginsFollow : Type 0
+BeginsFollow = (b : List ℕ) (from end : ℕ) → begins b from end ≡ cond (ltb from end) (from ∷ begins b (from + size b from) end) []
 
-abbrev pub nothing : Compound
-nothing = record { report = MaybeReport.Absent; feedback = MaybeFeedback.Absent; summary = MaybeSummary.Absent }
+-- the first that is present
+abbrev pub firstReport : List MaybeReport → MaybeReport
+firstReport [] = MaybeReport.Absent
+firstReport (MaybeReport.Present r ∷ rest) = MaybeReport.Present r
+firstReport (MaybeReport.Absent ∷ rest) = firstReport rest
+
+abbrev pub firstFeedback : List MaybeFeedback → MaybeFeedback
+firstFeedback [] = MaybeFeedback.Absent
+firstFeedback (MaybeFeedback.Present f ∷ rest) = MaybeFeedback.Present f
+firstFeedback (MaybeFeedback.Absent ∷ rest) = firstFeedback rest
+
+abbrev pub firstSummary : List MaybeSummary → MaybeSummary
+firstSummary [] = MaybeSummary.Absent
+firstSummary (MaybeSummary.Present c ∷ rest) = MaybeSummary.Present c
+firstSummary (MaybeSummary.Absent ∷ rest) = firstSummary rest
 
 -- what is refused gives nothing else
-abbrev pub unlessFaulty : {A : Type 0} → Verdict → (Reading → A) → A → A
-unlessFaulty Verdict.Sound refused rest = rest
-unlessFaulty (Verdict.Faulty refusal) refused rest = refused (Reading.Refused refusal)
+abbrev pub unlessFaulty : Verdict → Compound → Reading
+unlessFaulty Verdict.Sound found = Reading.Read found
+unlessFaulty (Verdict.Faulty refusal) found = Reading.Refused refusal
 
-abbrev pub sizeChecks : List ℕ → List Check
-sizeChecks b =
-    must (leb 1 (length b)) Incomplete
-    ∷ must (leb (length b) compoundMost) Limits
-    ∷ []
+module _ (b : List ℕ) where
+  abbrev pub packets : List ℕ
+  packets = begins b 0 (length b)
 
-module _ (b : List ℕ) (media : ℕ) where
-  -- what is found with the packet at `at`, and with the XR block at `at`
-  unfoldable pub withPacket : ℕ → Compound → Compound
-  withPacket at found =
-      record {
-        report = firstReport (found .report) (reportIn b at media);
-        feedback = firstFeedback (found .feedback) (feedbackIn b at media);
-        summary = found .summary;
-      }
+  -- the blocks of the packet at `at`: only an XR packet has any
+  unfoldable pub blocks : ℕ → List ℕ
+  blocks at = cond (eqb (headerAt b at .kind) xr) (begins b (at + xrHead) (bodyEnd (headerAt b at) b at)) []
 
-  unfoldable pub withBlock : ℕ → Compound → Compound
-  withBlock at found =
-      record { report = found .report; feedback = found .feedback; summary = firstSummary (found .summary) (summaryIn b at media) }
+  -- 1 if empty, 10
+  abbrev pub sizeChecks : List Check
+  sizeChecks =
+      must (leb 1 (length b)) Incomplete
+      ∷ must (leb (length b) compoundMost) Limits
+      ∷ []
 
-  -- an XR block that passes its packet is refused (no header is cut off, since all sizes are multiples of 4)
-  abbrev pub blockTurn : ℕ → ℕ → Compound → Turn Compound (Turn Compound Reading)
-  blockTurn end at found =
-      cond (ltb end (at + size b at)) (stop (stop (Reading.Refused BlockSize)))
-      (go (at + size b at) (withBlock at found))
+  -- 6: an XR block ends inside its packet (its header does, since all sizes are multiples of 4)
+  abbrev pub blockCheck : ℕ → ℕ → Check
+  blockCheck end at = must (leb (at + size b at) end) BlockSize
 
-  -- an XR packet is walked block by block; any other is read at once
-  abbrev pub contents : ℕ → Compound → Turn Compound Reading
-  contents at found =
-      cond (eqb (kind b at) xr)
-      (scan (blockTurn (bodyEnd b at)) (go (at + size b at)) (at + xrHead) (bodyEnd b at) found)
-      (go (at + size b at) (withPacket at found))
+  -- 1, 2, 4 (end), 5, 3, 4 (body), 6; only the packet at the front has to be an SR or an RR
+  abbrev pub checksOf : ℕ → List Check
+  checksOf at = packetChecks (eqb at 0) (headerAt b at) b at ++ map (blockCheck (bodyEnd (headerAt b at) b at)) (blocks at)
 
-  -- only the packet at the front has to be an SR or an RR
-  abbrev pub packetTurn : ℕ → Compound → Turn Compound Reading
-  packetTurn at found = unlessFaulty (packetVerdict (eqb at 0) b at) stop (contents at found)
+  module _ (media : ℕ) where
+    -- the first of each about `media`
+    abbrev pub found : Compound
+    found =
+        record {
+          report = firstReport (map (λ at. reportIn (headerAt b at) b at media) packets);
+          feedback = firstFeedback (map (λ at. feedbackIn (headerAt b at) b at media) packets);
+          summary = firstSummary (map (λ at. summaryIn (blockAt b at) b at media) (flatMap blocks packets));
+        }
 
-  -- 1 if empty, 10, then packet by packet
-  unfoldable pub reading : Reading
-  reading = unlessFaulty (firstFault (sizeChecks b)) (λ refused. refused) (scan packetTurn Reading.Read 0 (length b) nothing)
+    -- 1 if empty, 10, then packet by packet; the first fault ends it
+    unfoldable pub reading : Reading
+    reading = unlessFaulty (firstFault (sizeChecks ++ flatMap checksOf packets)) found

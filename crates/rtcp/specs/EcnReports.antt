@@ -10,6 +10,8 @@ use Rattle.rtcp.specs.declared.Feedback.{Feedback}
 use Rattle.rtcp.specs.declared.MaybeFeedback.{MaybeFeedback}
 use Rattle.rtcp.specs.declared.MaybeSummary.{MaybeSummary}
 use Rattle.rtcp.specs.declared.Place.{Place}
+use Rattle.rtcp.specs.declared.header.Header.{Header}
+use Rattle.rtcp.specs.declared.header.XrBlock.{XrBlock}
 use Rattle.rtcp.specs.Layout.{ecnSummary, header, entrySize, entryWords}
 use Rattle.rtcp.specs.Packets.{isFeedback}
 use Rattle.rtcp.specs.Entries.{entryFor}
@@ -30,25 +32,25 @@ counts b at =
 unfoldable pub feedback : List ℕ → ℕ → Feedback
 feedback b at = record { sender = word 4 b (at + 4); highest = word 4 b (at + 12); counts = counts b (at + 16) }
 
--- the packet at `at`, where it is ECN feedback about `media`
-unfoldable pub feedbackIn : List ℕ → ℕ → ℕ → MaybeFeedback
-feedbackIn b at media =
-    cond (isFeedback b at && eqb (word 4 b (at + 8)) media) (MaybeFeedback.Present (feedback b at)) MaybeFeedback.Absent
+-- the packet at `at`, with the header `h`, where it is ECN feedback about `media`
+unfoldable pub feedbackIn : Header → List ℕ → ℕ → ℕ → MaybeFeedback
+feedbackIn h b at media =
+    cond (isFeedback h && eqb (word 4 b (at + 8)) media) (MaybeFeedback.Present (feedback b at)) MaybeFeedback.Absent
 
--- the length of the XR block at `at`, in words without its first
-abbrev pub blockWords : List ℕ → ℕ → ℕ
-blockWords b at = word 2 b (at + 2)
+-- the XR block at `at`: its type, and its length in words without its first
+unfoldable pub blockAt : List ℕ → ℕ → XrBlock
+blockAt b at = record { kind = getD b at 0; words = word 2 b (at + 2) }
 
 -- an ECN summary block; one whose length is no multiple of 5 is passed over
-unfoldable pub isSummary : List ℕ → ℕ → Bool
-isSummary b at = eqb (getD b at 0) ecnSummary && eqb (blockWords b at % entryWords) 0
+unfoldable pub isSummary : XrBlock → Bool
+isSummary block = eqb (block .kind) ecnSummary && eqb (block .words % entryWords) 0
 
 -- an entry is its SSRC and the counters
 abbrev pub summaryAt : List ℕ → Place → MaybeSummary
 summaryAt b (Place.At at) = MaybeSummary.Present (counts b (at + 4))
 summaryAt b Place.Absent = MaybeSummary.Absent
 
--- the first entry about `media` in the XR block at `at`
-unfoldable pub summaryIn : List ℕ → ℕ → ℕ → MaybeSummary
-summaryIn b at media =
-    cond (isSummary b at) (summaryAt b (entryFor entrySize (blockWords b at / entryWords) b (at + header) media)) MaybeSummary.Absent
+-- the first entry about `media` in this XR block at `at`
+unfoldable pub summaryIn : XrBlock → List ℕ → ℕ → ℕ → MaybeSummary
+summaryIn block b at media =
+    cond (isSummary block) (summaryAt b (entryFor entrySize (block .words / entryWords) b (at + header) media)) MaybeSummary.Absent

@@ -4,6 +4,4 @@ pub mod Packets
 pub mod Entries
 pub mod ReportBlocks
 pub mod EcnReports
-pub mod Walk
 pub mod Compound
-pub mod Present

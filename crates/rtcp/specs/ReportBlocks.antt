@@ -8,8 +8,8 @@ use Rattle.numbers.specs.Since.{signed}
 use Rattle.rtcp.specs.declared.ReportBlock.{ReportBlock}
 use Rattle.rtcp.specs.declared.MaybeReport.{MaybeReport}
 use Rattle.rtcp.specs.declared.Place.{Place}
+use Rattle.rtcp.specs.declared.header.Header.{Header}
 use Rattle.rtcp.specs.Layout.{reportSize}
-use Rattle.rtcp.specs.Header.{count}
 use Rattle.rtcp.specs.Packets.{isReport, blocksFrom}
 use Rattle.rtcp.specs.Entries.{entryFor}
 
@@ -29,7 +29,7 @@ abbrev pub reportAt : List ℕ → Place → MaybeReport
 reportAt b (Place.At at) = MaybeReport.Present (reportBlock b at)
 reportAt b Place.Absent = MaybeReport.Absent
 
--- the first report block about `media` in the packet at `at`
-unfoldable pub reportIn : List ℕ → ℕ → ℕ → MaybeReport
-reportIn b at media =
-    cond (isReport b at) (reportAt b (entryFor reportSize (count b at) b (at + blocksFrom b at) media)) MaybeReport.Absent
+-- the first report block about `media` in the packet at `at`, with the header `h`
+unfoldable pub reportIn : Header → List ℕ → ℕ → ℕ → MaybeReport
+reportIn h b at media =
+    cond (isReport h) (reportAt b (entryFor reportSize (h .count) b (at + blocksFrom h) media)) MaybeReport.Absent

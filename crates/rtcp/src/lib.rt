@@ -1,22 +1,25 @@
 // Compound RTCP (RFC 3550, section 6.1), read for one media source: its report block, its ECN feedback and its ECN summary entry
 // (RFC 6679, section 5).
 ghost use mathlib.Core.Path.{_≡_};
-ghost use Rattle.rtcp.specs.Compound.{reading};
-use crate::found::with_block;
-use crate::found::with_packet;
-use crate::header::kind_at;
+ghost use mathlib.Core.List.{flatMap};
+ghost use Rattle.rtcp.specs.Packets.{firstFault};
+ghost use Rattle.rtcp.specs.Compound.{packets, checksOf, found, unlessFaulty, reading};
+use crate::ecn::first_feedback;
+use crate::ecn::first_summary;
+use crate::header::block_at;
+use crate::header::header_at;
 use crate::header::padding_at;
-use crate::header::size_at;
 use crate::layout::COMPOUND_MOST;
 use crate::layout::XR;
 use crate::layout::XR_HEAD;
 use crate::packet::packet_verdict;
+use crate::reports::first_report;
 use answers::Refusal;
 use format::Counts;
 
 mod ecn;
 mod entries;
-mod found;
+mod fields;
 mod header;
 mod layout;
 mod packet;
@@ -80,46 +83,70 @@ enum Place {
     Absent,
 }
 
-// What the compound in `bytes` says of the source `media`, or its first fault.
-pub fn read_compound(bytes: &[u8], media: u32) -> Reading
-    ensures { λ r. ⌜ r ≡ reading (now (bytes .entry)) media ⌝ }
+// What is refused gives nothing else.
+fn unless_faulty(verdict: Verdict, found: Compound) -> Reading
+    ensures { λ r. ⌜ r ≡ unlessFaulty verdict found ⌝ }
 {
-    let total = bytes.len();
-    if total == 0 {
-        return Reading::Refused(Refusal::Incomplete);
-    }
-    if COMPOUND_MOST < total {
-        return Reading::Refused(Refusal::Limits);
-    }
-    let mut found = found::nothing();
-    let mut verdict = Verdict::Sound;
-    let mut at = 0;
-    'packets: while at < total {
-        verdict = packet_verdict(bytes, at, at == 0);
-        if let Verdict::Faulty(_) = verdict {
-            break 'packets;
-        }
-        let next = at + size_at(bytes, at);
-        if kind_at(bytes, at) == XR {
-            let end = next - padding_at(bytes, at);
-            let mut block = at + XR_HEAD;
-            while block < end {
-                let size = size_at(bytes, block);
-                let after = block + size;
-                if end < after {
-                    verdict = Verdict::Faulty(Refusal::BlockSize);
-                    break 'packets;
-                }
-                found = with_block(found, bytes, block, media);
-                block = after;
-            }
-        } else {
-            found = with_packet(found, bytes, at, media);
-        }
-        at = next;
-    }
     match verdict {
         Verdict::Sound => Reading::Read(found),
         Verdict::Faulty(refusal) => Reading::Refused(refusal),
     }
+}
+
+// What the packets in `bytes` say of the source `media`, or their first fault.
+fn read_packets(bytes: &[u8], media: u32) -> Reading
+    ensures { λ r. ⌜ r ≡ unlessFaulty (firstFault (flatMap (checksOf (now (bytes .entry))) (packets (now (bytes .entry))))) (found (now (bytes .entry)) media) ⌝ }
+{
+    let total = bytes.len();
+    let mut report = MaybeReport::Absent;
+    let mut feedback = MaybeFeedback::Absent;
+    let mut summary = MaybeSummary::Absent;
+    let mut verdict = Verdict::Sound;
+    let mut at = 0;
+    'packets: while at < total {
+        let header = header_at(bytes, at);
+        verdict = packet_verdict(bytes, at, header, at == 0);
+        if let Verdict::Faulty(_) = verdict {
+            break 'packets;
+        }
+        let next = at + header.size;
+        if header.kind == XR {
+            let end = next - padding_at(bytes, at, header);
+            let mut place = at + XR_HEAD;
+            while place < end {
+                let block = block_at(bytes, place);
+                let size = (block.words + 1) * 4;
+                let after = place + size;
+                if end < after {
+                    verdict = Verdict::Faulty(Refusal::BlockSize);
+                    break 'packets;
+                }
+                summary = first_summary(summary, bytes, place, block, media);
+                place = after;
+            }
+        } else {
+            report = first_report(report, bytes, at, header, media);
+            feedback = first_feedback(feedback, bytes, at, header, media);
+        }
+        at = next;
+    }
+    let found = Compound {
+        report,
+        feedback,
+        summary,
+    };
+    unless_faulty(verdict, found)
+}
+
+// What the compound in `bytes` says of the source `media`, or its first fault.
+pub fn read_compound(bytes: &[u8], media: u32) -> Reading
+    ensures { λ r. ⌜ r ≡ reading (now (bytes .entry)) media ⌝ }
+{
+    if bytes.len() == 0 {
+        return Reading::Refused(Refusal::Incomplete);
+    }
+    if COMPOUND_MOST < bytes.len() {
+        return Reading::Refused(Refusal::Limits);
+    }
+    read_packets(bytes, media)
 }

@@ -2,15 +2,10 @@
 ghost use mathlib.Core.Path.{_≡_};
 ghost use Prim.Native.Nat.{_≤_};
 ghost use lib.ListN.{length};
-ghost use Rattle.rtcp.specs.Header.{size, padding};
 ghost use Rattle.rtcp.specs.Packets.{isReport, blocksFrom, isFeedback, paddingRight, mayStand, bodyRight, packetVerdict};
 use crate::Verdict;
-use crate::header::count_at;
-use crate::header::kind_at;
-use crate::header::padded_at;
+use crate::header::Header;
 use crate::header::padding_at;
-use crate::header::size_at;
-use crate::header::version_at;
 use crate::layout::ECN_FEEDBACK;
 use crate::layout::FEEDBACK;
 use crate::layout::HEADER;
@@ -25,118 +20,110 @@ use crate::layout::XR;
 use crate::layout::XR_HEAD;
 use answers::Refusal;
 
-// Whether the packet at `at` is an SR or an RR.
-pub fn is_report(b: &[u8], at: usize) -> bool
-    requires { ⌜ at ≤ length (now b) ⌝ }
-    ensures { λ r. ⌜ r ≡ isReport (now (b .entry)) at ⌝ }
+// Whether a packet is an SR or an RR.
+pub fn is_report(header: Header) -> bool
+    ensures { λ r. ⌜ r ≡ isReport header ⌝ }
 {
-    let kind = kind_at(b, at);
-    if kind == SR {
+    if header.kind == SR {
         return true;
     }
-    kind == RR
+    header.kind == RR
 }
 
 // How many bytes of an SR or an RR stand before its report blocks.
-pub fn blocks_from(b: &[u8], at: usize) -> usize
-    requires { ⌜ at ≤ length (now b) ⌝ }
-    ensures { λ r. ⌜ r ≡ blocksFrom (now (b .entry)) at ⌝ }
+pub fn blocks_from(header: Header) -> usize
+    ensures { λ r. ⌜ r ≡ blocksFrom header ⌝ }
     ensures { λ r. ⌜ r ≤ 28 ⌝ }
 {
-    if kind_at(b, at) == SR {
+    if header.kind == SR {
         return SR_HEAD;
     }
     RR_HEAD
 }
 
-// Whether the packet at `at` is ECN feedback.
-pub fn is_feedback(b: &[u8], at: usize) -> bool
-    requires { ⌜ at ≤ length (now b) ⌝ }
-    ensures { λ r. ⌜ r ≡ isFeedback (now (b .entry)) at ⌝ }
+// Whether a packet is ECN feedback.
+pub fn is_feedback(header: Header) -> bool
+    ensures { λ r. ⌜ r ≡ isFeedback header ⌝ }
 {
-    if kind_at(b, at) != RTPFB {
+    if header.kind != RTPFB {
         return false;
     }
-    count_at(b, at) == ECN_FEEDBACK
+    header.count == ECN_FEEDBACK
 }
 
-// Whether the packet at `at` has no padding, or is the last and has an allowed one.
-fn padding_right(b: &[u8], at: usize) -> bool
-    requires { ⌜ at ≤ length (now b) ⌝ }
-    ensures { λ r. ⌜ r ≡ paddingRight (now (b .entry)) at ⌝ }
+// Whether a packet has no padding, or is the last and has an allowed one.
+fn padding_right(header: Header, last: bool, padding: usize) -> bool
+    requires { ⌜ padding ≤ 255 ⌝ }
+    ensures { λ r. ⌜ r ≡ paddingRight header last padding ⌝ }
 {
-    if !padded_at(b, at) {
+    if !header.padded {
         return true;
     }
-    let size = size_at(b, at);
-    if at + size != b.len() {
+    if !last {
         return false;
     }
-    let padding = padding_at(b, at);
     if padding % 4 != 0 {
         return false;
     }
     if padding < 4 {
         return false;
     }
-    if size < padding + HEADER {
+    if header.size < padding + HEADER {
         return false;
     }
     true
 }
 
-// Whether the packet at `at` may stand there: the first one is an SR or an RR.
-fn may_stand(b: &[u8], at: usize, first: bool) -> bool
-    requires { ⌜ at ≤ length (now b) ⌝ }
-    ensures { λ r. ⌜ r ≡ mayStand first (now (b .entry)) at ⌝ }
+// Whether a packet may stand where it does: the first one is an SR or an RR.
+fn may_stand(header: Header, first: bool) -> bool
+    ensures { λ r. ⌜ r ≡ mayStand header first ⌝ }
 {
     if !first {
         return true;
     }
-    is_report(b, at)
+    is_report(header)
 }
 
-// Whether the packet at `at` has the size that its body needs.
-fn body_right(b: &[u8], at: usize) -> bool
-    requires { ⌜ (at ≤ length (now b)) × (padding (now b) at ≤ size (now b) at) ⌝ }
-    ensures { λ r. ⌜ r ≡ bodyRight (now (b .entry)) at ⌝ }
+// Whether a packet of this size without padding has what its body needs.
+fn body_right(header: Header, unpadded: usize) -> bool
+    ensures { λ r. ⌜ r ≡ bodyRight header unpadded ⌝ }
 {
-    let size = size_at(b, at) - padding_at(b, at);
-    if is_report(b, at) {
-        let blocks = count_at(b, at) as usize * REPORT_BLOCK;
-        return blocks_from(b, at) + blocks <= size;
+    if is_report(header) {
+        let blocks = header.count as usize * REPORT_BLOCK;
+        return blocks_from(header) + blocks <= unpadded;
     }
-    if kind_at(b, at) == XR {
-        return XR_HEAD <= size;
+    if header.kind == XR {
+        return XR_HEAD <= unpadded;
     }
-    if is_feedback(b, at) {
-        return size == FEEDBACK;
+    if is_feedback(header) {
+        return unpadded == FEEDBACK;
     }
     true
 }
 
 // The first fault of the packet at `at`; `first` says whether it must be an SR or an RR.
-pub fn packet_verdict(b: &[u8], at: usize, first: bool) -> Verdict
-    requires { ⌜ at ≤ length (now b) ⌝ }
-    ensures { λ r. ⌜ r ≡ packetVerdict first (now (b .entry)) at ⌝ }
+pub fn packet_verdict(b: &[u8], at: usize, header: Header, first: bool) -> Verdict
+    requires { ⌜ (at ≤ length (now b)) × (1 ≤ header .size) ⌝ }
+    ensures { λ r. ⌜ r ≡ packetVerdict first header (now (b .entry)) at ⌝ }
 {
     let left = b.len() - at;
     if left < HEADER {
         return Verdict::Faulty(Refusal::Incomplete);
     }
-    if version_at(b, at) != VERSION {
+    if header.version != VERSION {
         return Verdict::Faulty(Refusal::Version);
     }
-    if left < size_at(b, at) {
+    if left < header.size {
         return Verdict::Faulty(Refusal::PacketSize);
     }
-    if !padding_right(b, at) {
+    let padding = padding_at(b, at, header);
+    if !padding_right(header, at + header.size == b.len(), padding) {
         return Verdict::Faulty(Refusal::Padding);
     }
-    if !may_stand(b, at, first) {
+    if !may_stand(header, first) {
         return Verdict::Faulty(Refusal::FirstPacket);
     }
-    if !body_right(b, at) {
+    if !body_right(header, header.size - padding) {
         return Verdict::Faulty(Refusal::PacketSize);
     }
     Verdict::Sound

@@ -1,29 +1,31 @@
 // Report blocks of SR and RR packets (RFC 3550, sections 6.4.1 and 6.4.2).
 ghost use mathlib.Core.Path.{_≡_};
+ghost use mathlib.Core.List.{[], _∷_};
 ghost use Prim.Native.Nat.{_+_, _≤_};
 ghost use lib.ListN.{length};
 ghost use Rattle.numbers.specs.BigEndian.{word};
 ghost use Rattle.numbers.specs.Since.{signed};
 ghost use Rattle.rtcp.specs.Packets.{Sound};
 ghost use Rattle.rtcp.specs.ReportBlocks.{reportBlock, reportIn};
+ghost use Rattle.rtcp.specs.Compound.{firstReport};
 use crate::MaybeReport;
 use crate::Place;
 use crate::ReportBlock;
 use crate::entries::find_entry;
-use crate::header::byte_at;
-use crate::header::count_at;
+use crate::fields::byte;
+use crate::fields::number16;
+use crate::fields::number32;
+use crate::header::Header;
 use crate::layout::REPORT_BLOCK;
 use crate::packet::blocks_from;
 use crate::packet::is_report;
-use numbers::big_endian::read16;
-use numbers::big_endian::read32;
 
 // The signed number in the three bytes from `at` on.
 fn signed24(b: &[u8], at: usize) -> i32
     requires { ⌜ at + 3 ≤ length (now b) ⌝ }
     ensures { λ r. ⌜ r ≡ signed 24 (word 3 (now (b .entry)) at) ⌝ }
 {
-    let n = read16(b, at) as u32 * 256 + byte_at(b, at + 2) as u32;
+    let n = number16(b, at) as u32 * 256 + byte(b, at + 2) as u32;
     if n < 8388608 {
         return n as i32;
     }
@@ -35,28 +37,44 @@ fn report_block_at(b: &[u8], at: usize) -> ReportBlock
     ensures { λ r. ⌜ r ≡ reportBlock (now (b .entry)) at ⌝ }
 {
     ReportBlock {
-        fraction: byte_at(b, at + 4),
+        fraction: byte(b, at + 4),
         lost: signed24(b, at + 5),
-        highest: read32(b, at + 8),
-        jitter: read32(b, at + 12),
-        lsr: read32(b, at + 16),
-        dlsr: read32(b, at + 20),
+        highest: number32(b, at + 8),
+        jitter: number32(b, at + 12),
+        lsr: number32(b, at + 16),
+        dlsr: number32(b, at + 20),
     }
 }
 
 // The first report block about `media` in the packet at `at`.
-pub fn report_in(b: &[u8], at: usize, media: u32) -> MaybeReport
-    requires { ⌜ Sound (now b) at ⌝ }
-    ensures { λ r. ⌜ r ≡ reportIn (now (b .entry)) at media ⌝ }
+fn report_in(b: &[u8], at: usize, header: Header, media: u32) -> MaybeReport
+    requires { ⌜ Sound header (now b) at ⌝ }
+    ensures { λ r. ⌜ r ≡ reportIn header (now (b .entry)) at media ⌝ }
 {
-    if !is_report(b, at) {
+    if !is_report(header) {
         return MaybeReport::Absent;
     }
-    let from = at + blocks_from(b, at);
-    let count = count_at(b, at) as usize;
-    let place = find_entry(b, from, REPORT_BLOCK, count, media);
+    let from = at + blocks_from(header);
+    let place = find_entry(b, from, REPORT_BLOCK, header.count as usize, media);
     match place {
         Place::At(entry) => MaybeReport::Present(report_block_at(b, entry)),
         Place::Absent => MaybeReport::Absent,
+    }
+}
+
+// The report block found before the packet at `at`, or its own.
+pub fn first_report(
+    old: MaybeReport,
+    b: &[u8],
+    at: usize,
+    header: Header,
+    media: u32,
+) -> MaybeReport
+    requires { ⌜ Sound header (now b) at ⌝ }
+    ensures { λ r. ⌜ r ≡ firstReport (old ∷ reportIn header (now (b .entry)) at media ∷ []) ⌝ }
+{
+    match old {
+        MaybeReport::Present(x) => MaybeReport::Present(x),
+        MaybeReport::Absent => report_in(b, at, header, media),
     }
 }

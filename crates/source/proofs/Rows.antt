@@ -9,7 +9,7 @@ use native.Mathlib.Decide.{decLe}
 use native.Mathlib.Omega.{arith}
 use borrow.Author.Tests.{eqb-true, eqb-false, lt-ltb, le-ltb, lt-leb, le-leb}
 use lib.Arith.{lt-one}
-use lib.Count.{ones, ones-step, ones-le}
+use lib.Count.{ones, ones-step}
 use lib.Dec.{T, eqb, eqb→eq, ltb}
 use lib.Pow.{shr-shr}
 use Rattle.answers.proofs.Conditions.{is-false, true-is, false-not, same-test, or-cases, or-right}
@@ -166,10 +166,6 @@ module _ (h : History) where
       let low : marked 64 (marks h) ≡ marked 64 (place (h .recent)) = marked-ext 64 (marks h) (place (h .recent)) (λ k l. marks-recent k l) in
       let high : marked 36 (λ k. marks h (64 + k)) ≡ marked 36 (place (h .older)) = marked-ext 36 (λ k. marks h (64 + k)) (place (h .older)) (λ k l. marks-older k) in
       omega (arith, marked-split 64 36 (marks h), ones-least 64 (h .recent), ones-least 36 (h .older))
-
-  pub places-most : h .recent < 2 ^ 64 → h .older < 2 ^ 36 → places h ≤ 100
-  unfolding places
-  places-most low high = omega (arith, ones-le 64 (h .recent) low, ones-le 36 (h .older) high)
 
 module _ (row : ℕ → Bool) where
   pub marks-history : (k : ℕ) → k < 100 → marks (history row) k ≡ row k

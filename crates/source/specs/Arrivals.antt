@@ -51,7 +51,7 @@ behind s k mark =
 unfoldable pub distance : Extended → Wire → ℕ
 distance highest wire = modulo 65536 (pos (wire .0) -ℤ highest .0)
 
--- a later arrival, by where it stands
+-- a later arrival, by where it stands; a jump is 7
 abbrev pub laterBy : Source → ℕ → Reach → Arrival
 laterBy s mark (reach.Ahead d) = Accepted (ahead s d mark)
 laterBy s mark (reach.Behind k) = Accepted (behind s k mark)

@@ -78,6 +78,6 @@ sound s = fresh s || hasCounted s
 unfoldable pub lost : Source → ℤ
 lost s = cond (fresh s) (pos 0) (s .highest .0 -ℤ s .base .0 +ℤ pos 1 -ℤ pos (distinct s))
 
--- what the call `lost` answers
+-- what the call `lost` answers; 9 for a malformed record
 unfoldable pub lostAnswer : Source → Lost
 lostAnswer s = cond (not (sound s)) (Refused Malformed) (Packets (lost s))

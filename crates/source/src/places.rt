@@ -17,14 +17,10 @@ fn count(h: History) -> u64
     recent + older
 }
 
-// Whether at most n places are marked. (There are 100: nothing is counted where n is no less.)
+// Whether at most n places are marked.
 pub fn at_most(h: History, n: u64) -> bool
-    requires { ⌜ h .older < 2 ^ 36 ⌝ }
     ensures { λ r. ⌜ r ≡ leb (places h) n ⌝ }
 {
-    if 100 <= n {
-        return true;
-    }
     count(h) <= n
 }
 

@@ -1,20 +1,16 @@
 -- The table's lines, split by RFC 4180. Assumes nothing.
 use mathlib.Core.Path.{_≡_, refl, sym, ap, _∙_}
-use mathlib.Core.Bool.{Bool, true, false, not, cond, _||_, _&&_}
-use mathlib.Core.Option.{none, some}
+use mathlib.Core.Bool.{Bool, true, false, _||_, _&&_}
 use mathlib.Core.List.{List, [], _∷_, _++_, map}
 use Prim.Native.Nat.{ℕ}
-use native.Mathlib.Omega.{arith}
 use lib.Dec.{leb, eqb}
 use lib.ListN.{length}
-use Rattle.answers.specs.declared.Refusal.the-variants.{Malformed, Limits}
 use Rattle.answers.proofs.Conditions.{and-left, and-right, all-true}
 use Rattle.source.specs.declared.Totals.{Totals}
-use Rattle.source.specs.Totals.{mostJumped}
-use Rattle.source.specs.Record.{sound, lost}
+use Rattle.source.specs.Record.{lost}
 use Rattle.trace.specs.Contents.{every, labelByte, labelOk}
 use Rattle.table.specs.Field.{special, anySpecial, asField, line}
-use Rattle.table.specs.Lines.{labelName, names, numbers, headBytes, rowFault, rowBytes}
+use Rattle.table.specs.Lines.{labelName, names, numbers, headBytes, rowBytes}
 use Rattle.table.specs.Rfc4180.{split}
 use Rattle.table.specs.Theorems.{plain, allPlain, HeadSplits, Says, RowSplits}
 use Rattle.table.proofs.Splitting.{line-splits, decimal-field, signed-field}
@@ -40,15 +36,6 @@ label-plain (c ∷ label) e =
     both false true false p e f = f
     both false false true p e f = f
     both false false false p e f = e
-
-label-ok : (label : List ℕ) (t : Totals) → rowFault label t ≡ none → labelOk label ≡ true
-unfolding rowFault
-label-ok label t e = go (sound (t .source)) (labelOk label) (leb (t .jumped) mostJumped) e
-  where
-    go : (a b c : Bool) → cond (not a) (some Malformed) (cond (not (b && c)) (some Limits) none) ≡ none → b ≡ true
-    go false b c e = let z : _≡_ {A = ℕ} 0 1 = cc in absurd (omega arith)
-    go true false c e = let z : _≡_ {A = ℕ} 0 1 = cc in absurd (omega arith)
-    go true true c e = refl
 
 module _ (ssrc : ℕ) (t : Totals) where
   bare : map asField (numbers ssrc t) ≡ numbers ssrc t
@@ -99,7 +86,7 @@ module _ (ssrc : ℕ) (t : Totals) where
 pub row-splits : RowSplits
 unfolding rowBytes labelOk
 row-splits label ssrc t rest e =
-    let ok = all-true (leb (length label) 502 ∷ every labelByte label ∷ []) 1 (label-ok label t e) in
+    let ok = all-true (leb (length label) 502 ∷ every labelByte label ∷ []) 1 e in
     let texts = numbers ssrc t in (
       label ∷ texts,
       ap (λ (l : List (List ℕ)). split (line (asField label) l ++ rest)) (sym (bare ssrc t))

@@ -2,17 +2,18 @@
 use mathlib.Core.Path.{_≡_}
 use mathlib.Core.Bool.{Bool, true, _||_, _&&_}
 use mathlib.Core.List.{List, [], _∷_, _++_, map}
-use mathlib.Core.Option.{none, some}
+use mathlib.Core.Option.{some}
 use Prim.Native.Nat.{ℕ}
 use lib.Dec.{leb, eqb}
 use lib.IntN.{ℤ}
 use lib.ListN.{length, getD}
 use Rattle.source.specs.declared.Totals.{Totals}
 use Rattle.source.specs.Record.{lost as lostOf}
+use Rattle.trace.specs.Contents.{labelOk}
 use Rattle.table.specs.Decimal.{decimal, signed, numberIn, signedIn}
 use Rattle.table.specs.Field.{asField, line}
 use Rattle.table.specs.Rfc4180.{split}
-use Rattle.table.specs.Lines.{labelName, names, headBytes, rowFault, rowBytes}
+use Rattle.table.specs.Lines.{labelName, names, headBytes, rowBytes}
 
 -- a text that a field can hold: bytes 32 to 126, CR and LF
 unfoldable pub plain : List ℕ → Bool
@@ -60,10 +61,10 @@ pub record Says (text : List ℕ) (from : ℕ) (t : Totals) (fields : List (List
   pub duplicates : numberIn (getD fields 8 []) ≡ some (t .source .duplicates)
   pub jumped : numberIn (getD fields 9 []) ≡ some (t .jumped)
 
--- a row that is not refused splits into such fields, and what follows the row is left over
+-- a row with any label that a trace can have splits into such fields, and what follows the row is left over
 abbrev pub RowSplits : Type 0
 RowSplits =
-    (label : List ℕ) (ssrc : ℕ) (t : Totals) (rest : List ℕ) → rowFault label t ≡ none
+    (label : List ℕ) (ssrc : ℕ) (t : Totals) (rest : List ℕ) → labelOk label ≡ true
     → (fields : List (List ℕ))
     × (split (rowBytes label ssrc t ++ rest) ≡ some (record { fields = fields; rest = rest }))
     × Says label ssrc t fields

@@ -45,7 +45,7 @@ contentsBy b kind.Unknown = Refused Contents
 unfoldable pub contentsOf : List ℕ → Block
 contentsOf b = contentsBy b (kindOf (kindIn b))
 
--- what reading b finds
+-- what reading b finds: 1, 13, then by its contents
 unfoldable pub blockOf : List ℕ → Block
 blockOf b =
     cond (not (eqb (length b) blockBytes)) (Refused Incomplete)
@@ -54,6 +54,7 @@ blockOf b =
 
 -- ---- the record i of b, in the order of refusals 1, 14, 10
 
+-- 14 unless it is a block of arrivals with a right count, 10 for an index past it
 abbrev pub foundBy : List ℕ → ℕ → Kind → Found
 foundBy b i (kind.Arrivals form) =
     cond (not (countOk (shapeOf form) (countIn b))) (Missing Contents)
@@ -62,5 +63,6 @@ foundBy b i (kind.Arrivals form) =
 foundBy b i (kind.Label form) = Missing Contents
 foundBy b i kind.Unknown = Missing Contents
 
+-- 1 unless it is whole
 unfoldable pub foundAt : List ℕ → ℕ → Found
 foundAt b i = cond (not (eqb (length b) blockBytes)) (Missing Incomplete) (foundBy b i (kindOf (kindIn b)))

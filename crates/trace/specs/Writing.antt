@@ -12,7 +12,7 @@ use Rattle.format.specs.Forms.{Shape}
 use Rattle.trace.specs.Contents.{every, isMark, labelOk, countOk}
 use Rattle.trace.specs.declared.Record.{Record}
 
--- a label outside the trace rules
+-- a label outside the trace rules: 10
 unfoldable pub labelFault : List ℕ → Option Refusal
 labelFault label = cond (labelOk label) none (some Limits)
 
@@ -31,6 +31,6 @@ listsConditions shape times numbers marks =
 unfoldable pub arrivalsOk : Shape → List ℕ → List ℕ → List ℕ → Bool
 arrivalsOk shape times numbers marks = all (listsConditions shape times numbers marks)
 
--- records outside the trace rules
+-- records outside the trace rules: 10
 unfoldable pub arrivalsFault : Shape → List ℕ → List ℕ → List ℕ → Option Refusal
 arrivalsFault shape times numbers marks = cond (arrivalsOk shape times numbers marks) none (some Limits)

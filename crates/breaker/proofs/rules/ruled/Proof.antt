@@ -2,20 +2,37 @@
 use borrow.Author.Needs.{needs}
 use mathlib.Core.Path.{_≡_, _∙_, ap}
 use borrow.Author.Tests.{le-leb, lt-leb, eq-eqb, ne-eqb}
+use mathlib.Core.Bool.{not, cond}
 use Prim.Native.Nat.{ℕ}
+use lib.Dec.{leb, eqb}
 use Rattle.answers.proofs.Conditions.{cond-ends, cond-goes}
+use Rattle.breaker.specs.declared.Reason.the-variants.{Timeout, Media}
 use Rattle.breaker.specs.declared.Answer.the-variants.{Go}
-use Rattle.breaker.specs.Answers.{answers}
-use Rattle.breaker.specs.Rules.{stored, windowAfter, tested, rules, ruled}
+use Rattle.breaker.specs.declared.Window.{Window}
+use Rattle.breaker.specs.declared.Breaker.{Breaker}
+use Rattle.breaker.specs.declared.Report.{Report}
+use Rattle.breaker.specs.Answers.{answers, goes, stops}
+use Rattle.breaker.specs.Windows.{emptyWindow}
+use Rattle.breaker.specs.Rules.{stored, late, windowAfter, holds, ruled}
+use Rattle.breaker.specs.Private.{exceeds, tested}
 use Rattle.breaker.specs.declared.Step.{Step}
 use Rattle.breaker.proofs.rules.ruled.Statement.{statement}
 use Rattle.breaker.proofs.rules.ruled.Tie as tie
+
+-- the rules with the media run and the window as the program has them
+unfoldable rules : Breaker → Report → ℕ → Window → Step
+rules b r run w =
+    cond (eqb (r .rate) 0) (goes (stored b r 0 (b .trial) emptyWindow))
+    (cond (late b (r .time)) (stops Timeout b)
+    (cond (leb (b .settings .m) run) (stops Media b)
+    (cond (not (b .reported)) (goes (stored b r run (b .trial) (b .window)))
+    (tested b r run w))))
 
 -- past rate 0 the answer may be shown with the media run as the program has it
 shown : (c : tie.After-run-after) {z : Step}
     → z ≡ rules (c .before .before .before .before .args .b) (c .before .before .before .before .args .r) (c .run-after .result) (windowAfter (c .before .before .before .before .args .b) (c .before .before .before .before .args .r))
     → z ≡ ruled (c .before .before .before .before .args .b) (c .before .before .before .before .args .r)
-unfolding ruled
+unfolding holds ruled exceeds tested rules
 shown c e =
     let b = c .before .before .before .before .args .b in
     let r = c .before .before .before .before .args .r in
@@ -31,7 +48,7 @@ answered-requires : tie.Need-answered-requires
 answered-requires c κs = search needs
 
 returns : tie.Need-returns
-unfolding ruled rules
+unfolding ruled
 returns c =
     let b = c .before .before .before .before .before .before .args .b in
     let r = c .before .before .before .before .before .before .args .r in
@@ -47,7 +64,7 @@ stopped-requires : tie.Need-stopped-requires
 stopped-requires c κs = search needs
 
 returns-2 : tie.Need-returns-2
-unfolding ruled rules
+unfolding ruled
 returns-2 c =
     cond-goes _ _ _ _ (ne-eqb _ _ (c .before .before .before .before .before .before .if1 .left))
     (cond-ends _ _ _ _ (le-leb _ _ (c .before .if2 .taken)) (c .stopped .ensures))
@@ -56,7 +73,7 @@ stopped-requires-2 : tie.Need-stopped-requires-2
 stopped-requires-2 c κs = search needs
 
 returns-3 : tie.Need-returns-3
-unfolding ruled rules
+unfolding rules
 returns-3 c =
     shown (c .before .before .before .before .before .before .before)
     (cond-goes _ _ _ _ (ne-eqb _ _ (c .before .before .before .before .before .before .before .before .if1 .left))
@@ -70,7 +87,7 @@ answered-requires-2 : tie.Need-answered-requires-2
 answered-requires-2 c κs = search needs
 
 returns-4 : tie.Need-returns-4
-unfolding ruled rules
+unfolding rules
 returns-4 c =
     shown (c .before .before .before .before .before .before .before .before .before .before)
     (cond-goes _ _ _ _ (ne-eqb _ _ (c .before .before .before .before .before .before .before .before .before .before .before .if1 .left))
@@ -83,7 +100,7 @@ tested-requires c κs =
     record { accepted = c .before .before .before .before .before .before .before .before .before .before .before .before .pre; inTime = c .before .before .before .before .if2 .left }
 
 returns-5 : tie.Need-returns-5
-unfolding ruled rules
+unfolding rules
 returns-5 c =
     shown (c .before .before .before .before .before .before .before .before .before)
     (cond-goes _ _ _ _ (ne-eqb _ _ (c .before .before .before .before .before .before .before .before .before .before .if1 .left))

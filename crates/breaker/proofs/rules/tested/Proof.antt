@@ -12,8 +12,8 @@ use Rattle.breaker.specs.declared.Answer.the-variants.{Go, Reduce}
 use Rattle.breaker.specs.declared.Window.{Window}
 use Rattle.breaker.specs.declared.Step.{Step}
 use Rattle.breaker.specs.Answers.{answers}
-use Rattle.breaker.specs.Rules.{stored, windowAfter, tested}
-use Rattle.breaker.specs.Private.{roomy}
+use Rattle.breaker.specs.Rules.{stored, windowAfter}
+use Rattle.breaker.specs.Private.{roomy, tested}
 use Rattle.breaker.proofs.Places.{length-mapped}
 use Rattle.breaker.proofs.Facts.{settings-of, k-high, after-roomy}
 use Rattle.breaker.proofs.rules.tested.Statement.{statement}

@@ -3,8 +3,9 @@ use borrow.Author.Needs.{needs}
 use mathlib.Core.Path.{ap, _∙_}
 use denote.Ref.{now}
 use Rattle.answers.proofs.Conditions.{was-false, was-true}
+use Rattle.breaker.specs.Calls.{reportOf}
+use Rattle.breaker.specs.Runs.{called}
 use Rattle.lent.specs.declared.breaker_words.Loaded.{Loaded}
-use Rattle.capi.specs.BreakerCalls.{reports}
 use Rattle.capi.proofs.Steps.{record-sized, call-malformed, call-made}
 use Rattle.capi.proofs.circuit.flasknib_breaker_report.Statement.{statement}
 use Rattle.capi.proofs.circuit.flasknib_breaker_report.Tie as tie
@@ -22,7 +23,7 @@ returns : tie.Need-returns
 returns c =
     let a = c .before .before .before .before .before .before .args in
     let fit = ap (λ (g : Loaded). g .ok) (c .before .before .before .record-in .ensures) in
-    call-malformed (reports (a .time) (a .highest) (a .fraction) (a .rtt) (a .size) (a .rate)) (now (a .breaker)) (was-false fit (c .before .if1 .taken)) (c .code .ensures)
+    call-malformed _ (now (a .breaker)) (was-false fit (c .before .if1 .taken)) (c .code .ensures)
 
 report-requires : tie.Need-report-requires
 report-requires c κs = search needs
@@ -36,12 +37,13 @@ same-length-2 : tie.Need-same-length-2
 same-length-2 c = search needs
 
 returns-2 : tie.Need-returns-2
+unfolding called
 returns-2 c =
     let a = c .before .before .before .before .before .before .before .before .before .before .before .args in
     let given = c .before .before .before .before .before .before .before .before .record-in .ensures in
     let fit = was-true (ap (λ (g : Loaded). g .ok) given) (c .before .before .before .before .before .before .if1 .left) in
-    let made = c .before .before .before .before .report .ensures ∙ ap (λ (g : Loaded). reports (a .time) (a .highest) (a .fraction) (a .rtt) (a .size) (a .rate) (g .breaker)) given in
-    call-made (reports (a .time) (a .highest) (a .fraction) (a .rtt) (a .size) (a .rate)) (now (a .breaker)) fit made (c .before .before .put-back .ensures .0) (c .before .before .put-back .ensures .1)
+    let made = c .before .before .before .before .report .ensures ∙ ap (λ (g : Loaded). reportOf (g .breaker) (record { time = a .time; highest = a .highest; fraction = a .fraction; rtt = a .rtt; size = a .size; rate = a .rate })) given in
+    call-made _ (now (a .breaker)) fit made (c .before .before .put-back .ensures)
 
 pub flasknib-breaker-report-spec : {M : Type 1} → statement M
 flasknib-breaker-report-spec =

@@ -3,8 +3,9 @@ use borrow.Author.Needs.{needs}
 use mathlib.Core.Path.{ap, _∙_}
 use denote.Ref.{now}
 use Rattle.answers.proofs.Conditions.{was-false, was-true}
+use Rattle.breaker.specs.Calls.{tickOf}
+use Rattle.breaker.specs.Runs.{called}
 use Rattle.lent.specs.declared.breaker_words.Loaded.{Loaded}
-use Rattle.capi.specs.BreakerCalls.{ticks}
 use Rattle.capi.proofs.Steps.{record-sized, call-malformed, call-made}
 use Rattle.capi.proofs.circuit.flasknib_breaker_tick.Statement.{statement}
 use Rattle.capi.proofs.circuit.flasknib_breaker_tick.Tie as tie
@@ -22,7 +23,7 @@ returns : tie.Need-returns
 returns c =
     let a = c .before .before .before .before .before .before .args in
     let fit = ap (λ (g : Loaded). g .ok) (c .before .before .before .record-in .ensures) in
-    call-malformed (ticks (a .time)) (now (a .breaker)) (was-false fit (c .before .if1 .taken)) (c .code .ensures)
+    call-malformed _ (now (a .breaker)) (was-false fit (c .before .if1 .taken)) (c .code .ensures)
 
 tick-requires : tie.Need-tick-requires
 tick-requires c κs = search needs
@@ -36,12 +37,13 @@ same-length-2 : tie.Need-same-length-2
 same-length-2 c = search needs
 
 returns-2 : tie.Need-returns-2
+unfolding called
 returns-2 c =
     let a = c .before .before .before .before .before .before .before .before .before .before .before .args in
     let given = c .before .before .before .before .before .before .before .before .record-in .ensures in
     let fit = was-true (ap (λ (g : Loaded). g .ok) given) (c .before .before .before .before .before .before .if1 .left) in
-    let made = c .before .before .before .before .tick .ensures ∙ ap (λ (g : Loaded). ticks (a .time) (g .breaker)) given in
-    call-made (ticks (a .time)) (now (a .breaker)) fit made (c .before .before .put-back .ensures .0) (c .before .before .put-back .ensures .1)
+    let made = c .before .before .before .before .tick .ensures ∙ ap (λ (g : Loaded). tickOf (g .breaker) (a .time)) given in
+    call-made _ (now (a .breaker)) fit made (c .before .before .put-back .ensures)
 
 pub flasknib-breaker-tick-spec : {M : Type 1} → statement M
 flasknib-breaker-tick-spec =

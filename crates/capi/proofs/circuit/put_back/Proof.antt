@@ -33,7 +33,7 @@ returns-2 : tie.Need-returns-2
 returns-2 c =
     let s = c .before .before .before .before .before .before .before .before .before in
     let kept = sym (c .before .before .before .before .before .before .is-refused .ensures) ∙ c .before .before .before .before .before .if1 .left in
-    (c .code2 .ensures, back-stored (s .args .step) (now (s .args .words)) kept (s .pre) (long s) (c .before .before .before .store .ensures))
+    record { answers = c .code2 .ensures; stores = back-stored (s .args .step) (now (s .args .words)) kept (s .pre) (long s) (c .before .before .before .store .ensures) }
 
 pub put-back-spec : {M : Type 1} → statement M
 put-back-spec =

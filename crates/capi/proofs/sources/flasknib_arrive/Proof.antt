@@ -11,8 +11,7 @@ use Rattle.capi.proofs.sources.flasknib_arrive.Tie as tie
 returns : tie.Need-returns
 returns c =
     let a = c .before .before .args in
-    let w = arrives-other (now (a .words)) (a .wire) (a .mark) (c .if1 .taken) in
-    (w .answers, w .leaves)
+    arrives-other (now (a .words)) (a .wire) (a .mark) (c .if1 .taken)
 
 load-requires : tie.Need-load-requires
 load-requires c κs = search needs
@@ -40,7 +39,7 @@ returns-2 c =
     let a = c .before .before .before .before .before .before .before .before .before .before .before .before .args in
     let told = ap (λ (s : Source). arrival s (record { 0 = a .wire }) (a .mark)) (sym (c .before .before .before .before .before .before .before .before .load .ensures)) ∙ sym (c .before .before .before .before .before .before .before .arrive .ensures) ∙ c .before .before .before .before .before .next .given .1 in
     let w = arrives-next (now (a .words)) (a .wire) (a .mark) (c .before .before .before .before .before .before .before .before .before .before .if1 .left) told in
-    (w .answers, c .before .before .store .ensures ∙ w .leaves)
+    record { answers = w .answers; stores = c .before .before .store .ensures ∙ w .stores }
 
 same-length-2 : tie.Need-same-length-2
 same-length-2 c = search needs
@@ -50,7 +49,7 @@ returns-3 c =
     let a = c .before .before .before .before .before .before .before .before .before .args in
     let told = ap (λ (s : Source). arrival s (record { 0 = a .wire }) (a .mark)) (sym (c .before .before .before .before .before .load .ensures)) ∙ sym (c .before .before .before .before .arrive .ensures) ∙ c .before .before .refusal .given .1 in
     let w = arrives-refused (now (a .words)) (a .wire) (a .mark) (c .before .before .before .before .before .before .before .if1 .left) told in
-    (c .number .ensures ∙ w .answers, w .leaves)
+    record { answers = c .number .ensures ∙ w .answers; stores = w .stores }
 
 pub flasknib-arrive-spec : {M : Type 1} → statement M
 flasknib-arrive-spec =

@@ -20,7 +20,7 @@ returns : tie.Need-returns
 returns c =
     let a = c .before .before .before .before .args in
     let w = counts-other (now (a .words)) (a .width) (now (a .records)) (c .before .if1 .taken) in
-    (seen-is (c .minus .result) (search needs) ∙ c .minus .ensures ∙ w .answers, w .leaves)
+    record { answers = seen-is (c .minus .result) (search needs) ∙ c .minus .ensures ∙ w .answers; stores = w .stores }
 
 load-requires : tie.Need-load-requires
 load-requires c κs = search needs
@@ -56,7 +56,7 @@ returns-2 c =
     let few = few-jumps (c .before .before .before .before .before .before .before .before .load .result) (a .width) (now (a .records)) seen in
     let told = ap (λ (s : Source). blockCount s (a .width) (now (a .records))) (sym (c .before .before .before .before .before .before .before .before .load .ensures)) ∙ seen in
     let w = counts-next (now (a .words)) (a .width) (now (a .records)) (c .before .before .before .before .before .before .before .before .before .before .if1 .left) told in
-    (toZ-pos w64 (c .before .before .before .before .before .next .given .0 .1 .0) (omega (arith, few)) ∙ w .answers, c .before .before .store .ensures ∙ w .leaves)
+    record { answers = toZ-pos w64 (c .before .before .before .before .before .next .given .0 .1 .0) (omega (arith, few)) ∙ w .answers; stores = c .before .before .store .ensures ∙ w .stores }
 
 same-length-2 : tie.Need-same-length-2
 same-length-2 c = search needs
@@ -66,7 +66,7 @@ returns-3 c =
     let a = c .before .before .before .before .before .before .before .before .before .before .args in
     let told = ap (λ (s : Source). blockCount s (a .width) (now (a .records))) (sym (c .before .before .before .before .before .load .ensures)) ∙ sym (c .before .before .before .before .count-block .ensures) ∙ c .before .before .refusal .given .1 in
     let w = counts-refused (now (a .words)) (a .width) (now (a .records)) (c .before .before .before .before .before .before .before .if1 .left) told in
-    (seen-is (c .minus2 .result) (search needs) ∙ c .minus2 .ensures ∙ w .answers, w .leaves)
+    record { answers = seen-is (c .minus2 .result) (search needs) ∙ c .minus2 .ensures ∙ w .answers; stores = w .stores }
 
 pub flasknib-count-block-spec : {M : Type 1} → statement M
 flasknib-count-block-spec =

@@ -10,47 +10,30 @@ use Rattle.rtcp.specs.Layout.{entrySize}
 use Rattle.rtcp.specs.EcnReports.{isSummary, summaryAt, summaryIn}
 use Rattle.rtcp.specs.declared.Place.{Place}
 use Rattle.rtcp.specs.declared.MaybeSummary.{MaybeSummary}
-use Rattle.rtcp.proofs.Places.{entry-found, entry-within}
+use Rattle.rtcp.proofs.Places.{entry-within}
 use Rattle.rtcp.proofs.ecn.summary_in.Statement.{statement}
 use Rattle.rtcp.proofs.ecn.summary_in.Tie as tie
 
 -- the entry that is found lies in the compound
-within : (c : tie.After-known-told) → c .before .place .given .0 .0 + entrySize ≤ length (now (c .before .before .before .before .before .before .before .before .before .args .b))
+within : (c : tie.After-known-told) → c .before .place .given .0 .0 + entrySize ≤ length (now (c .before .before .before .before .before .before .before .before .before .before .args .b))
 within c =
-    let a = c .before .before .before .before .before .before .before .before .before .args in
+    let a = c .before .before .before .before .before .before .before .before .before .before .args in
     let at = c .before .place .given .0 .0 in
-    let words = c .before .before .before .before .before .read16 in
     let e = sym (c .before .before .before .find-entry .ensures) ∙ c .before .place .given .1 in
-    let f = entry-found entrySize (now (a .b)) (words .result / 5) (a .at + 4) (a .media) at e in
-    omega (arith, c .before .before .before .before .before .before .before .before .before .pre, words .ensures, entry-within entrySize (now (a .b)) (words .result / 5) (a .at + 4) (a .media) at f)
+    omega (arith, c .before .before .before .before .before .before .before .before .before .before .pre, entry-within entrySize (now (a .b)) (a .block .words / 5) (a .at + 4) (a .media) at e)
 
 -- the answer, by the place that is found
-is : (c : tie.After-find-entry) (p : Place) → p ≡ c .find-entry .result → summaryAt (now (c .before .before .before .before .before .before .args .b)) p ≡ summaryIn (now (c .before .before .before .before .before .before .args .b)) (c .before .before .before .before .before .before .args .at) (c .before .before .before .before .before .before .args .media)
+is : (c : tie.After-find-entry) (p : Place) → p ≡ c .find-entry .result → summaryAt (now (c .before .before .before .before .before .before .before .args .b)) p ≡ summaryIn (c .before .before .before .before .before .before .before .args .block) (now (c .before .before .before .before .before .before .before .args .b)) (c .before .before .before .before .before .before .before .args .at) (c .before .before .before .before .before .before .before .args .media)
 unfolding summaryIn isSummary
-is c p e =
-    ap (summaryAt (now (c .before .before .before .before .before .before .args .b))) (e ∙ c .find-entry .ensures)
-    ∙ rw (← (c .before .before .before .before .byte-at .ensures), eq-eqb _ _ (c .before .before .before .if1 .left), ← (c .before .before .read16 .ensures), eq-eqb _ _ (c .before .if2 .left))
-
-byte-at-requires : tie.Need-byte-at-requires
-byte-at-requires c κs = search needs
+is c p e = ap (summaryAt (now (c .before .before .before .before .before .before .before .args .b))) (e ∙ c .find-entry .ensures) ∙ rw (eq-eqb _ _ (c .before .before .before .before .if1 .left), eq-eqb _ _ (c .before .before .if2 .left))
 
 returns : tie.Need-returns
 unfolding summaryIn isSummary
-returns c = rw (← (c .before .byte-at .ensures), ne-eqb _ _ (c .if1 .taken))
-
-add-read16 : tie.Need-add-read16
-add-read16 c = search needs
-
-read16-requires : tie.Need-read16-requires
-read16-requires c κs = search needs
-
-cast-words : tie.Need-cast-words
-cast-words c = search needs
+returns c = rw (ne-eqb _ _ (c .if1 .taken))
 
 returns-2 : tie.Need-returns-2
 unfolding summaryIn isSummary
-returns-2 c =
-    rw (← (c .before .before .before .byte-at .ensures), eq-eqb _ _ (c .before .before .if1 .left), ← (c .before .read16 .ensures), ne-eqb _ _ (c .if2 .taken))
+returns-2 c = rw (eq-eqb _ _ (c .before .before .if1 .left), ne-eqb _ _ (c .if2 .taken))
 
 add-find-entry : tie.Need-add-find-entry
 add-find-entry c = search needs
@@ -71,8 +54,7 @@ enum-told : tie.Need-enum-told
 enum-told c = search needs
 
 returns-3 : tie.Need-returns-3
-returns-3 c =
-    ap MaybeSummary.Present (c .counts-at .ensures) ∙ is (c .before .before .before .before) (Place.At (c .before .before .place .given .0 .0)) (sym (c .before .before .place .given .1))
+returns-3 c = ap MaybeSummary.Present (c .counts-at .ensures) ∙ is (c .before .before .before .before) (Place.At (c .before .before .place .given .0 .0)) (sym (c .before .before .place .given .1))
 
 returns-4 : tie.Need-returns-4
 returns-4 c = is (c .before .before) Place.Absent (sym (c .enum-told .given .1))
@@ -81,11 +63,7 @@ pub summary-in-spec : {M : Type 1} → statement M
 summary-in-spec =
     tie.close
     (tie.spec
-    byte-at-requires
     returns
-    add-read16
-    read16-requires
-    cast-words
     returns-2
     add-find-entry
     find-entry-requires

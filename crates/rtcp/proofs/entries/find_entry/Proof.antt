@@ -1,5 +1,4 @@
 -- `rtcp::entries::find_entry` meets its contract. Assumes nothing.
-use borrow.Author.Needs.{needs}
 use Prim.Native.Nat.{_+_, _*_, _≤_}
 use lib.ListN.{length}
 use mathlib.Core.Path.{_≡_, refl, sym, _∙_}
@@ -19,14 +18,15 @@ abbrev μ-loop : tie.MeasureT-loop
 loop-holds : tie.Need-loop-holds Inv-loop μ-loop
 loop-holds c = (omega arith, refl)
 
-read32-requires : tie.Need-read32-requires Inv-loop μ-loop
-read32-requires c κs = search needs
+number32-requires : tie.Need-number32-requires Inv-loop μ-loop
+number32-requires c κs =
+    omega (arith, one-more (c .before .before .before .args .size) (c .before .loop .left) (c .loop-test .taken))
 
 returns : tie.Need-returns Inv-loop μ-loop
 returns c =
     let a = c .before .before .before .before .before .args in
     let l = c .before .before .before .loop in
-    sym (entry-here (a .size) (now (a .b)) (l .left) (l .at) (a .media) (c .before .before .loop-test .taken) (sym (c .before .read32 .ensures) ∙ c .if1 .taken)) ∙ l .inv .1
+    sym (entry-here (a .size) (now (a .b)) (l .left) (l .at) (a .media) (c .before .before .loop-test .taken) (sym (c .before .number32 .ensures) ∙ c .if1 .taken)) ∙ l .inv .1
 
 add-at : tie.Need-add-at Inv-loop μ-loop
 add-at c =
@@ -43,7 +43,7 @@ loop-again c =
     let a = c .before .before .before .before .before .args in
     let l = c .before .before .before .loop in (
       omega (arith, one-more (a .size) (l .left) (c .before .before .loop-test .taken)),
-      sym (entry-next (a .size) (now (a .b)) (l .left) (l .at) (a .media) (c .before .before .loop-test .taken) (λ e. c .if1 .left (c .before .read32 .ensures ∙ e))) ∙ l .inv .1,
+      sym (entry-next (a .size) (now (a .b)) (l .left) (l .at) (a .media) (c .before .before .loop-test .taken) (λ e. c .if1 .left (c .before .number32 .ensures ∙ e))) ∙ l .inv .1,
     )
 
 returns-2 : tie.Need-returns-2 Inv-loop μ-loop
@@ -59,7 +59,7 @@ find-entry-spec =
     Inv-loop
     μ-loop
     loop-holds
-    read32-requires
+    number32-requires
     returns
     add-at
     sub-left

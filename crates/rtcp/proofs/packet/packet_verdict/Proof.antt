@@ -15,20 +15,19 @@ returns : tie.Need-returns
 unfolding packetVerdict
 returns c = rw (lt-leb _ _ (c .if1 .taken))
 
-version-at-requires : tie.Need-version-at-requires
-version-at-requires c κs = search needs
-
 returns-2 : tie.Need-returns-2
 unfolding packetVerdict
-returns-2 c = rw (le-leb _ _ (c .before .before .if1 .left), ← (c .before .version-at .ensures), ne-eqb _ _ (c .if2 .taken))
-
-size-at-requires : tie.Need-size-at-requires
-size-at-requires c κs = search needs
+returns-2 c = rw (le-leb _ _ (c .before .before .if1 .left), ne-eqb _ _ (c .if2 .taken))
 
 returns-3 : tie.Need-returns-3
 unfolding packetVerdict
-returns-3 c =
-    rw (le-leb _ _ (c .before .before .before .before .if1 .left), ← (c .before .before .before .version-at .ensures), eq-eqb _ _ (c .before .before .if2 .left), ← (c .before .size-at .ensures .0), lt-leb _ _ (c .if3 .taken))
+returns-3 c = rw (le-leb _ _ (c .before .before .before .before .if1 .left), eq-eqb _ _ (c .before .before .if2 .left), lt-leb _ _ (c .if3 .taken))
+
+padding-at-requires : tie.Need-padding-at-requires
+padding-at-requires c κs = search needs
+
+add-padding-right : tie.Need-add-padding-right
+add-padding-right c = search needs
 
 padding-right-requires : tie.Need-padding-right-requires
 padding-right-requires c κs = search needs
@@ -36,7 +35,7 @@ padding-right-requires c κs = search needs
 returns-4 : tie.Need-returns-4
 unfolding packetVerdict
 returns-4 c =
-    rw (le-leb _ _ (c .before .before .before .before .before .before .if1 .left), ← (c .before .before .before .before .before .version-at .ensures), eq-eqb _ _ (c .before .before .before .before .if2 .left), ← (c .before .before .before .size-at .ensures .0), le-leb _ _ (c .before .before .if3 .left), was-false (c .before .padding-right .ensures) (c .if4 .taken))
+    rw (le-leb _ _ (c .before .before .before .before .before .before .before .before .if1 .left), eq-eqb _ _ (c .before .before .before .before .before .before .if2 .left), le-leb _ _ (c .before .before .before .before .if3 .left), ← (c .before .before .before .padding-at .ensures .0), was-false (c .before .padding-right .ensures) (c .if4 .taken))
 
 may-stand-requires : tie.Need-may-stand-requires
 may-stand-requires c κs = search needs
@@ -44,22 +43,26 @@ may-stand-requires c κs = search needs
 returns-5 : tie.Need-returns-5
 unfolding packetVerdict
 returns-5 c =
-    rw (le-leb _ _ (c .before .before .before .before .before .before .before .before .if1 .left), ← (c .before .before .before .before .before .before .before .version-at .ensures), eq-eqb _ _ (c .before .before .before .before .before .before .if2 .left), ← (c .before .before .before .before .before .size-at .ensures .0), le-leb _ _ (c .before .before .before .before .if3 .left), was-true (c .before .before .before .padding-right .ensures) (c .before .before .if4 .left), was-false (c .before .may-stand .ensures) (c .if5 .taken))
+    rw (le-leb _ _ (c .before .before .before .before .before .before .before .before .before .before .if1 .left), eq-eqb _ _ (c .before .before .before .before .before .before .before .before .if2 .left), le-leb _ _ (c .before .before .before .before .before .before .if3 .left), ← (c .before .before .before .before .before .padding-at .ensures .0), was-true (c .before .before .before .padding-right .ensures) (c .before .before .if4 .left), was-false (c .before .may-stand .ensures) (c .if5 .taken))
+
+sub-body-right : tie.Need-sub-body-right
+sub-body-right c =
+    let a = c .before .before .before .before .before .before .before .before .before .before .before .before .before .args in
+    let p = c .before .before .before .before .before .before .padding-at in
+    padding-le (a .header) (now (a .b)) (a .at) _ (p .result) (p .ensures .0) (was-true (c .before .before .before .before .padding-right .ensures) (c .before .before .before .if4 .left))
 
 body-right-requires : tie.Need-body-right-requires
-body-right-requires c κs =
-    let a = c .before .before .before .before .before .before .before .before .before .before .args in
-    (search needs, padding-le (now (a .b)) (a .at) (was-true (c .before .before .before .padding-right .ensures) (c .before .before .if4 .left)))
+body-right-requires c κs = search needs
 
 returns-6 : tie.Need-returns-6
 unfolding packetVerdict
 returns-6 c =
-    rw (le-leb _ _ (c .before .before .before .before .before .before .before .before .before .before .if1 .left), ← (c .before .before .before .before .before .before .before .before .before .version-at .ensures), eq-eqb _ _ (c .before .before .before .before .before .before .before .before .if2 .left), ← (c .before .before .before .before .before .before .before .size-at .ensures .0), le-leb _ _ (c .before .before .before .before .before .before .if3 .left), was-true (c .before .before .before .before .before .padding-right .ensures) (c .before .before .before .before .if4 .left), was-true (c .before .before .before .may-stand .ensures) (c .before .before .if5 .left), was-false (c .before .body-right .ensures) (c .if6 .taken))
+    rw (le-leb _ _ (c .before .before .before .before .before .before .before .before .before .before .before .before .before .if1 .left), eq-eqb _ _ (c .before .before .before .before .before .before .before .before .before .before .before .if2 .left), le-leb _ _ (c .before .before .before .before .before .before .before .before .before .if3 .left), ← (c .before .before .before .before .before .before .before .before .padding-at .ensures .0), was-true (c .before .before .before .before .before .before .padding-right .ensures) (c .before .before .before .before .before .if4 .left), was-true (c .before .before .before .before .may-stand .ensures) (c .before .before .before .if5 .left), was-false (c .before .body-right .ensures) (c .if6 .taken))
 
 returns-7 : tie.Need-returns-7
 unfolding packetVerdict
 returns-7 c =
-    rw (le-leb _ _ (c .before .before .before .before .before .before .before .before .before .before .if1 .left), ← (c .before .before .before .before .before .before .before .before .before .version-at .ensures), eq-eqb _ _ (c .before .before .before .before .before .before .before .before .if2 .left), ← (c .before .before .before .before .before .before .before .size-at .ensures .0), le-leb _ _ (c .before .before .before .before .before .before .if3 .left), was-true (c .before .before .before .before .before .padding-right .ensures) (c .before .before .before .before .if4 .left), was-true (c .before .before .before .may-stand .ensures) (c .before .before .if5 .left), was-true (c .before .body-right .ensures) (c .if6 .left))
+    rw (le-leb _ _ (c .before .before .before .before .before .before .before .before .before .before .before .before .before .if1 .left), eq-eqb _ _ (c .before .before .before .before .before .before .before .before .before .before .before .if2 .left), le-leb _ _ (c .before .before .before .before .before .before .before .before .before .if3 .left), ← (c .before .before .before .before .before .before .before .before .padding-at .ensures .0), was-true (c .before .before .before .before .before .before .padding-right .ensures) (c .before .before .before .before .before .if4 .left), was-true (c .before .before .before .before .may-stand .ensures) (c .before .before .before .if5 .left), was-true (c .before .body-right .ensures) (c .if6 .left))
 
 pub packet-verdict-spec : {M : Type 1} → statement M
 packet-verdict-spec =
@@ -67,14 +70,15 @@ packet-verdict-spec =
     (tie.spec
     sub-left
     returns
-    version-at-requires
     returns-2
-    size-at-requires
     returns-3
+    padding-at-requires
+    add-padding-right
     padding-right-requires
     returns-4
     may-stand-requires
     returns-5
+    sub-body-right
     body-right-requires
     returns-6
     returns-7)

@@ -7,33 +7,32 @@ use Prim.Native.Nat.{_+_, _≤_, _*_}
 use lib.ListN.{length}
 use mathlib.Core.Bool.{true}
 use Rattle.answers.proofs.Conditions.{was-true, was-false}
-use Rattle.rtcp.specs.Header.{count}
 use Rattle.rtcp.specs.Layout.{reportSize}
 use Rattle.rtcp.specs.Packets.{isReport}
 use Rattle.rtcp.specs.ReportBlocks.{reportAt, reportIn}
 use Rattle.rtcp.specs.declared.Place.{Place}
 use Rattle.rtcp.specs.declared.MaybeReport.{MaybeReport}
 use Rattle.rtcp.proofs.Whole.{reports-within}
-use Rattle.rtcp.proofs.Places.{entry-found, entry-within}
+use Rattle.rtcp.proofs.Places.{entry-within}
 use Rattle.rtcp.proofs.reports.report_in.Statement.{statement}
 use Rattle.rtcp.proofs.reports.report_in.Tie as tie
 
 -- the packet is an SR or an RR, and its report blocks lie in the compound
-is-one : (c : tie.After-count-at) → isReport (now (c .before .before .before .before .before .args .b)) (c .before .before .before .before .before .args .at) ≡ true
-is-one c = was-true (c .before .before .before .is-report .ensures) (c .before .before .if1 .left)
+is-one : (c : tie.After-blocks-from) → isReport (c .before .before .before .before .args .header) ≡ true
+is-one c = was-true (c .before .before .is-report .ensures) (c .before .if1 .left)
 
-within : (c : tie.After-count-at) → c .before .before .before .before .before .args .at + c .before .blocks-from .result + reportSize * c .count-at .result ≤ length (now (c .before .before .before .before .before .args .b))
+within : (c : tie.After-blocks-from) → c .before .before .before .before .args .at + c .blocks-from .result + reportSize * c .before .before .before .before .args .header .count ≤ length (now (c .before .before .before .before .args .b))
 within c =
-    let a = c .before .before .before .before .before .args in
-    let s = c .before .before .before .before .before .pre in
-    omega (arith, s .whole, c .before .blocks-from .ensures .0, c .count-at .ensures, reports-within (now (a .b)) (a .at) s (is-one c))
+    let a = c .before .before .before .before .args in
+    let s = c .before .before .before .before .pre in
+    omega (arith, s .whole, c .blocks-from .ensures .0, reports-within (a .header) (now (a .b)) (a .at) s (is-one c))
 
 -- the answer, by the place that is found
-is : (c : tie.After-find-entry) (p : Place) → p ≡ c .find-entry .result → reportAt (now (c .before .before .before .before .before .before .args .b)) p ≡ reportIn (now (c .before .before .before .before .before .before .args .b)) (c .before .before .before .before .before .before .args .at) (c .before .before .before .before .before .before .args .media)
+is : (c : tie.After-find-entry) (p : Place) → p ≡ c .find-entry .result → reportAt (now (c .before .before .before .before .before .before .args .b)) p ≡ reportIn (c .before .before .before .before .before .before .args .header) (now (c .before .before .before .before .before .before .args .b)) (c .before .before .before .before .before .before .args .at) (c .before .before .before .before .before .before .args .media)
 unfolding reportIn
 is c p e =
     ap (reportAt (now (c .before .before .before .before .before .before .args .b))) (e ∙ c .find-entry .ensures)
-    ∙ rw (is-one (c .before), ← (c .before .before .blocks-from .ensures .0), ← (c .before .count-at .ensures))
+    ∙ rw (is-one (c .before .before), ← (c .before .before .blocks-from .ensures .0))
 
 is-report-requires : tie.Need-is-report-requires
 is-report-requires c κs = search needs
@@ -48,14 +47,11 @@ blocks-from-requires c κs = search needs
 add-from : tie.Need-add-from
 add-from c = search needs
 
-count-at-requires : tie.Need-count-at-requires
-count-at-requires c κs = search needs
-
-cast-count : tie.Need-cast-count
-cast-count c = search needs
+cast-find-entry : tie.Need-cast-find-entry
+cast-find-entry c = search needs
 
 find-entry-requires : tie.Need-find-entry-requires
-find-entry-requires c κs = within c
+find-entry-requires c κs = (omega arith, within (c .before))
 
 enum-known-place : tie.Need-enum-known-place
 enum-known-place c = search needs
@@ -65,16 +61,14 @@ report-block-at-requires c κs =
     let a = c .before .before .before .before .before .before .before .before .before .args in
     let at = c .before .place .given .0 .0 in
     let from = a .at + c .before .before .before .before .before .blocks-from .result in
-    let count = c .before .before .before .before .count-at .result in
     let e = sym (c .before .before .before .find-entry .ensures) ∙ c .before .place .given .1 in
-    omega (arith, within (c .before .before .before .before), entry-within reportSize (now (a .b)) count from (a .media) at (entry-found reportSize (now (a .b)) count from (a .media) at e))
+    omega (arith, within (c .before .before .before .before .before), entry-within reportSize (now (a .b)) (a .header .count) from (a .media) at e)
 
 enum-told : tie.Need-enum-told
 enum-told c = search needs
 
 returns-2 : tie.Need-returns-2
-returns-2 c =
-    ap MaybeReport.Present (c .report-block-at .ensures) ∙ is (c .before .before .before .before) (Place.At (c .before .before .place .given .0 .0)) (sym (c .before .before .place .given .1))
+returns-2 c = ap MaybeReport.Present (c .report-block-at .ensures) ∙ is (c .before .before .before .before) (Place.At (c .before .before .place .given .0 .0)) (sym (c .before .before .place .given .1))
 
 returns-3 : tie.Need-returns-3
 returns-3 c = is (c .before .before) Place.Absent (sym (c .enum-told .given .1))
@@ -87,8 +81,7 @@ report-in-spec =
     returns
     blocks-from-requires
     add-from
-    count-at-requires
-    cast-count
+    cast-find-entry
     find-entry-requires
     enum-known-place
     report-block-at-requires

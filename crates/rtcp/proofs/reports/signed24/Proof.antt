@@ -13,18 +13,18 @@ use Rattle.rtcp.proofs.Narrow.{narrow-fits, narrow-is}
 use Rattle.rtcp.proofs.reports.signed24.Statement.{statement}
 use Rattle.rtcp.proofs.reports.signed24.Tie as tie
 
-abbrev number : tie.After-byte-at → ℕ
-number c = c .before .read16 .result * 256 + c .byte-at .result
+abbrev number : tie.After-byte → ℕ
+number c = c .before .number16 .result * 256 + c .byte .result
 
-number-is : (c : tie.After-byte-at) → number c ≡ word 3 (now (c .before .before .before .args .b)) (c .before .before .before .args .at)
+number-is : (c : tie.After-byte) → number c ≡ word 3 (now (c .before .before .before .args .b)) (c .before .before .before .args .at)
 unfolding word
-number-is c = ap₂ (λ (x y : ℕ). x * 256 + y) (c .before .read16 .ensures) (c .byte-at .ensures)
+number-is c = ap₂ (λ (x y : ℕ). x * 256 + y) (c .before .number16 .ensures) (c .byte .ensures)
 
-number-lt : (c : tie.After-byte-at) → number c < 16777216
-number-lt c = omega (arith, c .before .read16 .ok, c .byte-at .ok)
+number-lt : (c : tie.After-byte) → number c < 16777216
+number-lt c = omega (arith, c .before .number16 .ok, c .byte .ok)
 
-read16-requires : tie.Need-read16-requires
-read16-requires c κs = search needs
+number16-requires : tie.Need-number16-requires
+number16-requires c κs = search needs
 
 cast-n : tie.Need-cast-n
 cast-n c = search needs
@@ -32,11 +32,11 @@ cast-n c = search needs
 mul-n : tie.Need-mul-n
 mul-n c = search needs
 
-add-byte-at : tie.Need-add-byte-at
-add-byte-at c = search needs
+add-byte : tie.Need-add-byte
+add-byte c = search needs
 
-byte-at-requires : tie.Need-byte-at-requires
-byte-at-requires c κs = search needs
+byte-requires : tie.Need-byte-requires
+byte-requires c κs = search needs
 
 cast-n-2 : tie.Need-cast-n-2
 cast-n-2 c = search needs
@@ -67,11 +67,11 @@ pub signed24-spec : {M : Type 1} → statement M
 signed24-spec =
     tie.close
     (tie.spec
-    read16-requires
+    number16-requires
     cast-n
     mul-n
-    add-byte-at
-    byte-at-requires
+    add-byte
+    byte-requires
     cast-n-2
     add-n
     cast-result

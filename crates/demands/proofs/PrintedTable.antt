@@ -1,0 +1,206 @@
+-- Demand 3 in what ecntable prints. Assumes nothing.
+use mathlib.Core.Path.{_≡_, refl, sym, ap, ap₂, _∙_, subst}
+use mathlib.Core.Bool.{true}
+use mathlib.Core.List.{List, [], _∷_, _++_, map, append-nil, append-assoc}
+use Prim.Native.Nat.{ℕ, suc, _+_, _≤_, _^_}
+use native.Mathlib.Omega.{arith}
+use borrow.Author.Tests.{eq-eqb}
+use lib.Dec.{eqb}
+use lib.ListN.{length, take, drop, length-append}
+use lib.Seq.{take-append-seam}
+use Rattle.format.specs.Blocks.{bodyAt}
+use Rattle.format.specs.Forms.{shapeOf, width}
+use Rattle.format.specs.declared.Form.{Form}
+use Rattle.source.specs.declared.Source.{Source}
+use Rattle.source.specs.declared.Totals.{Totals}
+use Rattle.source.specs.declared.BlockCount.{BlockCount}
+use Rattle.source.specs.Record.{freshRecord, sound}
+use Rattle.source.specs.Totals.{withBlock}
+use Rattle.source.proofs.Facts.{fresh-sound}
+use Rattle.trace.specs.Layout.{bodyOf}
+use Rattle.trace.specs.Contents.{labelOk}
+use Rattle.trace.specs.Reading.{countIn, blockOf}
+use Rattle.trace.specs.declared.Block.{Block}
+use Rattle.trace.specs.declared.Block.the-variants.{Arrivals}
+use Rattle.trace.specs.declared.Record.{Record}
+use Rattle.trace.proofs.Accepted.{accepted}
+use Rattle.table.specs.Lines.{rowBytes}
+use Rattle.walk.specs.Blocks.{blocksOf, joined}
+use Rattle.walk.specs.Programs.{Printed, both, walk, closed}
+use Rattle.convert.specs.declared.Run.{Run}
+use Rattle.convert.specs.Runs.{rowOf, arrived, goes, nextBy, nextOf}
+use Rattle.convert.specs.Tables.{toOutput, printed}
+use Rattle.table.specs.Lines.{headBytes}
+use Rattle.convert.proofs.Steps.{start-label}
+use Rattle.convert.proofs.Whole.{rest, rest-goes, printed-started}
+use Rattle.demands.specs.Calls.{TruePacket, run, AnsweredFrom, arrivals, Steady, Described}
+use Rattle.demands.specs.Count.{baseOf, SameArrivals}
+use Rattle.demands.specs.TableRow.{countRow}
+use Rattle.demands.specs.PrintedTable.{inRecord, ofArrival, recordsBy, together, AllArrivals, Holds, rows, EndsIn, TableHoldsCount, SameLastRow}
+use Rattle.demands.proofs.Members.{Marks}
+use Rattle.demands.proofs.Order.{same-perm, perm-length}
+use Rattle.demands.proofs.Runs.{run-sound}
+use Rattle.demands.proofs.Demand.{demand3}
+use Rattle.demands.proofs.Traces.{run-parts, answers-behind, answers-front, steady-front, marks-parts, all-arrivals, block-marks, block-length, block-counted}
+
+-- ---- the arrivals of the first block, and the others
+
+record Split (xs ys : List Record) (vs : List TruePacket) : Type 0 where
+  front : List TruePacket
+  back : List TruePacket
+  is : vs ≡ front ++ back
+  first : map inRecord xs ≡ map ofArrival front
+  more : map inRecord ys ≡ map ofArrival back
+
+split : (xs ys : List Record) (vs : List TruePacket) → map inRecord (xs ++ ys) ≡ map ofArrival vs → Split xs ys vs
+split [] ys vs e = record { front = []; back = vs; is = refl; first = refl; more = e }
+split (x ∷ xs) ys [] e = let z : _≡_ {A = ℕ} 0 1 = cc in absurd (omega arith)
+split (x ∷ xs) ys (v ∷ vs) e =
+    let same : inRecord x ≡ ofArrival v = cc in
+    let rest = split xs ys vs cc in
+    record {
+      front = v ∷ rest .front;
+      back = rest .back;
+      is = ap (λ (l : List TruePacket). v ∷ l) (rest .is);
+      first = λ i. same i ∷ rest .first i;
+      more = rest .more;
+    }
+
+-- all marks of a trace's records are at most 3
+trace-marks : (ssrc : ℕ) (bs : List (List ℕ)) (vs : List TruePacket) → AllArrivals ssrc bs → map inRecord (together bs) ≡ map ofArrival vs → Marks vs
+trace-marks ssrc [] [] a e = tt
+trace-marks ssrc [] (v ∷ vs) a e = let z : _≡_ {A = ℕ} 0 1 = cc in absurd (omega arith)
+trace-marks ssrc (b ∷ bs) vs a e =
+    let is = a .2 in
+    let s = split (recordsBy b (blockOf b)) (together bs) vs e in
+    subst Marks (sym (s .is))
+    (marks-parts (s .front) (s .back)
+    (block-marks b (a .0) (a .1) ssrc is (s .front) (ap (λ (r : Block). map inRecord (recordsBy b r)) (sym is) ∙ s .first))
+    (trace-marks ssrc bs (s .back) (a .3) (s .more)))
+
+-- ---- the rows
+
+module _ (zeroth label : List ℕ) (ssrc : ℕ) (label-is : take (length label) (drop bodyAt zeroth) ≡ label) (ok : labelOk label ≡ true)
+    (ps : List TruePacket) (m : Marks ps) (d : Described ps) where
+  -- the run with the first arrivals
+  abbrev with : List TruePacket → Run
+  with us = record { length = length label; ssrc = ssrc; totals = record { source = run us; jumped = 0 } }
+
+  front-described : (us vs : List TruePacket) → us ++ vs ≡ ps → Marks us → Described us
+  front-described us vs e mu =
+      let all : arrivals us ≡ us = all-arrivals us mu in
+      let whole : arrivals ps ≡ us ++ vs = all-arrivals ps m ∙ sym e in
+      record {
+        few = rw all (omega (arith, length-append us vs, ap length whole, d .few));
+        steady = rw all (steady-front us vs (subst Steady whole (d .steady)));
+      }
+
+  row-is : (us vs : List TruePacket) → us ++ vs ≡ ps → Marks us → rowOf (with us) zeroth ≡ countRow label ssrc us 0
+  unfolding rowOf
+  row-is us vs e mu =
+      ap (λ (l : List ℕ). rowBytes l ssrc (record { source = run us; jumped = 0 })) label-is
+      ∙ demand3 us (front-described us vs e mu) .row label ssrc 0 ok (omega arith) .bytes
+      ∙ ap (λ (l : List TruePacket). countRow label ssrc l 0) (all-arrivals us mu)
+
+  -- a block of `vs` leads from `us` to `us ++ vs`
+  next-is : (us vs ws : List TruePacket) → us ++ (vs ++ ws) ≡ ps → (b : List ℕ) (form : Form) (n : ℕ) → blockOf b ≡ Arrivals form n ssrc
+      → map inRecord (recordsBy b (Arrivals form n ssrc)) ≡ map ofArrival vs → nextOf (with us) b ≡ goes (with (us ++ vs))
+  unfolding nextOf arrived
+  next-is us vs ws e b form n is same =
+      let good : sound (run us) ≡ true = run-sound freshRecord us fresh-sound in
+      let answered : AnsweredFrom (run us) vs = answers-front (run us) vs ws (answers-behind freshRecord us (vs ++ ws) (subst (AnsweredFrom freshRecord) (sym e) (demand3 ps d .answers))) in
+      let counted = block-counted b form n ssrc is vs same (run us) good answered in
+      ap (nextBy (with us) b) is ∙ rw (eq-eqb ssrc ssrc refl)
+      (ap (λ (c : BlockCount). goes (record { length = length label; ssrc = ssrc; totals = withBlock (record { source = run us; jumped = 0 }) c })) counted
+      ∙ ap (λ (s : Source). goes (record { length = length label; ssrc = ssrc; totals = record { source = s; jumped = 0 } })) (sym (run-parts freshRecord us vs)))
+
+  -- the last row of some blocks, behind those of `us`
+  Last : List (List ℕ) → List TruePacket → Type 0
+  Last [] us = us ≡ ps
+  Last (b ∷ bs) us = (front : List (List ℕ)) × (joined (rows label ssrc ps (length us) (b ∷ bs)) ≡ joined front ++ countRow label ssrc ps 0)
+
+  record Rows (i : ℕ) (bs : List (List ℕ)) (us : List TruePacket) : Type 0 where
+    lines : rest i bs (with us) zeroth ≡ toOutput (joined (rows label ssrc ps (length us) bs))
+    last : Last bs us
+
+  last-next : (b : List ℕ) (bs : List (List ℕ)) (us next : List TruePacket) → length us + countIn b ≡ length next → take (length next) ps ≡ next → Last bs next → Last (b ∷ bs) us
+  unfolding rows Last
+  last-next b [] us next n t l = ([], rw (n, t, l) (append-nil (countRow label ssrc ps 0)))
+  last-next b (c ∷ cs) us next n t l =
+      let row : List ℕ = countRow label ssrc next 0 in
+      (row ∷ l .0, rw (n, t, l .1) (sym (append-assoc row (joined (l .0)) (countRow label ssrc ps 0))))
+
+  rest-rows : (i : ℕ) (bs : List (List ℕ)) (us vs : List TruePacket) → us ++ vs ≡ ps → Marks us → AllArrivals ssrc bs → map inRecord (together bs) ≡ map ofArrival vs → Rows i bs us
+  unfolding rows walk closed Last
+  rest-rows i [] us [] e mu a same = record { lines = refl; last = sym (append-nil us) ∙ e }
+  rest-rows i [] us (v ∷ vs) e mu a same = let z : _≡_ {A = ℕ} 0 1 = cc in absurd (omega arith)
+  rest-rows i (b ∷ bs) us vs e mu a same =
+      let form = a .0 in
+      let n = a .1 in
+      let is = a .2 in
+      let s = split (recordsBy b (blockOf b)) (together bs) vs same in
+      let first : map inRecord (recordsBy b (Arrivals form n ssrc)) ≡ map ofArrival (s .front) = ap (λ (r : Block). map inRecord (recordsBy b r)) (sym is) ∙ s .first in
+      let next : List TruePacket = us ++ s .front in
+      let parts : us ++ (s .front ++ s .back) ≡ ps = ap (λ (l : List TruePacket). us ++ l) (sym (s .is)) ∙ e in
+      let whole : next ++ s .back ≡ ps = append-assoc us (s .front) (s .back) ∙ parts in
+      let mn : Marks next = marks-parts us (s .front) mu (block-marks b form n ssrc is (s .front) first) in
+      let long : length us + countIn b ≡ length next = omega (arith, length-append us (s .front), block-length b form n ssrc is (s .front) first, accepted b is .block .its-count) in
+      let cut : take (length next) ps ≡ next = ap (take (length next)) (sym whole) ∙ take-append-seam next (s .back) in
+      let more = rest-rows (suc i) bs next (s .back) whole mn (a .3) (s .more) in
+      record {
+        lines =
+            rest-goes zeroth i b bs (with us) (next-is us (s .front) (s .back) parts b form n is first)
+            ∙ ap₂ (λ (row : List ℕ) (p : Printed). both (toOutput row) p) (row-is next (s .back) whole mn) (more .lines)
+            ∙ rw (long, cut);
+        last = last-next b bs us next long cut (more .last);
+      }
+
+-- ---- the theorems
+
+module _ (trace label : List ℕ) (ssrc : ℕ) (ps : List TruePacket) (d : Described ps) (h : Holds trace label ssrc ps) where
+  held-marks : Marks ps
+  held-marks = trace-marks ssrc (blocksOf trace .others) ps (h .others) (h .records)
+
+  held-label : take (length label) (drop bodyAt (blocksOf trace .zeroth)) ≡ label
+  held-label = sym (accepted (blocksOf trace .zeroth) (h .zeroth) .block .place) ∙ h .text
+
+  label-ok : labelOk label ≡ true
+  label-ok = ap labelOk (sym (h .text)) ∙ accepted (blocksOf trace .zeroth) (h .zeroth) .label
+
+  all-rows : Rows (blocksOf trace .zeroth) label ssrc held-label label-ok ps held-marks d 1 (blocksOf trace .others) []
+  all-rows = rest-rows (blocksOf trace .zeroth) label ssrc held-label label-ok ps held-marks d 1 (blocksOf trace .others) [] ps refl tt (h .others) (h .records)
+
+  all-lines : printed trace ≡ toOutput (headBytes ++ joined (rows label ssrc ps 0 (blocksOf trace .others)))
+  all-lines = printed-started trace _ (start-label (blocksOf trace .zeroth) (h .zeroth)) ∙ ap (both (toOutput headBytes)) (all-rows .lines)
+
+  last-line : (bs : List (List ℕ)) → printed trace ≡ toOutput (headBytes ++ joined (rows label ssrc ps 0 bs))
+      → Last (blocksOf trace .zeroth) label ssrc held-label label-ok ps held-marks d bs [] → 1 ≤ length ps → EndsIn trace (countRow label ssrc ps 0)
+  unfolding Last
+  last-line [] lines last some = absurd (omega (arith, ap length last))
+  last-line (b ∷ bs) lines last some = (last .0, lines ∙ ap (λ (l : List ℕ). toOutput (headBytes ++ l)) (last .1))
+
+  -- the row of the record at the end
+  row-of : countRow label ssrc ps 0 ≡ rowBytes label ssrc (record { source = run ps; jumped = 0 })
+  row-of =
+      ap (λ (l : List TruePacket). countRow label ssrc l 0) (sym (all-arrivals ps held-marks))
+      ∙ sym (demand3 ps d .row label ssrc 0 label-ok (omega arith) .bytes)
+
+pub table-holds-count : TableHoldsCount
+table-holds-count trace label ssrc ps d h =
+    record {
+      lines = all-lines trace label ssrc ps d h;
+      last = last-line trace label ssrc ps d h (blocksOf trace .others) (all-lines trace label ssrc ps d h) (all-rows trace label ssrc ps d h .last);
+    }
+
+pub same-last-row : SameLastRow
+same-last-row trace other label ssrc ps qs d e h k same first some =
+    let mp = all-arrivals ps (held-marks trace label ssrc ps d h) in
+    let mq = all-arrivals qs (held-marks other label ssrc qs e k) in
+    let end : run ps ≡ run qs = demand3 ps d .order qs e (rw (mp, mq) same) (rw (mp, mq) first) in
+    let row : countRow label ssrc qs 0 ≡ countRow label ssrc ps 0 =
+    row-of other label ssrc qs e k ∙ ap (λ (s : Source). rowBytes label ssrc (record { source = s; jumped = 0 })) (sym end) ∙ sym (row-of trace label ssrc ps d h) in
+    let more : 1 ≤ length qs = omega (arith, perm-length (same-perm ps qs same)) in (
+      countRow label ssrc ps 0,
+      table-holds-count trace label ssrc ps d h .last some,
+      subst (EndsIn other) row (table-holds-count other label ssrc qs e k .last more),
+    )

@@ -1,0 +1,79 @@
+-- Demand 3 in what ecntable prints (document 01, "Trace file" and "Table").
+use mathlib.Core.Path.{_≡_}
+use mathlib.Core.List.{List, [], _∷_, _++_, map}
+use Prim.Native.Nat.{ℕ, _+_, _≤_}
+use lib.ListN.{length, take}
+use Rattle.format.specs.Forms.{shapeOf}
+use Rattle.format.specs.declared.Form.{Form}
+use Rattle.source.specs.Blocks.{Packet}
+use Rattle.trace.specs.Layout.{bodyOf}
+use Rattle.trace.specs.Reading.{countIn, blockOf}
+use Rattle.trace.specs.Theorems.{recordsIn}
+use Rattle.trace.specs.declared.Block.{Block}
+use Rattle.trace.specs.declared.Block.the-variants.{Label, Arrivals, Refused}
+use Rattle.trace.specs.declared.Record.{Record}
+use Rattle.table.specs.Lines.{headBytes}
+use Rattle.walk.specs.Blocks.{blocksOf, joined}
+use Rattle.convert.specs.Tables.{toOutput, printed}
+use Rattle.demands.specs.Calls.{TruePacket, wireOf, Described}
+use Rattle.demands.specs.Count.{baseOf, SameArrivals}
+use Rattle.demands.specs.TableRow.{countRow}
+
+-- ---- the trace
+
+-- the wire number and the mark in a record, and of an arrival
+abbrev pub inRecord : Record → Packet
+inRecord r = record { wire = r .number; mark = r .mark }
+
+abbrev pub ofArrival : TruePacket → Packet
+ofArrival p = record { wire = wireOf (p .number); mark = p .mark }
+
+-- the records of a block, and of blocks together, in order
+abbrev pub recordsBy : List ℕ → Block → List Record
+recordsBy b (Arrivals form n ssrc) = recordsIn (shapeOf form) n (bodyOf b)
+recordsBy b (Label form n ssrc) = []
+recordsBy b (Refused refusal) = []
+
+abbrev pub together : List (List ℕ) → List Record
+together [] = []
+together (b ∷ bs) = recordsBy b (blockOf b) ++ together bs
+
+-- each block holds arrivals of this SSRC
+abbrev pub AllArrivals : ℕ → List (List ℕ) → Type 0
+AllArrivals ssrc [] = Unit {0}
+AllArrivals ssrc (b ∷ bs) = (form : Form) × (n : ℕ) × (blockOf b ≡ Arrivals form n ssrc) × AllArrivals ssrc bs
+
+-- a label block, then arrivals blocks of its SSRC whose records, taken together in order, are what the program sees of the arrivals `ps`
+pub record Holds (trace label : List ℕ) (ssrc : ℕ) (ps : List TruePacket) : Type 0 where
+  pub form : Form
+  pub zeroth : blockOf (blocksOf trace .zeroth) ≡ Label form (length label) ssrc
+  pub text : take (length label) (bodyOf (blocksOf trace .zeroth)) ≡ label
+  pub others : AllArrivals ssrc (blocksOf trace .others)
+  pub records : map inRecord (together (blocksOf trace .others)) ≡ map ofArrival ps
+
+-- ---- the table
+
+-- one row per block, with the values of the count over the arrivals up to its end and jumped 0; k of them stand in the blocks before
+unfoldable pub rows : List ℕ → ℕ → List TruePacket → ℕ → List (List ℕ) → List (List ℕ)
+rows label ssrc ps k [] = []
+rows label ssrc ps k (b ∷ bs) = countRow label ssrc (take (k + countIn b) ps) 0 ∷ rows label ssrc ps (k + countIn b) bs
+
+-- the head line, `front` rows, and the row `row` as the last
+abbrev pub EndsIn : List ℕ → List ℕ → Type 0
+EndsIn trace row = (front : List (List ℕ)) × (printed trace ≡ toOutput (headBytes ++ (joined front ++ row)))
+
+pub record Table (trace label : List ℕ) (ssrc : ℕ) (ps : List TruePacket) : Type 0 where
+  -- nothing is printed but the head line and one row per block
+  pub lines : printed trace ≡ toOutput (headBytes ++ joined (rows label ssrc ps 0 (blocksOf trace .others)))
+  -- the last has the values of the count over all arrivals, where there are some
+  pub last : 1 ≤ length ps → EndsIn trace (countRow label ssrc ps 0)
+
+abbrev pub TableHoldsCount : Type 0
+TableHoldsCount = (trace label : List ℕ) (ssrc : ℕ) (ps : List TruePacket) → Described ps → Holds trace label ssrc ps → Table trace label ssrc ps
+
+-- two such traces with the same label, SSRC and arrivals, the first the same, end in the same row, however they are cut into blocks
+abbrev pub SameLastRow : Type 0
+SameLastRow =
+    (trace other label : List ℕ) (ssrc : ℕ) (ps qs : List TruePacket) → Described ps → Described qs → Holds trace label ssrc ps → Holds other label ssrc qs
+    → SameArrivals ps qs → baseOf ps ≡ baseOf qs → 1 ≤ length ps
+    → (row : List ℕ) × EndsIn trace row × EndsIn other row

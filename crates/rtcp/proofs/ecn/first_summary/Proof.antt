@@ -1,0 +1,34 @@
+-- `rtcp::ecn::first_summary` meets its contract. Assumes nothing.
+use borrow.Author.Needs.{needs}
+use mathlib.Core.Path.{refl, sym, ap, _∙_}
+use mathlib.Core.List.{[], _∷_}
+use denote.Ref.{now}
+use Rattle.rtcp.specs.declared.MaybeSummary.{MaybeSummary}
+use Rattle.rtcp.specs.EcnReports.{summaryIn}
+use Rattle.rtcp.specs.Compound.{firstSummary}
+use Rattle.rtcp.proofs.Left.{summary-last}
+use Rattle.rtcp.proofs.ecn.first_summary.Statement.{statement}
+use Rattle.rtcp.proofs.ecn.first_summary.Tie as tie
+
+enum-known-old : tie.Need-enum-known-old
+enum-known-old c = search needs
+
+enum-told : tie.Need-enum-told
+enum-told c = search needs
+
+summary-in-requires : tie.Need-summary-in-requires
+summary-in-requires c κs = search needs
+
+returns : tie.Need-returns
+returns c =
+    let a = c .before .before .before .before .args in
+    sym (ap (λ (o : MaybeSummary). firstSummary (o ∷ summaryIn (a .block) (now (a .b)) (a .at) (a .media) ∷ [])) (c .before .old .given .1))
+
+returns-2 : tie.Need-returns-2
+returns-2 c =
+    let new = c .summary-in .result in
+    sym (ap (λ (o : MaybeSummary). firstSummary (o ∷ new ∷ [])) (c .before .enum-told .given .1) ∙ summary-last new [] refl)
+    ∙ ap (λ (n : MaybeSummary). firstSummary (c .before .before .before .before .args .old ∷ n ∷ [])) (c .summary-in .ensures)
+
+pub first-summary-spec : {M : Type 1} → statement M
+first-summary-spec = tie.close (tie.spec enum-known-old enum-told summary-in-requires returns returns-2)

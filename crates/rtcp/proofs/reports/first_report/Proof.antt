@@ -1,0 +1,34 @@
+-- `rtcp::reports::first_report` meets its contract. Assumes nothing.
+use borrow.Author.Needs.{needs}
+use mathlib.Core.Path.{refl, sym, ap, _∙_}
+use mathlib.Core.List.{[], _∷_}
+use denote.Ref.{now}
+use Rattle.rtcp.specs.declared.MaybeReport.{MaybeReport}
+use Rattle.rtcp.specs.ReportBlocks.{reportIn}
+use Rattle.rtcp.specs.Compound.{firstReport}
+use Rattle.rtcp.proofs.Left.{report-last}
+use Rattle.rtcp.proofs.reports.first_report.Statement.{statement}
+use Rattle.rtcp.proofs.reports.first_report.Tie as tie
+
+enum-known-old : tie.Need-enum-known-old
+enum-known-old c = search needs
+
+enum-told : tie.Need-enum-told
+enum-told c = search needs
+
+report-in-requires : tie.Need-report-in-requires
+report-in-requires c κs = search needs
+
+returns : tie.Need-returns
+returns c =
+    let a = c .before .before .before .before .args in
+    sym (ap (λ (o : MaybeReport). firstReport (o ∷ reportIn (a .header) (now (a .b)) (a .at) (a .media) ∷ [])) (c .before .old .given .1))
+
+returns-2 : tie.Need-returns-2
+returns-2 c =
+    let new = c .report-in .result in
+    sym (ap (λ (o : MaybeReport). firstReport (o ∷ new ∷ [])) (c .before .enum-told .given .1) ∙ report-last new [] refl)
+    ∙ ap (λ (n : MaybeReport). firstReport (c .before .before .before .before .args .old ∷ n ∷ [])) (c .report-in .ensures)
+
+pub first-report-spec : {M : Type 1} → statement M
+first-report-spec = tie.close (tie.spec enum-known-old enum-told report-in-requires returns returns-2)

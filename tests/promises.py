@@ -1,0 +1,104 @@
+#!/usr/bin/env python3
+"""tests/promises.py: every public function of the proved libraries has a promise, and none asks anything of its caller.
+
+A crate's public functions are those of its root and of its public modules, and the methods of every `impl`, wherever it stands. What is excepted
+stands in EXCEPTED: the test programs' own libraries, and of the program shell the two calls of which no contract can say anything. A copy
+of the crates is then broken in three ways, and each must be found.
+"""
+import os
+import re
+import shutil
+import sys
+import tempfile
+
+TOP = os.path.dirname(os.path.dirname(os.path.abspath(__file__)))
+CRATES = os.path.join(TOP, "crates")
+
+# crate: its functions with no promise; None: all of them
+EXCEPTED = {"show": None, "cases": None, "shell": {"tell", "has_arguments"}}
+
+FUNCTION = re.compile(r'^(?P<indent> *)pub (?:extern "C" )?fn (?P<name>\w+)', re.M)
+
+
+def read(path):
+    with open(path, encoding="utf-8") as file:
+        return file.read()
+
+
+def libraries(crates):
+    return sorted(name for name in os.listdir(crates) if os.path.isfile(os.path.join(crates, name, "src", "lib.rt")))
+
+
+def modules(crate):
+    """(file, whether its free functions are public) of each module of a crate."""
+    def below(file, folder, public):
+        yield file, public
+        for shown, name in re.findall(r"^(pub )?mod (\w+);", read(file), re.M):
+            yield from below(os.path.join(folder, name + ".rt"), os.path.join(folder, name), public and bool(shown))
+    source = os.path.join(crate, "src")
+    return below(os.path.join(source, "lib.rt"), source, True)
+
+
+def public_functions(crate):
+    """(name, what stands between its name and its body) of each public function of a crate."""
+    for file, public in modules(crate):
+        text = read(file)
+        for head in FUNCTION.finditer(text):
+            indent = head.group("indent")
+            body = re.compile(rf"^{indent}(?:\{{|\S.* \{{)$", re.M).search(text, head.start())
+            if indent or public:
+                yield head.group("name"), text[head.end() : body.end() if body else len(text)]
+
+
+def faults(crates):
+    """(what is wrong, how many functions were looked at)."""
+    wrong, seen = [], 0
+    for crate in libraries(crates):
+        excepted = EXCEPTED.get(crate, set())
+        for name, contract in public_functions(os.path.join(crates, crate)):
+            if re.search(r"^\s*requires\b", contract, re.M):
+                wrong.append(f"{crate}: {name} asks something of its caller")
+            if excepted is None or name in excepted:
+                continue
+            seen += 1
+            if not re.search(r"^\s*ensures\b", contract, re.M):
+                wrong.append(f"{crate}: {name} promises nothing")
+    return wrong, seen
+
+
+# ---- broken copies
+
+PROMISE = re.compile(r"^    ensures .*\n", re.M)
+BROKEN = {
+    "a promise dropped": ("numbers/src/since.rt", lambda text: PROMISE.sub("", text, count=1)),
+    "a requirement added": ("capi/src/rows.rt", lambda text: PROMISE.sub("    requires { ⌜ 1 ≤ 2 ⌝ }\n\\g<0>", text, count=1)),
+    "a function with no promise": ("source/src/lib.rt", lambda text: text + "\npub fn more() -> u8 {\n    1\n}\n"),
+}
+
+
+def unseen():
+    """The ways of breaking a copy that are not found."""
+    for name, (file, change) in BROKEN.items():
+        with tempfile.TemporaryDirectory() as work:
+            copy = os.path.join(work, "crates")
+            shutil.copytree(CRATES, copy, ignore=shutil.ignore_patterns("specs", "proofs", "edits", "must-fail"))
+            path = os.path.join(copy, file)
+            before = read(path)
+            with open(path, "w", encoding="utf-8") as out:
+                out.write(change(before))
+            if read(path) == before or len(faults(copy)[0]) != 1:
+                yield name
+
+
+def main():
+    wrong, seen = faults(CRATES)
+    wrong += [f"a broken copy is not found: {name}" for name in unseen()]
+    for line in wrong:
+        print("promises: FAILED,", line)
+    if not wrong:
+        print(f"promises: {seen} public functions of {len(libraries(CRATES))} libraries, each with a promise and none with a requirement; {len(BROKEN)} broken copies are found")
+    return 1 if wrong else 0
+
+
+if __name__ == "__main__":
+    sys.exit(main())
