@@ -43,7 +43,7 @@ fn format(label: &[u8], ssrc: u32, s: &Source, jumped: u64, out: &mut impl Write
     write!(out, ",{ssrc},{highest},{ect0},{ect1},{ce},{notect},{lost},{duplicates},{jumped}\r\n")
 }
 
-/// The length, or minus a refusal.
+/// The length, or minus a refusal; 12 stands beside the length, 256 times.
 #[inline(always)]
 pub fn write_row(label: &[u8], ssrc: u32, s: &Source, jumped: u64, out: &mut [u8]) -> i64 {
     if !is_sound(s) {
@@ -57,7 +57,7 @@ pub fn write_row(label: &[u8], ssrc: u32, s: &Source, jumped: u64, out: &mut [u8
     format(label, ssrc, s, jumped, &mut row).expect("a row fits 1,280 bytes");
     let n = row.position() as usize;
     if out.len() < n {
-        return -12;
+        return -(256 * n as i64 + 12);
     }
     out[..n].copy_from_slice(&row.get_ref()[..n]);
     n as i64

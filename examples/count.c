@@ -3,36 +3,44 @@
  */
 #include <inttypes.h>
 #include <stdio.h>
+#include <stdlib.h>
 
 #include "flasknib.h"
 
 static const uint16_t wires[] = {65534, 65535, 0, 0, 3};
 static const uint8_t marks[] = {2, 2, 3, 3, 1};
+static const char label[] = "probe 2, left";
+static const uint32_t media = 1, sender = 9;
 
-/* Prints bytes in hex, four to a group, or the refusal that stands for their length. */
-static void print_words(const char *name, const uint8_t *bytes, int64_t length)
+/* Prints bytes in hex, four to a group, or the refusal that a writer answered, and the size that comes with refusal 12. */
+static void print_words(const char *name, const uint8_t *bytes, int64_t answer)
 {
     printf("%s:", name);
-    if (length < 0)
-        printf(" refused %" PRId64, -length);
-    for (int64_t i = 0; i < length; i++)
+    if (FLASKNIB_WRITE_REFUSAL(answer) != 0)
+        printf(" refused %d", FLASKNIB_WRITE_REFUSAL(answer));
+    if (FLASKNIB_WRITE_REFUSAL(answer) == FLASKNIB_ROOM)
+        printf(", %zu bytes", FLASKNIB_WRITE_SIZE(answer));
+    for (int64_t i = 0; i < answer; i++)
         printf("%s%02X", i % 4 == 0 ? " " : "", bytes[i]);
     printf("\n");
 }
 
-static void print_text(const uint8_t *bytes, int64_t length)
+static void print_text(const uint8_t *bytes, int64_t answer)
 {
-    if (length > 0)
-        fwrite(bytes, 1, (size_t)length, stdout);
+    if (answer > 0)
+        fwrite(bytes, 1, (size_t)answer, stdout);
+}
+
+static int64_t write_row(const uint64_t *source, uint64_t jumped, uint8_t *out, size_t room)
+{
+    return flasknib_write_row((const uint8_t *)label, sizeof label - 1, media, source, FLASKNIB_SOURCE_WORDS, jumped, out, room);
 }
 
 int main(void)
 {
-    const uint32_t media = 1, sender = 9;
-    const char label[] = "probe 2, left";
     uint64_t source[FLASKNIB_SOURCE_WORDS] = {0}; /* fresh */
     uint64_t jumped = 0;
-    uint8_t out[4096];
+    uint8_t feedback[FLASKNIB_FEEDBACK_BYTES], summary[FLASKNIB_SUMMARY_BYTES], head[FLASKNIB_HEAD_BYTES];
 
     for (size_t i = 0; i < sizeof marks; i++) {
         uint8_t refusal = flasknib_arrive(source, FLASKNIB_SOURCE_WORDS, wires[i], marks[i]);
@@ -49,10 +57,23 @@ int main(void)
     printf("not-ECT %" PRIu64 "\n", source[2]);
     printf("duplicates %" PRIu64 "\n", source[6]);
 
-    print_words("feedback", out, flasknib_write_feedback(source, FLASKNIB_SOURCE_WORDS, sender, media, out, sizeof out));
-    print_words("summary", out, flasknib_write_summary(source, FLASKNIB_SOURCE_WORDS, media, out, sizeof out));
+    print_words("feedback", feedback, flasknib_write_feedback(source, FLASKNIB_SOURCE_WORDS, sender, media, feedback, sizeof feedback));
+    print_words("summary", summary, flasknib_write_summary(source, FLASKNIB_SOURCE_WORDS, media, summary, sizeof summary));
 
-    print_text(out, flasknib_write_head(out, sizeof out));
-    print_text(out, flasknib_write_row((const uint8_t *)label, sizeof label - 1, media, source, FLASKNIB_SOURCE_WORDS, jumped, out, sizeof out));
+    /* A row has no fixed length. Asked with a room of 0 (and a pointer that is not null), the writer refuses with 12 and says the size. */
+    uint8_t none[1];
+    int64_t asked = write_row(source, jumped, none, 0);
+    print_words("row in 0 bytes", none, asked);
+    if (FLASKNIB_WRITE_REFUSAL(asked) != FLASKNIB_ROOM)
+        return FLASKNIB_WRITE_REFUSAL(asked);
+
+    /* Asked again with just that much room, it writes. */
+    size_t size = FLASKNIB_WRITE_SIZE(asked);
+    uint8_t *row = malloc(size);
+    if (row == NULL)
+        return EXIT_FAILURE;
+    print_text(head, flasknib_write_head(head, sizeof head));
+    print_text(row, write_row(source, jumped, row, size));
+    free(row);
     return 0;
 }

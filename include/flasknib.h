@@ -2,7 +2,8 @@
  *
  * Every function returns on every input. Records are lent as arrays of 64-bit words in the layouts below; a signed number is stored as its
  * two's complement. A refusal is its number in document 01's table (1 to 14), and a refused call changes no word and no byte of what it
- * was lent. A record in another number of words than its layout has is refused with 9, as malformed.
+ * was lent. A record in another number of words than its layout has is refused with 9, as malformed. A function that writes bytes says with
+ * refusal 12 how many it needs.
  */
 #ifndef FLASKNIB_H
 #define FLASKNIB_H
@@ -23,10 +24,25 @@ enum {
     FLASKNIB_MALFORMED = 9,     /* a record is malformed */
     FLASKNIB_LIMITS = 10,       /* a number, a label, records or a compound's size outside the limits */
     FLASKNIB_TIME = 11,         /* a report not later than the last, or a tick before it */
-    FLASKNIB_ROOM = 12,         /* the output is too small */
+    FLASKNIB_ROOM = 12,         /* the output is too small; where bytes are written, the answer has their number, the size */
     FLASKNIB_CHECKSUM = 13,     /* a block's checksum */
     FLASKNIB_CONTENTS = 14      /* a block's contents */
 };
+
+/* ---- what a writer answers -------------------------------------------------------------------------------------------------------
+ * The six functions flasknib_write_... give the length, the number of bytes that they wrote, or minus a refusal's number. Refusal 12 comes with
+ * its size, the number of bytes that the call would write: the answer is minus (256 * size + 12). With a room of exactly that many bytes the
+ * same call succeeds, with one byte fewer it does not. The size can be asked with a room of 0; `out` must not be null, even then. The other
+ * refusals have no size. The functions that fill words answer a plain 12: how many words they need is fixed, and stands below.
+ *
+ * The two macros take a writer's answer, an int64_t, apart. They evaluate it twice: give them a variable, not a call.
+ */
+
+/* The refusal, 1 to 14, or 0 where there is a length: an int. */
+#define FLASKNIB_WRITE_REFUSAL(answer) ((answer) < 0 ? (int)-((answer) % 256) : 0)
+
+/* The size that comes with refusal 12, or 0 where there is another refusal or a length: a size_t. */
+#define FLASKNIB_WRITE_SIZE(answer) ((answer) < 0 ? (size_t)-((answer) / 256) : 0)
 
 /* ---- one RTP source --------------------------------------------------------------------------------------------------------------
  * 9 words: base (signed), highest (signed), not-ECT, ECT(1), ECT(0), CE, duplicates, places 0 to 63 of the history, places 64 to 99. Place k
@@ -42,10 +58,12 @@ uint8_t flasknib_arrive(uint64_t *source, size_t words, uint16_t wire, uint8_t m
  * 9 or 10. */
 int64_t flasknib_count_block(uint64_t *source, size_t words, const uint8_t *records, size_t length, size_t width);
 
-/* Writes the ECN feedback packet of RFC 6679, 32 bytes. Gives its length, or minus refusal 9 or 12. */
+/* Writes the ECN feedback packet of RFC 6679, 32 bytes. Gives its length, or minus refusal 9, or 12 with its size. */
+#define FLASKNIB_FEEDBACK_BYTES 32
 int64_t flasknib_write_feedback(const uint64_t *source, size_t words, uint32_t sender, uint32_t media, uint8_t *out, size_t room);
 
-/* Writes the XR ECN summary block with one entry, 24 bytes. Gives its length, or minus refusal 9 or 12. */
+/* Writes the XR ECN summary block with one entry, 24 bytes. Gives its length, or minus refusal 9, or 12 with its size. */
+#define FLASKNIB_SUMMARY_BYTES 24
 int64_t flasknib_write_summary(const uint64_t *source, size_t words, uint32_t media, uint8_t *out, size_t room);
 
 /* ---- compound RTCP ---------------------------------------------------------------------------------------------------------------
@@ -87,20 +105,25 @@ uint16_t flasknib_breaker_tick(uint64_t *breaker, size_t words, uint64_t time);
 /* 3 words of a block: 1 for a label or 2 for arrivals; the label's length or the number of records; the SSRC. */
 #define FLASKNIB_BLOCK_WORDS 3
 
+/* The bytes of every block. */
+#define FLASKNIB_BLOCK_BYTES 512
+
 /* Reads a block of 512 bytes. Gives 0 and 3 words at the front of `found`, or refusal 1, 13 or 14, or 12 where `found` has fewer words. */
 uint8_t flasknib_read_block(const uint8_t *block, size_t length, uint64_t *found, size_t words);
 
-/* Writes a label block, 512 bytes. Gives its length, or minus refusal 10 or 12. */
+/* Writes a label block, 512 bytes. Gives its length, or minus refusal 10, or 12 with its size. */
 int64_t flasknib_write_label(const uint8_t *label, size_t length, uint32_t ssrc, uint8_t *out, size_t room);
 
-/* Writes an arrivals block, 512 bytes. Gives its length, or minus refusal 10 or 12. */
+/* Writes an arrivals block, 512 bytes. Gives its length, or minus refusal 10, or 12 with its size. */
 int64_t flasknib_write_arrivals(const uint32_t *times, size_t n_times, const uint16_t *numbers, size_t n_numbers, const uint8_t *marks,
                                 size_t n_marks, uint32_t ssrc, uint8_t *out, size_t room);
 
-/* Writes the table's head line. Gives its length, or minus refusal 12. */
+/* Writes the table's head line, 56 bytes. Gives its length, or minus refusal 12 with its size. */
+#define FLASKNIB_HEAD_BYTES 56
 int64_t flasknib_write_head(uint8_t *out, size_t room);
 
-/* Writes a row of the table. Gives its length, or minus refusal 9, 10 or 12. */
+/* Writes a row of the table, at most 1,206 bytes. Gives its length, or minus refusal 9 or 10, or 12 with its size. */
+#define FLASKNIB_ROW_MOST_BYTES 1206
 int64_t flasknib_write_row(const uint8_t *label, size_t length, uint32_t ssrc, const uint64_t *source, size_t words, uint64_t jumped,
                            uint8_t *out, size_t room);
 

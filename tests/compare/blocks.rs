@@ -8,7 +8,7 @@ pub fn calls(compare: &Compare, draw: &Draw) {
     for _ in 0..80_000 {
         read(compare, &blocks::any(draw), &vec![draw.u64(); draw.room(3)]);
     }
-    for _ in 0..40_000 {
+    for _ in 0..25_000 {
         write_label(compare, draw);
         write_arrivals(compare, draw);
     }
@@ -28,11 +28,13 @@ fn read_written(compare: &Compare, answer: i64, out: &[u8]) {
 }
 
 fn write_label(compare: &Compare, draw: &Draw) {
-    let mut lent = (Lent::new(&blocks::any_label(draw)), Lent::new(&vec![draw.u64() as u8; draw.room(BLOCK)]));
-    let ssrc = draw.u64() as u32;
-    let answer =
-        compare.call("flasknib_write_label", &mut lent, |calls, (label, out)| calls.write_label(label.part(), ssrc, out.part_mut()));
-    read_written(compare, answer, lent.1.part());
+    let (label, ssrc) = (blocks::any_label(draw), draw.u64() as u32);
+    for room in draw.rooms(BLOCK) {
+        let mut lent = (Lent::new(&label), Lent::new(&vec![draw.u64() as u8; room]));
+        let answer =
+            compare.call("flasknib_write_label", &mut lent, |calls, (label, out)| calls.write_label(label.part(), ssrc, out.part_mut()));
+        read_written(compare, answer, lent.1.part());
+    }
 }
 
 /// 1 to 62 records; now and then none or too many, a mark above 3, or lists of different lengths.
@@ -50,11 +52,13 @@ fn write_arrivals(compare: &Compare, draw: &Draw) {
         4 => drop(times.pop()),
         _ => {}
     }
-    let out = vec![draw.u64() as u8; draw.room(BLOCK)];
     let ssrc = draw.u64() as u32;
-    let mut lent = (Lent::new(&times), Lent::new(&numbers), Lent::new(&marks), Lent::new(&out));
-    let answer = compare.call("flasknib_write_arrivals", &mut lent, |calls, (times, numbers, marks, out)| {
-        calls.write_arrivals(times.part(), numbers.part(), marks.part(), ssrc, out.part_mut())
-    });
-    read_written(compare, answer, lent.3.part());
+    for room in draw.rooms(BLOCK) {
+        let out = vec![draw.u64() as u8; room];
+        let mut lent = (Lent::new(&times), Lent::new(&numbers), Lent::new(&marks), Lent::new(&out));
+        let answer = compare.call("flasknib_write_arrivals", &mut lent, |calls, (times, numbers, marks, out)| {
+            calls.write_arrivals(times.part(), numbers.part(), marks.part(), ssrc, out.part_mut())
+        });
+        read_written(compare, answer, lent.3.part());
+    }
 }

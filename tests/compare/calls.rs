@@ -29,7 +29,7 @@ pub const REDUCE: u16 = 1;
 pub const STOP: u16 = 0x100;
 pub const REFUSED: u16 = 0x200;
 
-/// Every function with every answer it can give; a length or a number of jumps counts as 0.
+/// Every function with every answer it can give; a length or a number of jumps counts as 0, and a writer's 12 with any size as -12.
 pub const FUNCTIONS: [(&str, &[i64]); 13] = [
     ("flasknib_arrive", &[0, 7, 8, 9, 10]),
     ("flasknib_count_block", &[0, -9, -10]),

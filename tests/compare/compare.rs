@@ -76,11 +76,11 @@ impl Compare {
     }
 }
 
-/// A length or a number of jumps counts as 0.
+/// A length or a number of jumps counts as 0, and a writer's 12 with any size as -12.
 fn class(name: &str, answer: i64) -> i64 {
     let possible = FUNCTIONS.iter().find(|(function, _)| *function == name).expect("a function of the header").1;
     if possible.iter().any(|&answer| answer < 0) {
-        answer.min(0)
+        answer.min(0) % 256
     } else {
         answer
     }

@@ -1,19 +1,24 @@
 //! The same calls answered by the model.
 use crate::calls::{Calls, Settings, GO, REDUCE, REFUSED, STOP};
 use model::breaker::{Answer, Breaker, Report};
-use model::refusal::{put, require, Refusal, LIMITS, ROOM};
+use model::refusal::{put, require, Refusal, Written, LIMITS, ROOM};
 use model::source::{count_block, Source};
 use model::trace::{arrivals_block, label_block, Contents, Record};
 use model::{compound, report, table, trace};
 
 pub struct Expected;
 
-fn status(result: Result<(), Refusal>) -> u8 {
-    result.err().unwrap_or(0)
+fn minus(refusal: Refusal) -> i64 {
+    -i64::from(refusal.number())
 }
 
-fn number(result: Result<usize, Refusal>) -> i64 {
-    result.map_or_else(|refusal| -i64::from(refusal), |number| number as i64)
+/// A writer's answer in one number: 12 stands beside its size, 256 times.
+fn length(written: Written) -> i64 {
+    match written {
+        Written::Length(length) => length as i64,
+        Written::Room(size) => -(256 * size as i64 + i64::from(ROOM)),
+        Written::Refused(refusal) => minus(refusal),
+    }
 }
 
 fn answer(result: Result<Answer, Refusal>) -> u16 {
@@ -21,14 +26,20 @@ fn answer(result: Result<Answer, Refusal>) -> u16 {
         Ok(Answer::Go) => GO,
         Ok(Answer::Reduce) => REDUCE,
         Ok(Answer::Stop(reason)) => STOP + reason as u16,
-        Err(refusal) => REFUSED + u16::from(refusal),
+        Err(refusal) => REFUSED + u16::from(refusal.number()),
     }
 }
 
-fn put_words(words: &[u64], found: &mut [u64]) -> Result<(), Refusal> {
-    require(words.len() <= found.len(), ROOM)?;
-    found[..words.len()].copy_from_slice(words);
-    Ok(())
+/// The words at the front of `found` and 0, or their refusal, or 12.
+fn put_words(words: Result<impl AsRef<[u64]>, Refusal>, found: &mut [u64]) -> u8 {
+    match words.as_ref().map(AsRef::as_ref) {
+        Err(refusal) => refusal.number(),
+        Ok(words) if words.len() > found.len() => ROOM,
+        Ok(words) => {
+            found[..words.len()].copy_from_slice(words);
+            0
+        }
+    }
 }
 
 /// Steps the record in `words` and stores it where the call is not refused.
@@ -42,35 +53,42 @@ fn step(words: &mut [u64], call: impl Fn(&mut Breaker) -> Result<Answer, Refusal
 
 impl Calls for Expected {
     fn arrive(&self, words: &mut [u64], wire: u16, mark: u8) -> u8 {
-        status(Source::from_words(words).and_then(|mut source| {
+        let next = Source::from_words(words).and_then(|mut source| {
             source.arrive(wire, mark)?;
-            put_words(&source.to_words(), words)
-        }))
+            Ok(source.to_words())
+        });
+        put_words(next, words)
     }
 
     fn count_block(&self, words: &mut [u64], records: &[u8], width: usize) -> i64 {
-        number(count_block(words, records, width).and_then(|(source, jumps)| {
-            put_words(&source.to_words(), words)?;
-            Ok(jumps as usize)
-        }))
+        match count_block(words, records, width) {
+            Err(refusal) => minus(refusal),
+            Ok((source, jumps)) => {
+                words.copy_from_slice(&source.to_words());
+                jumps as i64
+            }
+        }
     }
 
     fn write_feedback(&self, words: &[u64], sender: u32, media: u32, out: &mut [u8]) -> i64 {
-        number(Source::from_words(words).and_then(|source| put(&report::feedback(&source, sender, media), out)))
+        length(put(Source::from_words(words).map(|source| report::feedback(&source, sender, media)), out))
     }
 
     fn write_summary(&self, words: &[u64], media: u32, out: &mut [u8]) -> i64 {
-        number(Source::from_words(words).and_then(|source| put(&report::summary(&source, media), out)))
+        length(put(Source::from_words(words).map(|source| report::summary(&source, media)), out))
     }
 
     fn read_compound(&self, bytes: &[u8], media: u32, found: &mut [u64]) -> u8 {
-        status(compound::read(bytes, media).and_then(|reports| put_words(&reports.to_words(), found)))
+        put_words(compound::read(bytes, media).map(|reports| reports.to_words()), found)
     }
 
     fn breaker_start(&self, settings: Settings, time: u64, words: &mut [u64]) -> u16 {
         let Settings { k, m, timeout, reduce } = settings;
-        let started = Breaker::start(k, m, timeout, reduce, time).and_then(|breaker| put_words(&breaker.to_words(), words));
-        answer(started.map(|()| Answer::Go))
+        let started = Breaker::start(k, m, timeout, reduce, time).map(|breaker| breaker.to_words());
+        match put_words(started, words) {
+            0 => GO,
+            refusal => REFUSED + u16::from(refusal),
+        }
     }
 
     fn breaker_report(&self, words: &mut [u64], report: &Report) -> u16 {
@@ -82,17 +100,18 @@ impl Calls for Expected {
     }
 
     fn read_block(&self, block: &[u8], found: &mut [u64]) -> u8 {
-        status(trace::read(block).and_then(|(ssrc, contents)| {
+        let words = trace::read(block).map(|(ssrc, contents)| {
             let (kind, count) = match contents {
                 Contents::Label(label) => (1, label.len()),
                 Contents::Arrivals(records) => (2, records.len()),
             };
-            put_words(&[kind, count as u64, u64::from(ssrc)], found)
-        }))
+            [kind, count as u64, u64::from(ssrc)]
+        });
+        put_words(words, found)
     }
 
     fn write_label(&self, label: &[u8], ssrc: u32, out: &mut [u8]) -> i64 {
-        number(label_block(label, ssrc).and_then(|block| put(&block, out)))
+        length(put(label_block(label, ssrc), out))
     }
 
     fn write_arrivals(&self, times: &[u32], numbers: &[u16], marks: &[u8], ssrc: u32, out: &mut [u8]) -> i64 {
@@ -100,15 +119,15 @@ impl Calls for Expected {
         let records: Vec<Record> = together.map(|((&time, &wire), &mark)| Record { time, wire, mark }).collect();
         let same_length = times.len() == numbers.len() && numbers.len() == marks.len();
         let block = require(same_length, LIMITS).and_then(|()| arrivals_block(&records, ssrc));
-        number(block.and_then(|block| put(&block, out)))
+        length(put(block, out))
     }
 
     fn write_head(&self, out: &mut [u8]) -> i64 {
-        number(put(table::HEAD, out))
+        length(put(Ok(table::HEAD), out))
     }
 
     fn write_row(&self, label: &[u8], ssrc: u32, words: &[u64], jumped: u64, out: &mut [u8]) -> i64 {
         let row = Source::from_words(words).and_then(|source| table::row(label, ssrc, &source, jumped));
-        number(row.and_then(|row| put(&row, out)))
+        length(put(row, out))
     }
 }

@@ -4,12 +4,16 @@ use crate::lent::Lent;
 use draw::{sources, Draw};
 
 pub fn calls(compare: &Compare, draw: &Draw) {
-    for _ in 0..60_000 {
+    for _ in 0..37_500 {
         let (sender, media) = (draw.u64() as u32, draw.u64() as u32);
-        let out = draw.bytes(draw.room(32));
-        feedback(compare, &sources::any(draw), sender, media, &out);
-        let out = draw.bytes(draw.room(24));
-        summary(compare, &sources::any(draw), media, &out);
+        let source = sources::any(draw);
+        for room in draw.rooms(32) {
+            feedback(compare, &source, sender, media, &draw.bytes(room));
+        }
+        let source = sources::any(draw);
+        for room in draw.rooms(24) {
+            summary(compare, &source, media, &draw.bytes(room));
+        }
     }
 }
 

@@ -50,10 +50,16 @@ fn decision(compare: &Compare, lengths: [u64; 2], fraction: u64, rtt: u64, rate:
     report(compare, &mut breaker, &last)
 }
 
+/// In 39 bytes the row; in fewer none of it, and 12 with 39 in one number, 256 * 39 + 12.
 fn row(compare: &Compare, c1: &[u64]) {
     let (label, wanted) = (b"probe 2, left", b"\"probe 2, left\",1,65539,2,1,2,0,2,1,0\r\n");
-    let mut out = Lent::new(&[0; 39]);
     let call = |calls: &dyn Calls, out: &mut Lent<u8>| calls.write_row(label, 1, c1, 0, out.part_mut());
+    let mut out = Lent::new(&[0; 39]);
     let answer = compare.call("flasknib_write_row", &mut out, call);
     compare.hold(answer == 39 && out.part() == wanted, "C1's row");
+    for room in [0, 38] {
+        let mut out = Lent::new(&vec![0; room]);
+        let answer = compare.call("flasknib_write_row", &mut out, call);
+        compare.hold(answer == -9_996 && out.part() == vec![0; room], "C1's row in less room");
+    }
 }

@@ -91,4 +91,13 @@ impl Draw {
             _ => need + self.index(40),
         }
     }
+
+    /// Rooms for the same output in turn, which needs `need`, not 0: one as above, or none, one short, just enough and one more.
+    pub fn rooms(&self, need: usize) -> Vec<usize> {
+        if self.one_in(5) {
+            vec![0, need - 1, need, need + 1]
+        } else {
+            vec![self.room(need)]
+        }
+    }
 }

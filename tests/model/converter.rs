@@ -49,7 +49,7 @@ pub fn table(trace: &[u8]) -> Vec<u8> {
             Ok(true) => table.extend(run.row()),
             Ok(false) => {}
             Err(refusal) => {
-                table.extend(format!("refused {refusal} block {index}\r\n").bytes());
+                table.extend(format!("refused {} block {index}\r\n", refusal.number()).bytes());
                 break;
             }
         }

@@ -1,8 +1,9 @@
 -- Document 01, "Refusal numbers".
 use Prim.Native.Nat.{ℕ}
 use Rattle.answers.specs.declared.Refusal.{Refusal}
-use Rattle.answers.specs.declared.Refusal.the-variants.{Incomplete, Version, FirstPacket, PacketSize, Padding, BlockSize, Jump, Full, Malformed, Limits, Time, Room, Checksum, Contents}
+use Rattle.answers.specs.declared.Refusal.the-variants.{Incomplete, Version, FirstPacket, PacketSize, Padding, BlockSize, Jump, Full, Malformed, Limits, Time, Checksum, Contents}
 
+-- all but 12
 abbrev pub numberOf : Refusal → ℕ
 numberOf Incomplete = 1
 numberOf Version = 2
@@ -15,6 +16,9 @@ numberOf Full = 8
 numberOf Malformed = 9
 numberOf Limits = 10
 numberOf Time = 11
-numberOf Room = 12
 numberOf Checksum = 13
 numberOf Contents = 14
+
+-- output too small: a writer gives it with the bytes that it would write (specs/Writers)
+abbrev pub roomNumber : ℕ
+roomNumber = 12

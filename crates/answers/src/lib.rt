@@ -4,7 +4,7 @@ ghost use Rattle.answers.specs.Refusals.{numberOf};
 
 pub mod copy;
 
-// Why a call is refused, one case for each number of document 01's table.
+// Why a call is refused, one case for each number of document 01's table but 12, which a writer gives with a size.
 pub enum Refusal {
     // 1: empty input, a header cut off, or not one whole block.
     Incomplete,
@@ -28,8 +28,6 @@ pub enum Refusal {
     Limits,
     // 11: a report not later than the last, or a tick before it.
     Time,
-    // 12: the output is too small.
-    Room,
     // 13: a block's checksum.
     Checksum,
     // 14: a block's contents.
@@ -53,15 +51,19 @@ impl Refusal {
             Refusal::Malformed => 9,
             Refusal::Limits => 10,
             Refusal::Time => 11,
-            Refusal::Room => 12,
             Refusal::Checksum => 13,
             Refusal::Contents => 14,
         }
     }
 }
 
+// The number of the refusal "output too small".
+pub const ROOM: u8 = 12;
+
 // What a writer answers: how many bytes it wrote at the front of the lent output, or why it wrote none.
 pub enum Written {
     Length(usize),
+    // 12: the output is too small; the call would write so many bytes.
+    Room(usize),
     Refused(Refusal),
 }

@@ -1,5 +1,6 @@
 -- What the functions' proofs share, and what other crates cite.
 pub mod Answers
+pub mod Lengths
 pub mod Records
 pub mod Fronts
 pub mod Steps

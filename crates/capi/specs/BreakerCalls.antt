@@ -11,7 +11,7 @@ use Rattle.answers.specs.declared.Refusal.the-variants.{Malformed}
 use Rattle.answers.specs.declared.Written.{Written}
 use Rattle.answers.specs.declared.Written.the-variants as writer
 use Rattle.answers.specs.Conditions.{all}
-use Rattle.answers.specs.Refusals.{numberOf}
+use Rattle.answers.specs.Refusals.{numberOf, roomNumber}
 use Rattle.breaker.specs.declared.Answer.{Answer}
 use Rattle.breaker.specs.declared.Answer.the-variants.{Go, Reduce, Stop, Refused}
 use Rattle.breaker.specs.declared.Step.{Step}
@@ -53,6 +53,7 @@ starts k m timeout reduce time =
 -- Go, or the refusal
 abbrev pub startCode : Written → ℕ
 startCode (writer.Length n) = answerCode Go
+startCode (writer.Room n) = 512 + roomNumber
 startCode (writer.Refused refusal) = answerCode (Refused refusal)
 
 -- the step of a start: its refusal, 12; or Go and the record's 75 words

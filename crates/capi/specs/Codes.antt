@@ -1,23 +1,25 @@
 -- The answers of include/flasknib.h as numbers: a refusal is its number in document 01's table, negative where a length could stand.
 use mathlib.Core.Path.{_≡_}
-use Prim.Native.Nat.{ℕ}
+use Prim.Native.Nat.{ℕ, _+_, _*_}
 use mathlib.Core.List.{List}
 use mathlib.Core.Option.{Option}
 use lib.IntN.{ℤ, pos, negℤ}
 use Rattle.answers.specs.declared.Refusal.{Refusal}
 use Rattle.answers.specs.declared.Written.{Written}
-use Rattle.answers.specs.declared.Written.the-variants.{Length, Refused}
-use Rattle.answers.specs.Refusals.{numberOf}
+use Rattle.answers.specs.declared.Written.the-variants.{Length, Room, Refused}
+use Rattle.answers.specs.Refusals.{numberOf, roomNumber}
 use Rattle.answers.specs.Writers.{written, stored}
 
--- a writer's length, or minus its refusal
+-- a writer's length, or minus its refusal; with 12 the bytes that it would write, 256 times
 abbrev pub lengthCode : Written → ℤ
 lengthCode (Length n) = pos n
+lengthCode (Room n) = negℤ (pos (256 * n + roomNumber))
 lengthCode (Refused refusal) = negℤ (pos (numberOf refusal))
 
 -- 0, or a refusal
 abbrev pub refusalCode : Written → ℕ
 refusalCode (Length n) = 0
+refusalCode (Room n) = roomNumber
 refusalCode (Refused refusal) = numberOf refusal
 
 -- what a function answers, and leaves in the lent output `old`, that puts the bytes or words `new` at its front; `fault` is the refusal of its

@@ -1,5 +1,6 @@
 // One block of a trace.
 use crate::codes;
+use answers::ROOM;
 use format::Form;
 use trace::Block;
 use trace::read::read_block;
@@ -15,7 +16,7 @@ fn put_found(kind: u64, count: usize, ssrc: u32, found: &mut [u64]) -> u8
     ensures { λ r. ⌜ Gives refusalCode none (kind ∷ count ∷ ssrc ∷ []) (now (found .entry)) r (now (found .exit)) ⌝ }
 {
     if found.len() < 3 {
-        return 12;
+        return ROOM;
     }
     found[0] = kind;
     found[1] = count as u64;

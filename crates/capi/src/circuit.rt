@@ -3,6 +3,7 @@ ghost use mathlib.Core.Path.{_≡_};
 ghost use lib.ListN.{length};
 ghost use Rattle.capi.specs.Codes.{Leaves};
 ghost use Rattle.capi.specs.BreakerCalls.{answerCode, isRefused, recordIn, leftBy, PutsStart, StartsBreaker, TakesReport, TakesTick};
+use answers::ROOM;
 use answers::Refusal;
 use breaker::Answer;
 use breaker::Breaker;
@@ -77,7 +78,7 @@ fn put_front(step: Step, words: &mut [u64]) -> u16
         return code(answer);
     }
     if words.len() < breaker_words::WORDS {
-        return code(Answer::Refused(Refusal::Room));
+        return REFUSED + ROOM as u16;
     }
     breaker_words::store(next, words);
     code(Answer::Go)

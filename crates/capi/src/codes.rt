@@ -1,27 +1,40 @@
 // Answers as numbers.
+use answers::ROOM;
 use answers::Refusal;
 use answers::Written;
 ghost use mathlib.Core.Path.{_≡_};
 ghost use Prim.Native.Nat.{_^_, _<_};
 ghost use lib.IntN.{pos, negℤ};
 ghost use Rattle.answers.specs.Refusals.{numberOf};
-ghost use Rattle.answers.specs.Writers.{lengthIn};
+ghost use Rattle.answers.specs.Writers.{sizeIn};
 ghost use Rattle.capi.specs.Codes.{lengthCode};
+
+// Minus a number.
+fn negative(n: u64) -> i64
+    requires { ⌜ n < 2 ^ 63 ⌝ }
+    ensures { λ r. ⌜ r ≡ negℤ (pos n) ⌝ }
+{
+    -(n as i64)
+}
 
 // Minus the refusal's number.
 pub fn minus(refusal: Refusal) -> i64
     ensures { λ r. ⌜ r ≡ negℤ (pos (numberOf refusal)) ⌝ }
 {
-    -(refusal.number() as i64)
+    negative(refusal.number() as u64)
 }
 
-// The length that a writer answers, or minus its refusal's number.
+// What a size is multiplied with, so that a refusal's number stands beside it.
+const SIZES: u64 = 256;
+
+// The length that a writer answers, or minus its refusal's number, and with 12 the size.
 pub fn length(answer: Written) -> i64
-    requires { ⌜ lengthIn answer < 2 ^ 63 ⌝ }
+    requires { ⌜ sizeIn answer < 2 ^ 54 ⌝ }
     ensures { λ r. ⌜ r ≡ lengthCode answer ⌝ }
 {
     match answer {
         Written::Length(n) => n as i64,
+        Written::Room(n) => negative(SIZES * n as u64 + ROOM as u64),
         Written::Refused(refusal) => minus(refusal),
     }
 }

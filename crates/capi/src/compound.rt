@@ -1,6 +1,6 @@
 // Compound RTCP for C.
 ghost use Rattle.capi.specs.CompoundCalls.{ReadsCompound};
-use answers::Refusal;
+use answers::ROOM;
 use lent::compound_words;
 use rtcp::Reading;
 
@@ -13,7 +13,7 @@ pub extern "C" fn flasknib_read_compound(bytes: &[u8], media: u32, found: &mut [
         Reading::Refused(refusal) => refusal.number(),
         Reading::Read(c) => {
             if found.len() < compound_words::WORDS {
-                return Refusal::Room.number();
+                return ROOM;
             }
             compound_words::store(c, found);
             0

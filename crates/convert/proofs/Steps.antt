@@ -15,7 +15,7 @@ use Rattle.answers.specs.declared.Refusal.{Refusal}
 use Rattle.answers.specs.declared.Refusal.the-variants.{Malformed, Contents}
 use Rattle.answers.specs.declared.Written.{Written}
 use Rattle.answers.specs.declared.Written.the-variants as answer
-use Rattle.answers.proofs.Stores.{wrote-fits}
+use Rattle.answers.proofs.Stores.{wrote-fits, room-is-exact}
 use Rattle.format.specs.declared.Form.{Form}
 use Rattle.trace.specs.Reading.{blockOf}
 use Rattle.trace.specs.declared.Block.{Block}
@@ -25,6 +25,7 @@ use Rattle.convert.specs.declared.Run.{Run}
 use Rattle.convert.specs.declared.Begin.the-variants as begin
 use Rattle.convert.specs.declared.Step.{Step}
 use Rattle.convert.specs.declared.Step.the-variants as step
+use Rattle.convert.specs.Theorems.{RoomForRow, RowRoomIsExact}
 use Rattle.convert.specs.Runs.{rowOf, soundRun, faultOf, startBy, startOf, arrived, Next, goes, refuses, nextBy, nextOf, callNext, faultIn, rowIn, takenBy, stepBy, Stepped}
 
 -- a block that was read is of the wrong kind
@@ -99,4 +100,25 @@ module _ (run : Run) (zeroth old : List ℕ) where
       go (answer.Length m) q e =
           let fits = wrote-fits {fault = faultIn next} {new = rowIn zeroth next} {old = old} {answer = answer.Length m} (record { answers = sym q; stores = refl }) in
           omega (arith, fits, by-next next m e)
+      go (answer.Room m) q e = let z : _≡_ {A = ℕ} 0 1 = cc in absurd (omega arith)
       go (answer.Refused refusal) q e = let z : _≡_ {A = ℕ} 0 1 = cc in absurd (omega arith)
+
+-- ---- 12 says how much room is missing
+
+pub row-room-is-exact : RowRoomIsExact
+unfolding written
+row-room-is-exact run same (refuses refusal) zeroth old n e = let z : _≡_ {A = ℕ} 0 1 = cc in absurd (omega arith)
+row-room-is-exact run same (goes next) zeroth old n e = go (written none (rowOf next zeroth) old) refl e
+  where
+    go : (w : Written) → written none (rowOf next zeroth) old ≡ w → stepBy run (goes next) w ≡ step.Room n same → RoomForRow run (goes next) zeroth n
+    go (answer.Length m) q e = let z : _≡_ {A = ℕ} 0 1 = cc in absurd (omega arith)
+    go (answer.Refused refusal) q e = let z : _≡_ {A = ℕ} 0 1 = cc in absurd (omega arith)
+    go (answer.Room m) q e =
+        let size : m ≡ n = cc in
+        let exact = room-is-exact none (rowOf next zeroth) old n (q ∙ ap answer.Room size) in
+        record {
+          after = next;
+          given = λ out h. ap (stepBy run (goes next)) (exact .given out h);
+          changed = exact .changed;
+          fewer = λ out h. (ap (stepBy run (goes next)) (exact .fewer out h .0), exact .fewer out h .1);
+        }

@@ -131,6 +131,7 @@ takenBy run (refuses refusal) n = step.Refused refusal run
 
 abbrev pub stepBy : Run → Next → Written → Step
 stepBy run next (answer.Length n) = takenBy run next n
+stepBy run next (answer.Room n) = step.Room n run
 stepBy run next (answer.Refused refusal) = step.Refused refusal run
 
 abbrev pub stepOf : Run → Next → List ℕ → List ℕ → Step

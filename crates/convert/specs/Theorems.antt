@@ -3,7 +3,7 @@ use mathlib.Core.Path.{_≡_}
 use mathlib.Core.List.{List, [], _∷_, _++_}
 use Prim.Native.Nat.{ℕ, suc, _≤_, _<_}
 use lib.ListN.{length, take, drop, getD}
-use Rattle.answers.specs.Refusals.{numberOf}
+use Rattle.answers.specs.Refusals.{numberOf, roomNumber}
 use Rattle.answers.specs.declared.Refusal.{Refusal}
 use Rattle.format.specs.Blocks.{blockBytes}
 use Rattle.table.specs.Lines.{headBytes, refusedLine}
@@ -13,7 +13,7 @@ use Rattle.convert.specs.declared.Begin.{Begin}
 use Rattle.convert.specs.declared.Begin.the-variants as begin
 use Rattle.convert.specs.declared.Step.{Step}
 use Rattle.convert.specs.declared.Step.the-variants as step
-use Rattle.convert.specs.Runs.{rowOf, startOf, goes, refuses, nextOf, callNext, stepOf, storedOf}
+use Rattle.convert.specs.Runs.{rowOf, startOf, Next, goes, refuses, nextOf, callNext, stepOf, storedOf}
 use Rattle.convert.specs.Tables.{printed}
 
 -- a list of calls: one for each block, on the run that the call before handed back, each with a lent output of its own, `outs i` for block i
@@ -21,6 +21,7 @@ use Rattle.convert.specs.Tables.{printed}
 -- the bytes that a call wrote, and what the calls after it give; or the line of the refused block
 abbrev pub answered : ℕ → Step → List ℕ → (Run → List ℕ) → List ℕ
 answered i (step.Taken next n) out more = take n out ++ more next
+answered i (step.Room n run) out more = refusedLine roomNumber i
 answered i (step.Refused refusal run) out more = refusedLine (numberOf refusal) i
 
 unfoldable pub calls : (ℕ → List ℕ) → List ℕ → ℕ → List (List ℕ) → Run → List ℕ
@@ -50,3 +51,16 @@ abbrev pub CallsPrint : Type 0
 CallsPrint =
     (outs : ℕ → List ℕ) (trace : List ℕ) → ((i : ℕ) → getD (drop blockBytes trace) i 0 < 256) → EnoughBy outs (blocksOf trace) (startOf (blocksOf trace .zeroth))
     → (headBytes ++ callsBy outs (blocksOf trace) (startOf (blocksOf trace .zeroth)) ≡ printed trace .out) × (printed trace .err ≡ [])
+
+-- ---- 12 says how much room is missing
+
+-- where a call's answer is 12 with n, the same call with an output of exactly n bytes takes the block and changes all of them to the row, and
+-- with any fewer bytes it gives 12 with the same n
+pub record RoomForRow (run : Run) (next : Next) (zeroth : List ℕ) (n : ℕ) : Type 0 where
+  pub after : Run
+  pub given : (out : List ℕ) → length out ≡ n → stepOf run next zeroth out ≡ step.Taken after n
+  pub changed : (out : List ℕ) → length out ≡ n → storedOf next zeroth out ≡ rowOf after zeroth
+  pub fewer : (out : List ℕ) → length out < n → (stepOf run next zeroth out ≡ step.Room n run) × (storedOf next zeroth out ≡ out)
+
+abbrev pub RowRoomIsExact : Type 0
+RowRoomIsExact = (run same : Run) (next : Next) (zeroth old : List ℕ) (n : ℕ) → stepOf run next zeroth old ≡ step.Room n same → RoomForRow run next zeroth n

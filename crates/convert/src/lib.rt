@@ -26,6 +26,8 @@ pub enum Begin {
 // The answer to a later block: the next run and the length of the row, or a refusal with the run that was given.
 pub enum Step {
     Taken(Run, usize),
+    // 12: the output is too small; the row has so many bytes.
+    Room(usize, Run),
     Refused(Refusal, Run),
 }
 
@@ -63,7 +65,7 @@ impl Run {
 
     // Takes a later block, which must hold arrivals of the label's SSRC, and writes the row after it at the front of out. `zeroth` is block 0.
     // Refusals: 9 a malformed run, or a block 0 that is not its own; 1, 13 and 14, as `read_block` gives them, and 14 for a label or another
-    // SSRC; 12 output too small.
+    // SSRC; 12 output too small, with the row's length.
     pub fn block(self, zeroth: &[u8], block: &[u8], out: &mut [u8]) -> Step
         ensures { λ r. ⌜ Stepped self (callNext self (now (zeroth .entry)) (now (block .entry))) (now (zeroth .entry)) (now (out .entry)) r (now (out .exit)) ⌝ }
     {

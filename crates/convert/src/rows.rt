@@ -21,6 +21,7 @@ fn row(run: Run, next: Run, zeroth: &[u8], out: &mut [u8]) -> Step
     let end = BODY + length;
     match write_row(&zeroth[BODY..end], next.ssrc, totals, out) {
         Written::Length(n) => Step::Taken(next, n),
+        Written::Room(n) => Step::Room(n, run),
         Written::Refused(refusal) => Step::Refused(refusal, run),
     }
 }

@@ -1,5 +1,6 @@
 // ecntable reads a trace on standard input and prints its table (document 01, "Table"). The crate `convert` says what each block does, and
 // `shell` moves the bytes.
+use answers::ROOM;
 use answers::Refusal;
 use answers::Written;
 use convert::Begin;
@@ -15,7 +16,7 @@ use table::write_head;
 
 // Rows are printed when less room than this is left behind them. A row takes less: its label at most 1,006 bytes, its nine numbers at most 20
 // digits and a sign each, nine commas, CR and LF.
-const ROOM: usize = 2048;
+const ROW: usize = 2048;
 
 // How far the run has come: the number of the next block, what is read and not taken yet, the lines that are kept, and whether to go on.
 struct Progress {
@@ -53,7 +54,7 @@ fn take_block(
 ) -> Progress {
     let run = p.run;
     let kept = p.out;
-    let out = kept.with_room(ROOM, name, lines);
+    let out = kept.with_room(ROW, name, lines);
     let used = out.used;
     match run.block(zeroth, block, &mut lines[used..]) {
         Step::Taken(next, n) => Progress {
@@ -63,7 +64,11 @@ fn take_block(
             out: out.with_kept(n, lines),
             going: !out.failed,
         },
-        Step::Refused(refusal, _) => ended(p, out.with_refused(refusal, p.block, name, lines)),
+        Step::Room(_, _) => ended(p, out.with_refused(ROOM, p.block, name, lines)),
+        Step::Refused(refusal, _) => ended(
+            p,
+            out.with_refused(refusal.number(), p.block, name, lines),
+        ),
     }
 }
 
@@ -89,7 +94,7 @@ fn take_next(
         Next::End => ended(p, out),
         Next::Failed => ended(
             p,
-            out.with_refused(Refusal::Incomplete, p.block, name, lines),
+            out.with_refused(Refusal::Incomplete.number(), p.block, name, lines),
         ),
     }
 }
@@ -123,7 +128,7 @@ fn take_all(
     lines: &mut [u8],
 ) -> Output {
     let Next::Block { from, to, rest } = Input::begin(name, zeroth) else {
-        return out.with_refused(Refusal::Incomplete, 0, name, lines);
+        return out.with_refused(Refusal::Incomplete.number(), 0, name, lines);
     };
     match Run::start(&zeroth[from..to]) {
         Begin::Started(run) => {
@@ -136,7 +141,7 @@ fn take_all(
             };
             take_rest(start, name, zeroth, pieces, lines)
         }
-        Begin::Refused(refusal) => out.with_refused(refusal, 0, name, lines),
+        Begin::Refused(refusal) => out.with_refused(refusal.number(), 0, name, lines),
     }
 }
 

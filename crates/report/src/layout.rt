@@ -1,5 +1,4 @@
 // The reports as 32-bit words.
-use answers::Refusal;
 use answers::Written;
 use format::Counts;
 use numbers::big_endian::write32;
@@ -41,7 +40,7 @@ pub fn feedback(sender: u32, media: u32, highest: u32, c: Counts, out: &mut [u8]
     ensures { λ r. ⌜ Wrote none (feedbackOf sender media highest c) (now (out .entry)) r (now (out .exit)) ⌝ }
 {
     if out.len() < 32 {
-        return Written::Refused(Refusal::Room);
+        return Written::Room(32);
     }
     let marked = pair(c.ce, c.notect);
     let missed = pair(c.lost, c.duplicates);
@@ -64,7 +63,7 @@ pub fn summary(media: u32, c: Counts, out: &mut [u8]) -> Written
     ensures { λ r. ⌜ Wrote none (summaryOf media c) (now (out .entry)) r (now (out .exit)) ⌝ }
 {
     if out.len() < 24 {
-        return Written::Refused(Refusal::Room);
+        return Written::Room(24);
     }
     let marked = pair(c.ce, c.notect);
     let missed = pair(c.lost, c.duplicates);

@@ -3,7 +3,6 @@ use crate::clipped::least;
 use crate::failures::tell;
 use crate::retries::TRIES;
 use crate::retries::tries_after;
-use answers::Refusal;
 use answers::Written;
 use libc::STDOUT_FILENO;
 use table::write_refused;
@@ -123,20 +122,14 @@ impl Output {
     }
 
     // Keeps the line `refused N block I`.
-    pub fn with_refused(
-        self,
-        refusal: Refusal,
-        block: u64,
-        program: &[u8],
-        buffer: &mut [u8],
-    ) -> Output
+    pub fn with_refused(self, number: u8, block: u64, program: &[u8], buffer: &mut [u8]) -> Output
         ensures { λ r. ⌜ r .used ≤ length (now (buffer .exit)) ⌝ }
     {
         let out = self.with_room(REFUSED, program, buffer);
         let used = out.used;
-        match write_refused(refusal, block, &mut buffer[used..]) {
+        match write_refused(number, block, &mut buffer[used..]) {
             Written::Length(n) => out.with_kept(n, buffer),
-            Written::Refused(_) => out,
+            _ => out,
         }
     }
 }

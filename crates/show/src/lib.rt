@@ -1,5 +1,6 @@
 // Text and numbers on standard output, for the test programs. No contract can say what a program prints; each
 // program's output is compared with its file `stdout`.
+use answers::ROOM;
 use answers::Refusal;
 use answers::Written;
 use libc::STDOUT_FILENO;
@@ -65,6 +66,11 @@ pub fn written(answer: Written) {
     match answer {
         Written::Length(n) => {
             text(b" length");
+            number(n as u64);
+        }
+        Written::Room(n) => {
+            text(b" refused");
+            number(ROOM as u64);
             number(n as u64);
         }
         Written::Refused(refusal) => refused(refusal),

@@ -8,3 +8,4 @@ pub mod RefusedLines
 pub mod Faults
 pub mod Splitting
 pub mod RowSplits
+pub mod RowFits

@@ -2,8 +2,8 @@
 use mathlib.Core.Path.{_≡_}
 use mathlib.Core.Bool.{Bool, true, _||_, _&&_}
 use mathlib.Core.List.{List, [], _∷_, _++_, map}
-use mathlib.Core.Option.{some}
-use Prim.Native.Nat.{ℕ}
+use mathlib.Core.Option.{none, some}
+use Prim.Native.Nat.{ℕ, _^_, _≤_, _<_}
 use lib.Dec.{leb, eqb}
 use lib.IntN.{ℤ}
 use lib.ListN.{length, getD}
@@ -13,7 +13,7 @@ use Rattle.trace.specs.Contents.{labelOk}
 use Rattle.table.specs.Decimal.{decimal, signed, numberIn, signedIn}
 use Rattle.table.specs.Field.{asField, line}
 use Rattle.table.specs.Rfc4180.{split}
-use Rattle.table.specs.Lines.{labelName, names, headBytes, rowBytes}
+use Rattle.table.specs.Lines.{labelName, names, headBytes, rowFault, rowBytes}
 
 -- a text that a field can hold: bytes 32 to 126, CR and LF
 unfoldable pub plain : List ℕ → Bool
@@ -68,3 +68,10 @@ RowSplits =
     → (fields : List (List ℕ))
     × (split (rowBytes label ssrc t ++ rest) ≡ some (record { fields = fields; rest = rest }))
     × Says label ssrc t fields
+
+-- no row is longer: its label has at most 502 double quotes, its nine numbers at most 21 bytes each, a comma before each, and CR LF
+abbrev pub rowMost : ℕ
+rowMost = 1206
+
+abbrev pub RowFits : Type 0
+RowFits = (label : List ℕ) (ssrc : ℕ) (t : Totals) → ssrc < 2 ^ 32 → rowFault label t ≡ none → length (rowBytes label ssrc t) ≤ rowMost

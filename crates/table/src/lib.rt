@@ -8,7 +8,6 @@ use source::Totals;
 use trace::label::is_label;
 ghost use mathlib.Core.Path.{_≡_};
 ghost use mathlib.Core.Option.{none};
-ghost use Rattle.answers.specs.Refusals.{numberOf};
 ghost use Rattle.answers.specs.Writers.{Wrote};
 ghost use Rattle.table.specs.Lines.{headBytes, rowFault, rowBytes, refusedLine};
 
@@ -22,7 +21,7 @@ pub fn write_head(out: &mut [u8]) -> Written
     ensures { λ r. ⌜ Wrote none headBytes (now (out .entry)) r (now (out .exit)) ⌝ }
 {
     if out.len() < 56 {
-        return Written::Refused(Refusal::Room);
+        return Written::Room(56);
     }
     put_bytes(
         b"label,ssrc,highest,ect0,ect1,ce,notect,lost,dup,jumped\r\n",
@@ -51,8 +50,8 @@ pub fn write_row(label: &[u8], ssrc: u32, t: Totals, out: &mut [u8]) -> Written
 }
 
 // Writes the line `refused N block I` at the front of out. Refusal: 12 output too small.
-pub fn write_refused(refusal: Refusal, block: u64, out: &mut [u8]) -> Written
-    ensures { λ r. ⌜ Wrote none (refusedLine (numberOf refusal) block) (now (out .entry)) r (now (out .exit)) ⌝ }
+pub fn write_refused(number: u8, block: u64, out: &mut [u8]) -> Written
+    ensures { λ r. ⌜ Wrote none (refusedLine number block) (now (out .entry)) r (now (out .exit)) ⌝ }
 {
-    refused::line(refusal.number() as u64, block, out)
+    refused::line(number as u64, block, out)
 }

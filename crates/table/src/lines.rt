@@ -4,7 +4,6 @@ use crate::decimal::put_before;
 use crate::decimal::signed_length;
 use crate::field::field_length;
 use crate::field::put_field;
-use answers::Refusal;
 use answers::Written;
 use numbers::sign::magnitude;
 use source::Totals;
@@ -126,7 +125,7 @@ fn line(
     let behind = numbers_length(back);
     let total = long + before + signed_length(below, size) + behind + 3;
     if out.len() < total {
-        return Written::Refused(Refusal::Room);
+        return Written::Room(total);
     }
     put_line(label, long, front, below, size, back, out, total);
     Written::Length(total)

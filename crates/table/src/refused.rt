@@ -1,7 +1,6 @@
 // The line of a refused block.
 use crate::decimal::digits;
 use crate::decimal::put_before;
-use answers::Refusal;
 use answers::Written;
 use answers::copy::put_bytes;
 ghost use mathlib.Core.Path.{_≡_};
@@ -41,7 +40,7 @@ pub fn line(number: u64, block: u64, out: &mut [u8]) -> Written
     let middle = 8 + digits(number);
     let size = middle + (9 + digits(block));
     if out.len() < size {
-        return Written::Refused(Refusal::Room);
+        return Written::Room(size);
     }
     put_line(number, block, out, middle, size);
     Written::Length(size)

@@ -8,32 +8,11 @@
 //   r room shown ssrc jumped label                                  the row of the record, its label in apostrophes or hexadecimal
 //   e room shown refusal block                                      the line of a refused block
 // Any other line is a heading.
-use answers::Refusal;
 use answers::Written;
 use cases::record;
 use libc::STDIN_FILENO;
 use source::Source;
 use source::Totals;
-
-// The refusal of a number, 14 for any other.
-fn refusal(number: u64) -> Refusal {
-    match number {
-        1 => Refusal::Incomplete,
-        2 => Refusal::Version,
-        3 => Refusal::FirstPacket,
-        4 => Refusal::PacketSize,
-        5 => Refusal::Padding,
-        6 => Refusal::BlockSize,
-        7 => Refusal::Jump,
-        8 => Refusal::Full,
-        9 => Refusal::Malformed,
-        10 => Refusal::Limits,
-        11 => Refusal::Time,
-        12 => Refusal::Room,
-        13 => Refusal::Checksum,
-        _ => Refusal::Contents,
-    }
-}
 
 // The row of a line.
 fn row(s: Source, line: &[u8], out: &mut [u8]) -> Written {
@@ -48,7 +27,11 @@ fn row(s: Source, line: &[u8], out: &mut [u8]) -> Written {
 
 // The line of a refused block.
 fn refused(line: &[u8], out: &mut [u8]) -> Written {
-    table::write_refused(refusal(cases::number(line, 3)), cases::number(line, 4), out)
+    table::write_refused(
+        (cases::number(line, 3) % 256) as u8,
+        cases::number(line, 4),
+        out,
+    )
 }
 
 // The writer of a line on a lent output.

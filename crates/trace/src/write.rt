@@ -112,7 +112,7 @@ pub fn write_label(form: Form, label: &[u8], ssrc: u32, out: &mut [u8]) -> Writt
         return Written::Refused(Refusal::Limits);
     }
     if out.len() < BLOCK {
-        return Written::Refused(Refusal::Room);
+        return Written::Room(BLOCK);
     }
     put_header(form.label(), label.len(), ssrc, out);
     put_bytes(label, out, BODY);
@@ -153,7 +153,7 @@ pub fn write_arrivals(
         return Written::Refused(Refusal::Limits);
     }
     if out.len() < BLOCK {
-        return Written::Refused(Refusal::Room);
+        return Written::Room(BLOCK);
     }
     put_header(form.arrivals(), times.len(), ssrc, out);
     put_records(form, times, numbers, marks, out);

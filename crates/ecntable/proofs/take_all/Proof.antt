@@ -21,6 +21,9 @@ begin-requires c κs = search needs
 enum-known-from : tie.Need-enum-known-from
 enum-known-from c = search needs
 
+number-requires : tie.Need-number-requires
+number-requires c κs = search needs
+
 with-refused-requires : tie.Need-with-refused-requires
 with-refused-requires c κs = search needs
 
@@ -54,6 +57,9 @@ take-rest-requires c κs = search needs
 enum-known-refusal : tie.Need-enum-known-refusal
 enum-known-refusal c = search needs
 
+number-requires-2 : tie.Need-number-requires-2
+number-requires-2 c κs = search needs
+
 with-refused-requires-2 : tie.Need-with-refused-requires-2
 with-refused-requires-2 c κs = search needs
 
@@ -84,6 +90,7 @@ take-all-spec =
     (tie.spec
     begin-requires
     enum-known-from
+    number-requires
     with-refused-requires
     same-length
     same-length-2
@@ -95,6 +102,7 @@ take-all-spec =
     enum-known-run
     take-rest-requires
     enum-known-refusal
+    number-requires-2
     with-refused-requires-2
     same-length-3
     same-length-4

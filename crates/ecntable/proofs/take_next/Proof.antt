@@ -42,6 +42,9 @@ ended-requires c κs = search needs
 enum-told-2 : tie.Need-enum-told-2
 enum-told-2 c = search needs
 
+number-requires : tie.Need-number-requires
+number-requires c κs = search needs
+
 with-refused-requires : tie.Need-with-refused-requires
 with-refused-requires c κs = search needs
 
@@ -85,6 +88,7 @@ take-next-spec =
     enum-told
     ended-requires
     enum-told-2
+    number-requires
     with-refused-requires
     ended-requires-2
     same-length

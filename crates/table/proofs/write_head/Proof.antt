@@ -13,7 +13,7 @@ returns : tie.Need-returns
 unfolding headBytes line
 returns c =
     let a = c .before .before .args in
-    wrote-short headBytes (now (a .out)) refl (c .if1 .taken)
+    wrote-short headBytes (now (a .out)) refl (c .if1 .taken) refl
 
 slice-aggregate-put-bytes : tie.Need-slice-aggregate-put-bytes
 slice-aggregate-put-bytes c = search needs

@@ -1,7 +1,10 @@
 -- `capi::blocks::flasknib_write_arrivals` meets its contract. Assumes nothing.
 use borrow.Author.Needs.{needs}
+use native.Mathlib.Nat.{le-of-eq}
 use native.Mathlib.Omega.{arith}
-use Rattle.answers.proofs.Stores.{wrote-fits}
+use Rattle.answers.proofs.Stores.{wrote-size}
+use Rattle.format.specs.declared.Form.the-variants.{One}
+use Rattle.capi.proofs.Lengths.{arrivals-length}
 use Rattle.capi.proofs.Answers.{coded}
 use Rattle.capi.proofs.blocks.flasknib_write_arrivals.Statement.{statement}
 use Rattle.capi.proofs.blocks.flasknib_write_arrivals.Tie as tie
@@ -10,7 +13,7 @@ write-arrivals-requires : tie.Need-write-arrivals-requires
 write-arrivals-requires c κs = search needs
 
 length-requires : tie.Need-length-requires
-length-requires c κs = omega (arith, wrote-fits (c .before .before .write-arrivals .ensures), c .before .before .before .before .before .before .before .before .good)
+length-requires c κs = omega (arith, wrote-size 512 (λ e. le-of-eq (arrivals-length One _ _ _ _ e)) (c .before .before .write-arrivals .ensures))
 
 same-length : tie.Need-same-length
 same-length c = search needs

@@ -14,7 +14,7 @@ use Rattle.capi.proofs.blocks.put_found.Tie as tie
 returns : tie.Need-returns
 returns c =
     let a = c .before .args in
-    gives refusalCode (wrote-short (a .kind ∷ a .count ∷ a .ssrc ∷ []) (now (a .found)) refl (c .if1 .taken)) refl
+    gives refusalCode (wrote-short (a .kind ∷ a .count ∷ a .ssrc ∷ []) (now (a .found)) refl (c .if1 .taken) refl) refl
 
 slice-write-found : tie.Need-slice-write-found
 slice-write-found c = search needs

@@ -28,21 +28,24 @@ returns c =
     let a = c .before .before .before .before .before .args in
     start-refused (a .step .answer) (breakerWords (a .step .breaker)) (now (a .words)) (sym (c .before .before .is-refused .ensures) ∙ c .before .if1 .taken) (c .code .ensures)
 
-code-requires-2 : tie.Need-code-requires-2
-code-requires-2 c κs = search needs
+cast-result : tie.Need-cast-result
+cast-result c = search needs
+
+add-result : tie.Need-add-result
+add-result c = search needs
 
 returns-2 : tie.Need-returns-2
 returns-2 c =
-    let s = c .before .before .before .before .before .before in
+    let s = c .before .before .before .before .before in
     let b = s .args .step .breaker in
-    let kept = sym (c .before .before .before .is-refused .ensures) ∙ c .before .before .if1 .left in
-    gives startCode (wrote-short (breakerWords b) (now (s .args .words)) (no-refusal (s .args .step .answer) kept) (omega (arith, length-breaker b (long s), c .before .if2 .taken))) (c .code2 .ensures)
+    let kept = sym (c .before .before .is-refused .ensures) ∙ c .before .if1 .left in
+    gives startCode (wrote-short (breakerWords b) (now (s .args .words)) (no-refusal (s .args .step .answer) kept) (omega (arith, length-breaker b (long s), c .if2 .taken)) (sym (length-breaker b (long s)))) refl
 
 store-requires : tie.Need-store-requires
 store-requires c κs = search needs
 
-code-requires-3 : tie.Need-code-requires-3
-code-requires-3 c κs = search needs
+code-requires-2 : tie.Need-code-requires-2
+code-requires-2 c κs = search needs
 
 same-length : tie.Need-same-length
 same-length c = search needs
@@ -52,7 +55,7 @@ returns-3 c =
     let s = c .before .before .before .before .before .before .before .before .before .before in
     let kept = sym (c .before .before .before .before .before .before .before .is-refused .ensures) ∙ c .before .before .before .before .before .before .if1 .left in
     let b = s .args .step .breaker in
-    gives startCode (wrote-all (breakerWords b) (now (s .args .words)) (no-refusal (s .args .step .answer) kept) (omega (arith, length-breaker b (long s), c .before .before .before .before .before .if2 .left)) refl (c .before .before .before .store .ensures)) (c .code3 .ensures)
+    gives startCode (wrote-all (breakerWords b) (now (s .args .words)) (no-refusal (s .args .step .answer) kept) (omega (arith, length-breaker b (long s), c .before .before .before .before .before .if2 .left)) refl (c .before .before .before .store .ensures)) (c .code2 .ensures)
 
 pub put-front-spec : {M : Type 1} → statement M
 put-front-spec =
@@ -61,9 +64,10 @@ put-front-spec =
     is-refused-requires
     code-requires
     returns
-    code-requires-2
+    cast-result
+    add-result
     returns-2
     store-requires
-    code-requires-3
+    code-requires-2
     same-length
     returns-3)

@@ -25,15 +25,12 @@ number-requires c κs = search needs
 enum-known-c : tie.Need-enum-known-c
 enum-known-c c = search needs
 
-number-requires-2 : tie.Need-number-requires-2
-number-requires-2 c κs = search needs
-
 returns : tie.Need-returns
 returns c =
-    let a = c .before .before .before .before .before .before .before .before .args in
-    let g = c .before .before .before .c .given in
-    let told = sym (c .before .before .before .before .before .read-compound .ensures) ∙ g .1 in
-    rw told (gives refusalCode (wrote-short (compoundWords (g .0 .0)) (now (a .found)) refl (omega (arith, length-compound (g .0 .0), c .before .if1 .taken))) (c .number2 .ensures))
+    let a = c .before .before .before .before .before .before .before .args in
+    let g = c .before .before .c .given in
+    let told = sym (c .before .before .before .before .read-compound .ensures) ∙ g .1 in
+    rw told (gives refusalCode (wrote-short (compoundWords (g .0 .0)) (now (a .found)) refl (omega (arith, length-compound (g .0 .0), c .if1 .taken)) (sym (length-compound (g .0 .0)))) refl)
 
 store-requires : tie.Need-store-requires
 store-requires c κs = search needs
@@ -62,7 +59,6 @@ flasknib-read-compound-spec =
     enum-known-refusal
     number-requires
     enum-known-c
-    number-requires-2
     returns
     store-requires
     returns-2

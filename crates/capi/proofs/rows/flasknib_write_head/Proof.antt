@@ -1,7 +1,10 @@
 -- `capi::rows::flasknib_write_head` meets its contract. Assumes nothing.
 use borrow.Author.Needs.{needs}
 use native.Mathlib.Omega.{arith}
-use Rattle.answers.proofs.Stores.{wrote-fits}
+use lib.Dec.{leb→le}
+use Rattle.answers.proofs.Stores.{wrote-size}
+use Rattle.table.specs.Field.{line}
+use Rattle.table.specs.Lines.{headBytes}
 use Rattle.capi.proofs.Answers.{coded}
 use Rattle.capi.proofs.rows.flasknib_write_head.Statement.{statement}
 use Rattle.capi.proofs.rows.flasknib_write_head.Tie as tie
@@ -10,7 +13,8 @@ write-head-requires : tie.Need-write-head-requires
 write-head-requires c κs = search needs
 
 length-requires : tie.Need-length-requires
-length-requires c κs = omega (arith, wrote-fits (c .before .before .write-head .ensures), c .before .before .before .before .before .good)
+unfolding headBytes line
+length-requires c κs = omega (arith, wrote-size 56 (λ _. leb→le 56 56 tt) (c .before .before .write-head .ensures))
 
 same-length : tie.Need-same-length
 same-length c = search needs

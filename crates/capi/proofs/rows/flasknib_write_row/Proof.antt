@@ -4,7 +4,8 @@ use native.Mathlib.Omega.{arith}
 use denote.Ref.{now}
 use Rattle.source.specs.declared.Source.{Source}
 use Rattle.table.specs.Lines.{rowFault, rowBytes}
-use Rattle.answers.proofs.Stores.{wrote-fits}
+use Rattle.answers.proofs.Stores.{wrote-size}
+use Rattle.table.proofs.RowFits.{row-fits}
 use Rattle.capi.proofs.Answers.{coded}
 use Rattle.capi.proofs.Records.{nine-wrote, other-wrote}
 use Rattle.capi.proofs.rows.flasknib_write_row.Statement.{statement}
@@ -25,7 +26,7 @@ write-row-requires : tie.Need-write-row-requires
 write-row-requires c κs = search needs
 
 length-requires : tie.Need-length-requires
-length-requires c κs = omega (arith, wrote-fits (c .before .before .write-row .ensures), c .before .before .before .before .before .before .before .before .before .good)
+length-requires c κs = omega (arith, wrote-size 1206 (λ e. row-fits _ _ _ (search needs) e) (c .before .before .write-row .ensures))
 
 same-length : tie.Need-same-length
 same-length c = search needs

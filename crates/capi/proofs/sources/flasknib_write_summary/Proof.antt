@@ -1,10 +1,12 @@
 -- `capi::sources::flasknib_write_summary` meets its contract. Assumes nothing.
 use borrow.Author.Needs.{needs}
+use native.Mathlib.Nat.{le-of-eq}
 use native.Mathlib.Omega.{arith}
 use denote.Ref.{now}
 use Rattle.source.specs.declared.Source.{Source}
 use Rattle.report.specs.Reports.{fault, summaryBytes}
-use Rattle.answers.proofs.Stores.{wrote-fits}
+use Rattle.answers.proofs.Stores.{wrote-size}
+use Rattle.report.proofs.Layouts.{length-summary}
 use Rattle.capi.proofs.Answers.{coded}
 use Rattle.capi.proofs.Records.{nine-wrote, other-wrote}
 use Rattle.capi.proofs.sources.flasknib_write_summary.Statement.{statement}
@@ -25,7 +27,7 @@ write-summary-requires : tie.Need-write-summary-requires
 write-summary-requires c κs = search needs
 
 length-requires : tie.Need-length-requires
-length-requires c κs = omega (arith, wrote-fits (c .before .before .write-summary .ensures), c .before .before .before .before .before .before .before .before .good)
+length-requires c κs = omega (arith, wrote-size 24 (λ _. le-of-eq (length-summary _ _)) (c .before .before .write-summary .ensures))
 
 same-length : tie.Need-same-length
 same-length c = search needs

@@ -46,6 +46,9 @@ write-row-requires c κs = search needs
 enum-known-n : tie.Need-enum-known-n
 enum-known-n c = search needs
 
+enum-known-n-2 : tie.Need-enum-known-n-2
+enum-known-n-2 c = search needs
+
 enum-known-refusal : tie.Need-enum-known-refusal
 enum-known-refusal c = search needs
 
@@ -67,6 +70,16 @@ returns-2 c =
     let s = c .before .before .before .before .before .before .before .before .before .before .before in
     let next = s .args .next in
     let zeroth = now (s .args .zeroth) in
+    step-goes (s .args .run) zeroth (now (s .args .out)) (written-row (c .before .before .before .before .before)) (sym (ap (stepBy (s .args .run) (goes next)) (c .before .n2 .given .1)))
+
+same-length-3 : tie.Need-same-length-3
+same-length-3 c = search needs
+
+returns-3 : tie.Need-returns-3
+returns-3 c =
+    let s = c .before .before .before .before .before .before .before .before .before .before .before in
+    let next = s .args .next in
+    let zeroth = now (s .args .zeroth) in
     step-goes (s .args .run) zeroth (now (s .args .out)) (written-row (c .before .before .before .before .before)) (sym (ap (stepBy (s .args .run) (goes next)) (c .before .refusal .given .1)))
 
 pub row-spec : {M : Type 1} → statement M
@@ -79,8 +92,11 @@ row-spec =
     part-write-row-end
     write-row-requires
     enum-known-n
+    enum-known-n-2
     enum-known-refusal
     same-length
     returns
     same-length-2
-    returns-2)
+    returns-2
+    same-length-3
+    returns-3)

@@ -15,7 +15,7 @@ use Rattle.report.proofs.layout.feedback.Tie as tie
 returns : tie.Need-returns
 returns c =
     let a = c .before .before .args in
-    wrote-short (feedbackOf (a .sender) (a .media) (a .highest) (a .c)) (now (a .out)) refl (omega (arith, length-feedback (a .sender) (a .media) (a .highest) (a .c)))
+    wrote-short (feedbackOf (a .sender) (a .media) (a .highest) (a .c)) (now (a .out)) refl (omega (arith, length-feedback (a .sender) (a .media) (a .highest) (a .c))) (sym (length-feedback (a .sender) (a .media) (a .highest) (a .c)))
 
 pair-requires : tie.Need-pair-requires
 pair-requires c κs = search needs

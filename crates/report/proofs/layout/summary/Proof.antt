@@ -15,7 +15,7 @@ use Rattle.report.proofs.layout.summary.Tie as tie
 returns : tie.Need-returns
 returns c =
     let a = c .before .before .args in
-    wrote-short (summaryOf (a .media) (a .c)) (now (a .out)) refl (omega (arith, length-summary (a .media) (a .c)))
+    wrote-short (summaryOf (a .media) (a .c)) (now (a .out)) refl (omega (arith, length-summary (a .media) (a .c))) (sym (length-summary (a .media) (a .c)))
 
 pair-requires : tie.Need-pair-requires
 pair-requires c κs = search needs

@@ -54,7 +54,7 @@ returns : tie.Need-returns
 returns c =
     let a = c .before .before .before .before .before .before .before .before .before .args in
     let row = whole (now (a .label)) (now (a .front)) (a .below) (a .size) (now (a .back)) in
-    wrote-short row (now (a .out)) refl (omega (arith, total (c .before)))
+    wrote-short row (now (a .out)) refl (omega (arith, total (c .before))) (total (c .before))
 
 put-line-requires : tie.Need-put-line-requires
 put-line-requires c κs = (c .before .before .before .before .before .field-length .ensures, total (c .before .before), c .before .if1 .left)

@@ -31,7 +31,8 @@ add-size-2 c =
 returns : tie.Need-returns
 returns c =
     let a = c .before .before .before .before .args in
-    wrote-short (refusedLine (a .number) (a .block)) (now (a .out)) refl (omega (arith, length-refused (a .number) (a .block)))
+    let long = length-refused (a .number) (a .block) in
+    wrote-short (refusedLine (a .number) (a .block)) (now (a .out)) refl (omega arith) (omega arith)
 
 put-line-requires : tie.Need-put-line-requires
 put-line-requires c κs = search needs

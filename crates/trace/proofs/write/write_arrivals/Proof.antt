@@ -38,7 +38,7 @@ returns : tie.Need-returns
 returns c = let a = c .before .before .before .before .before .before .args in wrote-refused (arrivalsBlock (shapeOf (a .form)) (recordsOf (now (a .times)) (now (a .numbers)) (now (a .marks))) (a .ssrc)) (now (a .out)) (lists-refused (shapeOf (a .form)) (now (a .times)) (now (a .numbers)) (now (a .marks)) (was-false {t = arrivalsOk (shapeOf (a .form)) (now (a .times)) (now (a .numbers)) (now (a .marks))} (c .before .are-records .ensures) (c .if1 .taken)))
 
 returns-2 : tie.Need-returns-2
-returns-2 c = let a = c .before .before .before .before .before .before .before .args in wrote-short (arrivalsBlock (shapeOf (a .form)) (recordsOf (now (a .times)) (now (a .numbers)) (now (a .marks))) (a .ssrc)) (now (a .out)) (good (c .before) .no-fault) (omega (arith, whole (c .before)))
+returns-2 c = let a = c .before .before .before .before .before .before .before .args in wrote-short (arrivalsBlock (shapeOf (a .form)) (recordsOf (now (a .times)) (now (a .numbers)) (now (a .marks))) (a .ssrc)) (now (a .out)) (good (c .before) .no-fault) (omega (arith, whole (c .before))) (sym (whole (c .before)))
 
 arrivals-requires : tie.Need-arrivals-requires
 arrivals-requires c κs = search needs

@@ -32,7 +32,7 @@ returns : tie.Need-returns
 returns c = let a = c .before .before .before .before .args in wrote-refused (labelBlock (shapeOf (a .form)) (now (a .label)) (a .ssrc)) (now (a .out)) (label-refused (now (a .label)) (was-false (c .before .is-label .ensures) (c .if1 .taken)))
 
 returns-2 : tie.Need-returns-2
-returns-2 c = let a = c .before .before .before .before .before .args in wrote-short (labelBlock (shapeOf (a .form)) (now (a .label)) (a .ssrc)) (now (a .out)) (label-taken (now (a .label)) (good (c .before))) (omega (arith, whole (c .before)))
+returns-2 c = let a = c .before .before .before .before .before .args in wrote-short (labelBlock (shapeOf (a .form)) (now (a .label)) (a .ssrc)) (now (a .out)) (label-taken (now (a .label)) (good (c .before))) (omega (arith, whole (c .before))) (sym (whole (c .before)))
 
 label-requires : tie.Need-label-requires
 label-requires c κs = search needs
