@@ -1,4 +1,4 @@
--- The hypotheses of the theorems can be met: for each theorem that has some, values that meet them all.
+-- The hypotheses of the theorems named below can be met: for each of them, values that meet them all.
 use mathlib.Core.Path.{_≡_}
 use mathlib.Core.Bool.{true}
 use mathlib.Core.List.{List, [], _∷_, _++_, map}
