@@ -19,8 +19,10 @@ use Rattle.capi.specs.Sources.{arrivalCode}
 use Rattle.capi.specs.Chains.{afterArrivals, arrivalCodes, wireFits}
 use Rattle.capi.proofs.SourceChains.{arrives-from-zero}
 use Rattle.demands.specs.Calls.{TruePacket, wireOf, call, runFrom, AnsweredFrom}
+use Rattle.demands.specs.Witnesses.{wrapped}
 use Rattle.demands.proofs.Demand.{demand3}
-use Rattle.callers.specs.Callers.{passed, answerTo, ChainHoldsCount}
+use Rattle.demands.proofs.Witnesses.{met}
+use Rattle.callers.specs.Callers.{passed, answerTo, Chain, ChainHoldsCount}
 
 fit : (ps : List TruePacket) → all (map wireFits (map passed ps)) ≡ true
 fit [] = refl
@@ -48,3 +50,7 @@ chain-holds-count ps d =
       answers = chain .answers ∙ same-answers freshRecord ps (end .answers);
       words = chain .left ∙ ap sourceWords (same-run freshRecord ps ∙ end .state);
     }
+
+-- the list that shows that demand 3's hypotheses can be met
+pub some-chain : Chain wrapped
+some-chain = chain-holds-count wrapped (met .described)

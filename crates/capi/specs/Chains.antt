@@ -13,10 +13,10 @@ use Rattle.source.specs.Arrivals.{arrival, after}
 use Rattle.breaker.specs.declared.Settings.{Settings}
 use Rattle.breaker.specs.declared.Breaker.{Breaker}
 use Rattle.breaker.specs.Calls.{startOf, preset}
-use Rattle.breaker.specs.Runs.{Call, report, tick, answersOf, after as afterCalls}
+use Rattle.breaker.specs.Runs.{Call, report, tick, called, answersOf, after as afterCalls}
 use Rattle.breaker.specs.Theorems.{Typed, numberFits}
 use Rattle.lent.specs.SourceWords.{sourceWords}
-use Rattle.lent.specs.BreakerWords.{breakerWords}
+use Rattle.lent.specs.BreakerWords.{breakerWords, breakerOf}
 use Rattle.capi.specs.Sources.{arrivalCode, arriveAnswer, arriveWords}
 use Rattle.capi.specs.BreakerCalls.{answerCode, isRecord, callAnswer, callLeft}
 
@@ -66,6 +66,7 @@ pub record SomeArrivals : Type 0 where
   pub fit : all (map wireFits someArrivals) ≡ true
   pub answers : arriveCodes (replicate 9 0) someArrivals ≡ 0 ∷ 7 ∷ 0 ∷ []
   pub left : arriveChain (replicate 9 0) someArrivals ≡ 65534 ∷ 65536 ∷ 0 ∷ 0 ∷ 1 ∷ 1 ∷ 0 ∷ 5 ∷ 0 ∷ []
+  pub sound : sound (afterArrivals freshRecord someArrivals) ≡ true
 
 -- ---- a breaker's reports and ticks
 
@@ -99,9 +100,20 @@ someCalls = reportAt 1000 7 ∷ reportAt 1000 8 ∷ reportAt 3000 9 ∷ tick 400
 abbrev pub started : List ℕ
 started = breakerWords (startOf preset 0 .breaker)
 
+-- the record of the first two reports, and the words that a timeout leaves
+abbrev pub reported : Breaker
+reported = afterCalls (startOf preset 0 .breaker) (reportAt 1000 7 ∷ reportAt 3000 9 ∷ [])
+
+abbrev pub stopped : List ℕ
+stopped = callLeft (tick 15000) started
+
 pub record SomeCalls : Type 0 where
   pub begun : isRecord started ≡ true
   pub fit : all (map numberFits someCalls) ≡ true
   pub answers : breakerCodes started someCalls ≡ 0 ∷ 523 ∷ 0 ∷ 0 ∷ []
   pub left : breakerChain started someCalls
       ≡ (3 ∷ 3 ∷ 15000 ∷ 0 ∷ 0 ∷ 3000 ∷ 1 ∷ 9 ∷ 0 ∷ 0 ∷ 1 ∷ 2000 ∷ 20 ∷ []) ++ replicate 62 0
+  pub typed : Typed reported
+  -- a call on a stopped breaker answers the stop and hands the record back as it was
+  pub stop : callAnswer (reportAt 16000 7) stopped ≡ 257
+  pub same : called (breakerOf stopped) (reportAt 16000 7) .breaker ≡ breakerOf stopped

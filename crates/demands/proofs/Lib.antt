@@ -10,3 +10,4 @@ pub mod PrintedTable
 pub mod ReadBack
 pub mod WorkedExamples
 pub mod Witnesses
+pub mod Uses

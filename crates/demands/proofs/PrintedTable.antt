@@ -200,7 +200,6 @@ same-last-row trace other label ssrc ps qs d e h k same first some =
     let row : countRow label ssrc qs 0 ≡ countRow label ssrc ps 0 =
     row-of other label ssrc qs e k ∙ ap (λ (s : Source). rowBytes label ssrc (record { source = s; jumped = 0 })) (sym end) ∙ sym (row-of trace label ssrc ps d h) in
     let more : 1 ≤ length qs = omega (arith, perm-length (same-perm ps qs same)) in (
-      countRow label ssrc ps 0,
       table-holds-count trace label ssrc ps d h .last some,
       subst (EndsIn other) row (table-holds-count other label ssrc qs e k .last more),
     )

@@ -2,15 +2,20 @@
 use mathlib.Core.Path.{_≡_, refl}
 use mathlib.Core.Bool.{Bool, true, false}
 use mathlib.Core.List.{List, [], _∷_}
+use mathlib.Core.Option.{none}
 use Prim.Native.Nat.{ℕ, zero, suc, _^_, _<_}
 use lib.ListN.{length, drop, replicate}
 use native.Mathlib.Omega.{arith}
 use borrow.Author.Tests.{ltb-true}
-use lib.Count.{ones}
+use lib.Count.{ones, onesIn}
 use lib.Dec.{ltb, leb→le}
 use lib.Signed.{leZ-yes, ltZ-yes}
+use Rattle.answers.specs.Writers.{written}
+use Rattle.answers.specs.declared.Refusal.the-variants.{Time}
+use Rattle.answers.specs.declared.Written.the-variants.{Room}
 use Rattle.answers.proofs.Conditions.{and-left, and-right}
 use Rattle.numbers.specs.BigEndian.{word, bytes}
+use Rattle.numbers.specs.Since.{since}
 use Rattle.format.specs.Blocks.{blockBytes}
 use Rattle.format.specs.declared.Form.the-variants.{One}
 use Rattle.source.specs.Arrivals.{arrival, first, counted, distance, ahead, behind}
@@ -18,7 +23,7 @@ use Rattle.source.specs.Blocks.{packets, countAll, blockCount}
 use Rattle.source.specs.Distances.{reachOf}
 use Rattle.source.specs.Places.{pack, marks, place, places, moved, added}
 use Rattle.source.specs.Record.{sound, fresh, hasCounted, lost}
-use Rattle.source.proofs.Facts.{fresh-sound}
+use Rattle.report.specs.Reports.{countsBytes, feedbackOf, feedbackBytes}
 use Rattle.trace.specs.Checksum.{words, onesAdd, onesSum}
 use Rattle.trace.specs.Contents.{every, labelByte, labelOk, labelBody, countOk, goodRecords, arrivalsBody}
 use Rattle.trace.specs.Layout.{recordBytes, recordsBytes, recordAt, header, filled, checked, labelBlock, arrivalsBlock}
@@ -28,20 +33,26 @@ use Rattle.trace.specs.Theorems.{Below, recordsIn}
 use Rattle.trace.specs.declared.Block.the-variants.{Label, Arrivals}
 use Rattle.table.specs.Decimal.{digitsOf, decimal, signed}
 use Rattle.table.specs.Field.{special, anySpecial, doubledByte, doubled, asField, line}
-use Rattle.table.specs.Lines.{rowBytes}
+use Rattle.table.specs.Lines.{rowFault, rowBytes}
 use Rattle.table.specs.Theorems.{plain, allPlain}
-use Rattle.breaker.specs.Calls.{startOf, tickOf}
-use Rattle.breaker.specs.Limits.{settingsOk}
-use Rattle.breaker.specs.Runs.{called}
+use Rattle.breaker.specs.Calls.{startOf, reportOf, tickOf}
+use Rattle.breaker.specs.Limits.{settingsOk, reportOk}
+use Rattle.breaker.specs.Rules.{runAfter, windowAfter, holds, ruled}
+use Rattle.breaker.specs.Runs.{tick, called, after}
 use Rattle.breaker.specs.Soundness as Breakers
+use Rattle.breaker.specs.Theorems.{Typed}
 use Rattle.breaker.specs.Windows.{emptyWindow}
+use Rattle.breaker.specs.declared.Answer.the-variants.{Stop, Refused}
+use Rattle.breaker.specs.declared.Reason.the-variants.{Timeout}
 use Rattle.walk.specs.Blocks as Blocks
 use Rattle.walk.specs.Blocks.{blocksOf}
 use Rattle.walk.specs.Programs.{onward, walk}
-use Rattle.convert.specs.Runs.{startOf as runFrom, nextOf, arrived, rowOf}
+use Rattle.convert.specs.declared.Step.the-variants as step
+use Rattle.convert.specs.Runs.{startOf as runFrom, nextOf, soundRun, callNext, stepOf, arrived, rowOf}
 use Rattle.convert.specs.Theorems.{taken, ends, EnoughBy}
+use Rattle.demands.specs.Calls.{run}
 use Rattle.demands.specs.PrintedTable.{Holds}
-use Rattle.demands.specs.Witnesses.{Met, c1Packets, text, label, whole, cut}
+use Rattle.demands.specs.Witnesses.{Met, c1Packets, text, label, c1Block, whole, cut, begun, reported, notLater}
 
 below : (limit : ℕ) (s : List ℕ) → 0 < limit → every (λ c. ltb c limit) s ≡ true → Below limit s
 unfolding every
@@ -68,10 +79,38 @@ whole-enough : EnoughBy (λ _. replicate 100 0) (blocksOf whole) (runFrom (block
 unfolding labelBlock arrivalsBlock recordsOf recordBytes recordsBytes header filled checked bytes words onesAdd onesSum word blockOf rightCheck contentsOf labelBody labelByte every arrivalsBody countOk goodRecords Blocks.cut blocksOf runFrom nextOf arrived blockCount sound fresh hasCounted packets countAll arrival first counted distance reachOf ahead behind pack marks place moved added rowOf rowBytes asField anySpecial special doubled doubledByte decimal digitsOf signed line lost places ones
 whole-enough = taken _ refl (leb→le _ _ tt) ends
 
+row-room : stepOf begun (callNext begun label c1Block) label (replicate 38 0) ≡ step.Room 39 begun
+unfolding labelBlock arrivalsBlock recordsOf recordBytes recordsBytes header filled checked bytes words onesAdd onesSum word blockOf rightCheck contentsOf labelBody labelByte every arrivalsBody countOk goodRecords callNext soundRun labelOk nextOf arrived blockCount sound fresh hasCounted packets countAll arrival first counted distance reachOf ahead behind pack marks place moved added rowOf rowBytes asField anySpecial special doubled doubledByte decimal digitsOf signed line lost places ones onesIn written
+row-room = refl
+
+-- ---- C1's record, and a breaker's, computed
+
+c1-sound : sound (run c1Packets) ≡ true
+unfolding arrival first counted distance reachOf ahead behind pack marks place moved added sound fresh hasCounted places ones onesIn
+c1-sound = refl
+
+room : written none (feedbackBytes 9 1 (run c1Packets)) (replicate 31 0) ≡ Room 32
+unfolding written feedbackOf countsBytes bytes
+room = refl
+
+row-accepted : rowFault text (record { source = run c1Packets; jumped = 3 }) ≡ none
+unfolding rowFault labelOk labelByte every
+row-accepted = rw c1-sound
+
+record Breaking : Type 0 where
+  sound : Breakers.sound reported ≡ true
+  typed : Typed reported
+  refuses : called reported notLater .answer ≡ Refused Time
+  stops : called reported (tick 20001) .answer ≡ Stop Timeout
+
+breaking : Breaking
+unfolding since settingsOk reportOk emptyWindow Breakers.sound runAfter windowAfter holds ruled startOf reportOf tickOf called after
+breaking = record { sound = refl; typed = record { number = omega arith; places = refl }; refuses = refl; stops = refl }
+
 -- ---- all
 
 pub met : Met
-unfolding labelBlock arrivalsBlock recordsOf recordBytes recordsBytes header filled checked bytes words onesAdd onesSum word blockOf rightCheck contentsOf labelBody labelByte every arrivalsBody countOk goodRecords walk onward nextOf labelFault labelOk arrivalsFault arrivalsOk plain allPlain special sound fresh startOf settingsOk called tickOf Breakers.sound emptyWindow
+unfolding labelBlock arrivalsBlock recordsOf recordBytes recordsBytes header filled checked bytes words onesAdd onesSum word blockOf rightCheck contentsOf labelBody labelByte every arrivalsBody countOk goodRecords walk onward nextOf labelFault labelOk arrivalsFault arrivalsOk plain allPlain special startOf settingsOk
 met = record {
   described = record { few = omega arith; steady = (leZ-yes tt, leZ-yes tt, (leZ-yes tt, leZ-yes tt, (leZ-yes tt, leZ-yes tt, (leZ-yes tt, leZ-yes tt, tt)))) };
   again = (
@@ -80,6 +119,7 @@ met = record {
     refl,
   );
   c1-described = record { few = omega arith; steady = (leZ-yes tt, leZ-yes tt, (leZ-yes tt, leZ-yes tt, (leZ-yes tt, leZ-yes tt, (leZ-yes tt, leZ-yes tt, (leZ-yes tt, leZ-yes tt, tt))))) };
+  few-jumped = omega arith;
   c1-seen = refl;
   held = whole-held;
   recut = cut-held;
@@ -96,11 +136,19 @@ met = record {
   lists-fit = refl;
   times-fit = below (256 ^ 4) (0 ∷ 20 ∷ []) (omega arith) refl;
   numbers-fit = below (2 ^ 16) (65534 ∷ 65535 ∷ []) (omega arith) refl;
+  arrivals-bytes = below 256 c1Block (omega arith) refl;
   arrivals-read = refl;
   since = (leZ-yes tt, ltZ-yes tt);
   signed = (leZ-yes tt, ltZ-yes tt);
-  fresh-sound = fresh-sound;
+  c1-sound = c1-sound;
   starts = refl;
-  breaker-sound = refl;
-  stops = refl;
+  breaker-sound = breaking .sound;
+  breaker-typed = breaking .typed;
+  number-fits = refl;
+  refuses = breaking .refuses;
+  stops = breaking .stops;
+  ssrcs = (omega arith, omega arith);
+  row-accepted = row-accepted;
+  room = room;
+  row-room = row-room;
 }

@@ -76,4 +76,4 @@ abbrev pub SameLastRow : Type 0
 SameLastRow =
     (trace other label : List ℕ) (ssrc : ℕ) (ps qs : List TruePacket) → Described ps → Described qs → Holds trace label ssrc ps → Holds other label ssrc qs
     → SameArrivals ps qs → baseOf ps ≡ baseOf qs → 1 ≤ length ps
-    → (row : List ℕ) × EndsIn trace row × EndsIn other row
+    → EndsIn trace (countRow label ssrc ps 0) × EndsIn other (countRow label ssrc ps 0)

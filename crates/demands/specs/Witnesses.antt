@@ -3,38 +3,46 @@ use mathlib.Core.Path.{_≡_}
 use mathlib.Core.Bool.{true}
 use mathlib.Core.List.{List, [], _∷_, _++_, map}
 use mathlib.Core.Option.{none, some}
-use Prim.Native.Nat.{ℕ, _^_, _<_}
+use Prim.Native.Nat.{ℕ, _^_, _≤_, _<_}
 use lib.IntN.{ℤ, pos, negℤ, _-ℤ_}
 use lib.ListN.{length, drop, replicate}
 use lib.Signed.{_≤ℤ_, _<ℤ_}
-use Rattle.answers.specs.declared.Refusal.the-variants.{Incomplete}
+use Rattle.answers.specs.Writers.{written}
+use Rattle.answers.specs.declared.Refusal.the-variants.{Incomplete, Time}
+use Rattle.answers.specs.declared.Written.the-variants.{Room}
 use Rattle.format.specs.Blocks.{blockBytes}
 use Rattle.format.specs.Forms.{shapeOf}
 use Rattle.format.specs.declared.Form.the-variants.{One}
-use Rattle.source.specs.Record.{freshRecord, sound}
-use Rattle.source.specs.Totals.{freshTotals}
+use Rattle.source.specs.Record.{sound}
+use Rattle.source.specs.Totals.{freshTotals, mostJumped}
+use Rattle.report.specs.Reports.{feedbackBytes}
 use Rattle.trace.specs.Contents.{labelOk}
 use Rattle.trace.specs.Layout.{labelBlock, arrivalsBlock}
 use Rattle.trace.specs.Reading.{rightCheck, blockOf}
 use Rattle.trace.specs.Writing.{labelFault, recordsOf, arrivalsFault}
 use Rattle.trace.specs.Theorems.{Below}
 use Rattle.trace.specs.declared.Block.the-variants.{Label, Arrivals}
+use Rattle.table.specs.Lines.{rowFault}
 use Rattle.table.specs.Texts.{codes}
 use Rattle.table.specs.Theorems.{allPlain}
-use Rattle.breaker.specs.declared.Answer.the-variants.{Go, Stop}
+use Rattle.breaker.specs.declared.Answer.the-variants.{Go, Stop, Refused}
+use Rattle.breaker.specs.declared.Breaker.{Breaker}
 use Rattle.breaker.specs.declared.Reason.the-variants.{Timeout}
-use Rattle.breaker.specs.Calls.{fresh, startOf, preset}
-use Rattle.breaker.specs.Runs.{tick, called}
+use Rattle.breaker.specs.Calls.{startOf, preset}
+use Rattle.breaker.specs.Runs.{Call, tick, called, after}
 use Rattle.breaker.specs.Soundness as Breakers
+use Rattle.breaker.specs.Theorems.{Typed, numberFits}
 use Rattle.walk.specs.Blocks.{blocksOf}
 use Rattle.walk.specs.Programs.{walk}
-use Rattle.convert.specs.Runs.{startOf as runFrom}
+use Rattle.convert.specs.declared.Run.{Run}
+use Rattle.convert.specs.declared.Step.the-variants as step
+use Rattle.convert.specs.Runs.{startOf as runFrom, callNext, stepOf}
 use Rattle.convert.specs.Tables.{ecntable}
 use Rattle.convert.specs.Theorems.{EnoughBy}
-use Rattle.demands.specs.Calls.{TruePacket, wireOf, arrivals, Described}
+use Rattle.demands.specs.Calls.{TruePacket, wireOf, arrivals, run, Described}
 use Rattle.demands.specs.Count.{baseOf, SameArrivals}
 use Rattle.demands.specs.PrintedTable.{Holds}
-use Rattle.demands.specs.Examples.{c1}
+use Rattle.demands.specs.Examples.{c1, reportNumber}
 
 -- ---- lists of calls
 
@@ -64,11 +72,26 @@ label = labelBlock (shapeOf One) text 1
 abbrev pub block : List ℕ → List ℕ → List ℕ → List ℕ
 block times numbers marks = arrivalsBlock (shapeOf One) (recordsOf times numbers marks) 1
 
+abbrev pub c1Block : List ℕ
+c1Block = block (0 ∷ 20 ∷ 40 ∷ 41 ∷ 100 ∷ []) (65534 ∷ 65535 ∷ 0 ∷ 0 ∷ 3 ∷ []) (2 ∷ 2 ∷ 3 ∷ 3 ∷ 1 ∷ [])
+
 abbrev pub whole : List ℕ
-whole = label ++ block (0 ∷ 20 ∷ 40 ∷ 41 ∷ 100 ∷ []) (65534 ∷ 65535 ∷ 0 ∷ 0 ∷ 3 ∷ []) (2 ∷ 2 ∷ 3 ∷ 3 ∷ 1 ∷ [])
+whole = label ++ c1Block
 
 abbrev pub cut : List ℕ
 cut = label ++ (block (0 ∷ 20 ∷ []) (65534 ∷ 65535 ∷ []) (2 ∷ 2 ∷ []) ++ block (40 ∷ 41 ∷ 100 ∷ []) (0 ∷ 0 ∷ 3 ∷ []) (3 ∷ 3 ∷ 1 ∷ []))
+
+-- the run that the label block begins
+abbrev pub begun : Run
+begun = record { length = length text; ssrc = 1; totals = freshTotals }
+
+-- ---- a breaker with an interval in its window, and a report at the time of its last
+
+abbrev pub reported : Breaker
+reported = after (startOf preset 0 .breaker) (reportNumber 0 20 100 1000 5000 ∷ reportNumber 1 20 100 1000 5000 ∷ [])
+
+abbrev pub notLater : Call
+notLater = reportNumber 1 20 100 1000 5000
 
 -- ---- what they meet, by theorem
 
@@ -78,6 +101,8 @@ pub record Met : Type 0 where
   pub again : Described reordered × SameArrivals (arrivals wrapped) (arrivals reordered) × (baseOf (arrivals wrapped) ≡ baseOf (arrivals reordered))
   pub c1-described : Described c1Packets
   pub c1-seen : map (λ p. (wireOf (p .number) .0, p .mark)) c1Packets ≡ c1
+  -- its part on the table's row
+  pub few-jumped : 3 ≤ mostJumped
   -- TableHoldsCount and SameLastRow
   pub held : Holds whole text 1 c1Packets
   pub recut : Holds cut text 1 c1Packets
@@ -86,7 +111,7 @@ pub record Met : Type 0 where
   pub enough : EnoughBy (λ _. replicate 100 0) (blocksOf whole) (runFrom (blocksOf whole .zeroth))
   -- NothingFollows: an empty block is 1
   pub ends :
-      walk ecntable 1 ([] ∷ []) (record { run = record { length = 0; ssrc = 1; totals = freshTotals }; zeroth = label }) .ended
+      walk ecntable 1 ([] ∷ []) (record { run = begun; zeroth = label }) .ended
       ≡ some (record { refusal = Incomplete; block = 1 })
   -- LabelReadsBack, LabelIsWritten, OneCheck, RowSplits, LineSplits
   pub label-fits : labelFault text ≡ none
@@ -100,13 +125,24 @@ pub record Met : Type 0 where
   pub lists-fit : arrivalsFault (shapeOf One) (0 ∷ 20 ∷ []) (65534 ∷ 65535 ∷ []) (2 ∷ 2 ∷ []) ≡ none
   pub times-fit : Below (256 ^ 4) (0 ∷ 20 ∷ [])
   pub numbers-fit : Below (2 ^ 16) (65534 ∷ 65535 ∷ [])
-  pub arrivals-read : blockOf (block (0 ∷ 20 ∷ []) (65534 ∷ 65535 ∷ []) (2 ∷ 2 ∷ [])) ≡ Arrivals One 2 1
+  pub arrivals-bytes : Below 256 c1Block
+  pub arrivals-read : blockOf c1Block ≡ Arrivals One 5 1
   -- SinceExact, SignedExact
   pub since : (pos 0 ≤ℤ (pos 65540 -ℤ pos 65530)) × ((pos 65540 -ℤ pos 65530) <ℤ pos (2 ^ 16))
   pub signed : (negℤ (pos (2 ^ 15)) ≤ℤ (pos 2 -ℤ pos 7)) × ((pos 2 -ℤ pos 7) <ℤ pos (2 ^ 15))
   -- SoundStays
-  pub fresh-sound : sound freshRecord ≡ true
-  -- SoundStart, SoundRun; SoundCall; StaysStopped
+  pub c1-sound : sound (run c1Packets) ≡ true
+  -- SoundStart, SoundRun; SoundCall, TypedCall; RefusedKeeps, by 11; StaysStopped
   pub starts : startOf preset 0 .answer ≡ Go
-  pub breaker-sound : Breakers.sound (fresh preset 0) ≡ true
-  pub stops : called (fresh preset 0) (tick 15000) .answer ≡ Stop Timeout
+  pub breaker-sound : Breakers.sound reported ≡ true
+  pub breaker-typed : Typed reported
+  pub number-fits : numberFits notLater ≡ true
+  pub refuses : called reported notLater .answer ≡ Refused Time
+  pub stops : called reported (tick 20001) .answer ≡ Stop Timeout
+  -- FeedbackReadsBack, SummaryReadsBack: the sender's SSRC and the media SSRC
+  pub ssrcs : (9 < 2 ^ 32) × (1 < 2 ^ 32)
+  -- RowFits
+  pub row-accepted : rowFault text (record { source = run c1Packets; jumped = 3 }) ≡ none
+  -- RoomIsExact, RowRoomIsExact: C1's feedback packet and its row, each with one byte too few
+  pub room : written none (feedbackBytes 9 1 (run c1Packets)) (replicate 31 0) ≡ Room 32
+  pub row-room : stepOf begun (callNext begun label c1Block) label (replicate 38 0) ≡ step.Room 39 begun

@@ -3,3 +3,4 @@ pub mod SourceLaws
 pub mod Pairs
 pub mod Restored
 pub mod Parts
+pub mod Witnesses

@@ -66,6 +66,6 @@ elements-all l i (suc n) h =
 
 pub words-back : WordsBack
 unfolding sourceOf sourceWords elements
-words-back words h fit =
-    ap₂ (λ (x y : ℕ). x ∷ y ∷ elements words 2 7) (word-back (getD words 0 0) (fit 0)) (word-back (getD words 1 0) (fit 1))
+words-back words h base highest =
+    ap₂ (λ (x y : ℕ). x ∷ y ∷ elements words 2 7) (word-back (getD words 0 0) base) (word-back (getD words 1 0) highest)
     ∙ sym (elements-all words 0 9 h)

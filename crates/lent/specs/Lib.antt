@@ -1,3 +1,4 @@
 pub mod SourceWords
 pub mod CompoundWords
 pub mod BreakerWords
+pub mod Witnesses

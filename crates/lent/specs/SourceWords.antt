@@ -48,6 +48,6 @@ pub record FitsWord (z : ℤ) : Type 0 where
 abbrev pub RecordBack : Type 0
 RecordBack = (s : Source) → FitsWord (s .base .0) → FitsWord (s .highest .0) → sourceOf (sourceWords s) ≡ s
 
--- 9 words of 64 bits are the words of the record that they hold
+-- 9 words, of which the signed ones have 64 bits, are the words of the record that they hold
 abbrev pub WordsBack : Type 0
-WordsBack = (words : List ℕ) → length words ≡ 9 → ((i : ℕ) → getD words i 0 < 2 ^ 64) → sourceWords (sourceOf words) ≡ words
+WordsBack = (words : List ℕ) → length words ≡ 9 → getD words 0 0 < 2 ^ 64 → getD words 1 0 < 2 ^ 64 → sourceWords (sourceOf words) ≡ words

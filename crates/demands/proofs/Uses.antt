@@ -1,0 +1,68 @@
+-- Each theorem that has hypotheses, at the values that meet them: what `Met` says is what the theorems ask. Assumes nothing.
+use mathlib.Core.Path.{_≡_, refl}
+use mathlib.Core.List.{[], _∷_}
+use mathlib.Core.Option.{none}
+use Prim.Native.Nat.{ℕ, _+_}
+use native.Mathlib.Omega.{arith}
+use lib.IntN.{pos}
+use lib.ListN.{length, replicate}
+use Rattle.answers.specs.declared.Refusal.the-variants.{Time}
+use Rattle.answers.proofs.Stores.{room-is-exact}
+use Rattle.numbers.proofs.Differences.{since-exact, signed-exact}
+use Rattle.format.specs.declared.Form.the-variants.{One}
+use Rattle.source.proofs.Kept.{sound-stays}
+use Rattle.report.specs.Reports.{feedbackBytes}
+use Rattle.trace.proofs.ReadBack.{label-reads-back, arrivals-read-back}
+use Rattle.trace.proofs.Accepted.{label-is-written, arrivals-are-written}
+use Rattle.trace.proofs.Theorems.{one-check}
+use Rattle.table.specs.Texts.{codes}
+use Rattle.table.proofs.RowFits.{row-fits}
+use Rattle.table.proofs.RowSplits.{row-splits}
+use Rattle.table.proofs.Splitting.{line-splits}
+use Rattle.breaker.specs.Calls.{preset}
+use Rattle.breaker.specs.Runs.{tick}
+use Rattle.breaker.specs.declared.Reason.the-variants.{Timeout}
+use Rattle.breaker.proofs.Runs.{sound-start, sound-call, sound-run, typed-call, refused-keeps, stays-stopped}
+use Rattle.walk.proofs.Walks.{nothing-follows}
+use Rattle.convert.specs.Runs.{callNext}
+use Rattle.convert.specs.Tables.{ecntable}
+use Rattle.convert.proofs.Steps.{row-room-is-exact}
+use Rattle.convert.proofs.Whole.{calls-print}
+use Rattle.demands.specs.Calls.{run}
+use Rattle.demands.specs.Witnesses.{wrapped, reordered, c1Packets, text, label, c1Block, block, whole, cut, begun, reported, notLater}
+use Rattle.demands.proofs.Demand.{demand3}
+use Rattle.demands.proofs.PrintedTable.{table-holds-count, same-last-row}
+use Rattle.demands.proofs.ReadBack.{feedback-reads-back, summary-reads-back}
+use Rattle.demands.proofs.Witnesses.{met}
+
+used : Unit {0}
+used =
+    let d = demand3 wrapped (met .described) in
+    let order = d .order reordered (met .again .0) (met .again .1) (met .again .2) in
+    let row = d .row text 1 3 (met .label-ok) (met .few-jumped) in
+    let table = table-holds-count whole text 1 c1Packets (met .c1-described) (met .held) in
+    let last = same-last-row whole cut text 1 c1Packets c1Packets (met .c1-described) (met .c1-described) (met .held) (met .recut) (λ p. refl) refl (omega arith) in
+    let calls = calls-print (λ _. replicate 100 0) whole (met .bytes) (met .enough) in
+    let follows = nothing-follows _ ecntable 1 (record { run = begun; zeroth = label }) ([] ∷ []) (c1Block ∷ []) _ (met .ends) in
+    let label-back = label-reads-back One text 1 (met .label-fits) (met .ssrcs .1) in
+    let label-written = label-is-written One label (length text) 1 (met .label-bytes) (met .label-reads) in
+    let check = one-check label label (met .label-bytes) (met .label-bytes) (met .label-long) (met .label-long) (met .label-right) (met .label-right) refl in
+    let splits = row-splits text 1 (record { source = run c1Packets; jumped = 3 }) [] (met .label-ok) in
+    let line = line-splits text (codes "a \"b\"" ∷ []) [] (met .plain) in
+    let arrivals-back = arrivals-read-back One (0 ∷ 20 ∷ []) (65534 ∷ 65535 ∷ []) (2 ∷ 2 ∷ []) 1 (met .lists-fit) (met .times-fit) (met .numbers-fit) (met .ssrcs .1) in
+    let arrivals-written = arrivals-are-written One c1Block 5 1 (met .arrivals-bytes) (met .arrivals-read) in
+    let since = since-exact 16 (pos 65540) (pos 65530) (met .since .0) (met .since .1) in
+    let signed = signed-exact 15 (pos 2) (pos 7) (met .signed .0) (met .signed .1) in
+    let stays = sound-stays (run c1Packets) (record { 0 = 4 }) 1 (omega arith) (met .c1-sound) in
+    let start = sound-start preset 0 (met .starts) in
+    let runs = sound-run preset 0 (notLater ∷ []) (met .starts) in
+    let call = sound-call reported notLater (met .breaker-typed .places) (met .breaker-sound) in
+    let typed = typed-call reported notLater (met .breaker-typed) (met .number-fits) in
+    let keeps = refused-keeps reported notLater Time (met .refuses) in
+    let stops = stays-stopped reported (tick 20001) Timeout (notLater ∷ []) (met .stops) in
+    let feedback = feedback-reads-back (run c1Packets) 5 9 1 (met .ssrcs .0) (met .ssrcs .1) in
+    let summary = summary-reads-back (run c1Packets) 5 1 (met .ssrcs .1) in
+    let fits = row-fits text 1 (record { source = run c1Packets; jumped = 3 }) (met .ssrcs .1) (met .row-accepted) in
+    let room = room-is-exact none (feedbackBytes 9 1 (run c1Packets)) (replicate 31 0) 32 (met .room) in
+    let row-room = row-room-is-exact begun begun (callNext begun label c1Block) label (replicate 38 0) 39 (met .row-room) in
+    tt

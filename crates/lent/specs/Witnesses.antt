@@ -1,0 +1,30 @@
+-- The hypotheses of the read-back laws can be met: words of a source's and of a breaker's record, and what they meet, by theorem.
+use mathlib.Core.Path.{_≡_}
+use mathlib.Core.Bool.{true}
+use mathlib.Core.List.{List, [], _∷_, _++_}
+use Prim.Native.Nat.{ℕ, _-_, _^_, _<_}
+use lib.ListN.{length, getD, replicate}
+use Rattle.answers.specs.Conditions.{all}
+use Rattle.breaker.specs.Theorems.{Typed}
+use Rattle.lent.specs.SourceWords.{sourceOf, FitsWord}
+use Rattle.lent.specs.BreakerWords.{breakerOf, wordsFit}
+
+-- base -1, as its two's complement, and highest 65536
+abbrev pub someSource : List ℕ
+someSource = (2 ^ 64 - 1) ∷ 65536 ∷ 0 ∷ 0 ∷ 1 ∷ 1 ∷ 0 ∷ 5 ∷ 0 ∷ []
+
+-- stopped by the media rule, in a trial, with two intervals in its window
+abbrev pub someBreaker : List ℕ
+someBreaker = (3 ∷ 3 ∷ 15000 ∷ 1 ∷ 2 ∷ 5000 ∷ 1 ∷ (2 ^ 32 - 1) ∷ 2 ∷ 1 ∷ 2 ∷ 2000 ∷ 20 ∷ 1000 ∷ 255 ∷ []) ++ replicate 60 0
+
+pub record Met : Type 0 where
+  -- RecordBack, WordsBack
+  pub base-fits : FitsWord (sourceOf someSource .base .0)
+  pub highest-fits : FitsWord (sourceOf someSource .highest .0)
+  pub source-long : length someSource ≡ 9
+  pub base-word : getD someSource 0 0 < 2 ^ 64
+  pub highest-word : getD someSource 1 0 < 2 ^ 64
+  -- BreakerRestored, WordsRestored
+  pub breaker-typed : Typed (breakerOf someBreaker)
+  pub breaker-long : length someBreaker ≡ 75
+  pub breaker-fits : all (wordsFit someBreaker) ≡ true
