@@ -1,14 +1,15 @@
 """page.py: docs/BREAKER.md has the right numbers and the code's names.
 
-Each number of its tables is computed here, from document 01's rule and the limits that the code states. The examples must also be those of
-crates/wide/specs/Page.antt, over which the prover computes.
+Each number of its tables is computed here, from document 01's rule, RFC 8083's full equation and the limits that the code states. The examples must
+also be those of crates/wide/specs/Page.antt and crates/roots/specs/Theorems.antt, over which the prover computes.
 """
+import math
 import pathlib
 import re
 import sys
 
 ROOT = pathlib.Path(__file__).resolve().parent.parent
-BREAKER, WIDE = ROOT / "crates" / "breaker", ROOT / "crates" / "wide"
+BREAKER, WIDE, ROOTS = (ROOT / "crates" / name for name in ("breaker", "wide", "roots"))
 HALF, WORD = 2**32, 2**64
 
 
@@ -30,7 +31,16 @@ FORMULAS = [
     "p = P / (256 · W)",
     "(2^32 - 1)² < 2^64",
     "a · b = ll + hl · 2^32 + lh · 2^32 + hh · 2^64",
+    "X = s / (Tr · sqrt(2 · b · p / 3) + t_RTO · (3 · sqrt(3 · b · p / 8) · p · (1 + 32 · p · p)))",
+    "n = floor(1024 · p) = floor(4 · P / W)",
+    "A² · 3072 ≤ 2^40 · 2 · n < (A + 1)² · 3072",
+    "B² · 8192 ≤ 2^40 · 3 · n < (B + 1)² · 8192",
+    "rate · Tr · (A · 2^30 + 12 · B · n · (2^20 + 32 · n²)) > 10,000 · s · 2^50",
+    "rate² · Tr² · (2 · p / 3) · (1 + 9 · p · (1 + 32 · p²))² > (10,000 · s)²",
 ]
+# What is given of the full equation's examples: P, W, s, Tr
+ROUNDED = {"the roots": (640000, 10000, 30000, 1), "p": (1000, 10000, 1000, 100)}
+FULL = (640000, 10000, 1000, 100)
 
 
 def fail(where, message):
@@ -109,7 +119,79 @@ def expected(limits):
         "The two products": factors,
         "The half-products": {"ll": [0, 1], "hl": [1, HALF], "lh": [1, HALF], "hh": [2, WORD]},
     }
-    return chapters | {chapter: example_rows(names, scale) for chapter, names in CHAPTERS.items()}
+    return chapters | {chapter: example_rows(names, scale) for chapter, names in CHAPTERS.items()} | full_rows(limits)
+
+
+# ---- the full equation
+
+
+def scaled_root(top, bottom):
+    """2^20 · sqrt(top / bottom), rounded down."""
+    return math.isqrt(2**40 * top // bottom)
+
+
+def bracket(n):
+    """The two roots, and the parts of the bracket with their sum."""
+    a, b = scaled_root(2 * n, 3072), scaled_root(3 * n, 8192)
+    parts = {"A · 2^30": a * 2**30, "12 · B · n": 12 * b * n, "2^20 + 32 · n²": 2**20 + 32 * n**2}
+    return a, b, parts | {"the bracket": a * 2**30 + 12 * b * n * (2**20 + 32 * n**2)}
+
+
+def full_sides(rate, p, w, size, rtt):
+    return rate * rtt * bracket(4 * p // w)[2]["the bracket"], 10000 * size * 2**50
+
+
+def exact_sides(rate, p, w, size, rtt):
+    """The one square at p / (256 · w), both sides times 3 · (256 · w)^7."""
+    d = 256 * w
+    return rate**2 * rtt**2 * 2 * p * (d**3 + 9 * p * (d**2 + 32 * p**2)) ** 2, (10000 * size) ** 2 * 3 * d**7
+
+
+def first_rate(sides, given):
+    """The first rate at which the left side is above the right one, or nothing."""
+    low, high = 0, 2**40
+    while high - low > 1:
+        middle = (low + high) // 2
+        left, right = sides(middle, *given)
+        low, high = (low, middle) if left > right else (middle, high)
+    return [high] if high < 2**40 else []
+
+
+def full_example():
+    """n, the roots, the parts of the bracket, and the first rate at which the test triggers."""
+    n = 4 * FULL[0] // FULL[1]
+    return n, *bracket(n), *first_rate(full_sides, FULL)
+
+
+def full_rows(limits):
+    """The numbers of the chapters on the full equation."""
+    most = 4 * limits["MAX_FRACTION"]
+    factors = {
+        "rate · Tr": limits["MAX_RATE"] * limits["MAX_RTT"],
+        f"the bracket, n = {most:,}": bracket(most)[2]["the bracket"],
+        "10,000 · s": 10000 * limits["MAX_SIZE"],
+        "2^50": 2**50,
+    }
+    rounded = {
+        name: [given[0], given[1], 4 * given[0] // given[1], *given[2:], *first_rate(exact_sides, given), *first_rate(full_sides, given)]
+        for name, given in ROUNDED.items()
+    }
+    n, a, b, parts, rate = full_example()
+    rules = {
+        name: [r**2 * bottom, 2**40 * top * n, (r + 1) ** 2 * bottom] for name, r, top, bottom in (("A", a, 2, 3072), ("B", b, 3, 8192))
+    }
+    values = parts | {f"left, rate {each:,}": full_sides(each, *FULL)[0] for each in (rate - 1, rate)} | {"right": full_sides(0, *FULL)[1]}
+    return {
+        "The full equation": {name: [value, value.bit_length()] for name, value in factors.items()},
+        "Where the full equation's test triggers": rounded,
+        "C10 with the full equation": rules | {name: [value] for name, value in values.items()},
+    }
+
+
+def full_numbers(limits):
+    """The numbers of the full equation that stand in the text alone."""
+    _, a, b, _, rate = full_example()
+    return {a, b, rate - 1, rate, 4 * limits["MAX_FRACTION"]}
 
 
 # ---- what is printed
@@ -163,7 +245,7 @@ def check_text(text, chapters, limits):
     verdicts = re.findall(r"`left\.above\(right\)` is `(\w+)`", text)
     if verdicts != [str(above(g, limits["SCALE"])).lower() for g in EXAMPLES.values()]:
         fail("docs/BREAKER.md", f"the verdicts of {', '.join(EXAMPLES)} are not {', '.join(verdicts)}")
-    known = {n for rows in chapters.values() for row in rows.values() for n in row} | set(limits.values())
+    known = {n for rows in chapters.values() for row in rows.values() for n in row} | set(limits.values()) | full_numbers(limits)
     for found in re.findall(r"\d{1,3}(?:,\d{3})+", text):
         if number(found) not in known:
             fail("docs/BREAKER.md", f"{found} is none of the numbers of the tables and limits")
@@ -171,12 +253,12 @@ def check_text(text, chapters, limits):
 
 def check_names(lines):
     """Each name and file is there, and in a table with files each line of code stands in its file."""
-    code = " ".join(read(path) for crate in (BREAKER, WIDE) for path in crate.rglob("*") if path.suffix in (".rt", ".antt"))
+    code = " ".join(read(path) for crate in (BREAKER, WIDE, ROOTS) for path in crate.rglob("*") if path.suffix in (".rt", ".antt"))
     words = set(re.findall(r"\w+", code))
     count = 0
     for at, line in enumerate(lines, 1):
         for text in re.findall(r"`([^`]+)`", line):
-            there = (ROOT / text).is_file() if re.fullmatch(r"[\w/.]+/[\w.]+", text) else words.issuperset(re.findall(r"[A-Za-z]\w*", text))
+            there = (ROOT / text).is_file() if re.fullmatch(r"[\w/.]+/[\w.]+", text) else words.issuperset(re.findall(r"\b[A-Za-z]\w*", text))
             if not there:
                 fail(f"docs/BREAKER.md, line {at}", f"{text} is not in the code")
             count += 1
@@ -210,15 +292,31 @@ def check_proved(scale):
     return len(rows)
 
 
+def check_full():
+    """The facts of the full equation's examples are among those that the prover computes."""
+    n, a, b, parts, rate = full_example()
+    facts = [f"roundTripRoot {n} ≡ {a}", f"timeoutRoot {n} ≡ {b}", f"scaledDenominator {n} ≡ {parts['the bracket']}"]
+    verdicts = [("fullCondition", rate - 1, FULL, "false"), ("fullCondition", rate, FULL, "true")]
+    for given in ROUNDED.values():
+        (rate,) = first_rate(exact_sides, given)
+        verdicts += [("exactCondition", rate, given, "true"), ("fullCondition", rate, given, "false")]
+    facts += [f"{name} {rate} {rtt} {p} {size} {w} ≡ {verdict}" for name, rate, (p, w, size, rtt), verdict in verdicts]
+    for fact in facts:
+        if f"({fact})" not in read(ROOTS / "specs" / "Theorems.antt"):
+            fail("crates/roots/specs/Theorems.antt", f"{fact} is not there")
+    return len(facts)
+
+
 def main():
     text = read(ROOT / "docs" / "BREAKER.md")
     limits = constants()
     chapters = expected(limits)
     proved = check_proved(limits["SCALE"])
+    facts = check_full()
     numbers = check_rows(text.splitlines(), chapters)
     check_text(text, chapters, limits)
     names = check_names(text.splitlines())
-    print(f"page: {numbers} numbers and {names} names of docs/BREAKER.md are right, and its {proved} examples are those that wide proves")
+    print(f"page: {numbers} numbers and {names} names of docs/BREAKER.md are right; wide proves its {proved} examples, roots {facts} facts of the full equation")
 
 
 main()

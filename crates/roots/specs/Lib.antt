@@ -1,0 +1,6 @@
+pub mod Fractions
+pub mod FullThroughput
+pub mod Roots
+pub mod FullCondition
+pub mod Private
+pub mod Theorems
