@@ -1,4 +1,5 @@
-//! The other program: document 01's table in straightforward Rust, with the same checks and the same output as ecntable.
+//! The other program: document 01's table with document 02's restarts (L5) in straightforward Rust, with the same checks and the same output as
+//! ecntable.
 use std::io::{self, BufReader, BufWriter, Read, Write};
 
 const BLOCK: usize = 512;
@@ -12,7 +13,10 @@ struct Source {
     marks: [u64; 4],
     arrivals: u64,
     duplicates: u64,
+    /// The wire number that would follow the last jump.
+    remembered: Option<u16>,
     jumped: u64,
+    restarts: u64,
 }
 
 /// Which of the last 100 numbers have arrived: number n at n modulo 100.
@@ -32,6 +36,18 @@ impl Ring {
 }
 
 impl Source {
+    /// A jump: two in a row to the same place begin again with the second.
+    fn jump(&mut self, ring: &mut Ring, wire: u16, mark: u8) {
+        if self.remembered != Some(wire) {
+            self.remembered = Some(wire.wrapping_add(1));
+            self.jumped = (self.jumped + 1).min(MOST);
+            return;
+        }
+        *ring = Ring([false; 100]);
+        *self = Source { jumped: self.jumped, restarts: (self.restarts + 1).min(MOST), ..Source::default() };
+        self.arrive(ring, wire, mark);
+    }
+
     fn arrive(&mut self, ring: &mut Ring, wire: u16, mark: u8) {
         if self.arrivals == MOST {
             return;
@@ -51,12 +67,10 @@ impl Source {
                     self.duplicates += u64::from(*place);
                     *place = true;
                 }
-                _ => {
-                    self.jumped = (self.jumped + 1).min(MOST);
-                    return;
-                }
+                _ => return self.jump(ring, wire, mark),
             }
         }
+        self.remembered = None;
         self.arrivals += 1;
         self.marks[usize::from(mark)] += 1;
     }
@@ -124,14 +138,14 @@ fn quoted(label: &[u8]) -> String {
 fn write_row(out: &mut impl Write, label: &str, ssrc: u32, s: &Source) -> io::Result<()> {
     let [notect, ect1, ect0, ce] = s.marks;
     let (highest, lost) = (s.highest, s.lost());
-    write!(out, "{label},{ssrc},{highest},{ect0},{ect1},{ce},{notect},{lost},{},{}\r\n", s.duplicates, s.jumped)
+    write!(out, "{label},{ssrc},{highest},{ect0},{ect1},{ce},{notect},{lost},{},{},{}\r\n", s.duplicates, s.jumped, s.restarts)
 }
 
 fn main() -> io::Result<()> {
     let mut input = BufReader::with_capacity(BUFFER, io::stdin().lock());
     let mut out = BufWriter::with_capacity(BUFFER, io::stdout().lock());
     let (mut b, mut source, mut ring) = ([0; BLOCK], Source::default(), Ring([false; 100]));
-    write!(out, "label,ssrc,highest,ect0,ect1,ce,notect,lost,dup,jumped\r\n")?;
+    write!(out, "label,ssrc,highest,ect0,ect1,ce,notect,lost,dup,jumped,restarts\r\n")?;
     let size = next_block(&mut input, &mut b)?;
     let (length, ssrc) = match read(&b[..size], 1) {
         Ok(found) => found,

@@ -30,12 +30,13 @@ extern "C" {
         source: *const u64,
         words: usize,
         jumped: u64,
+        restarts: u64,
         out: *mut u8,
         room: usize,
     ) -> i64;
 }
 
-pub type Source = [u64; 9];
+pub type Source = [u64; 10];
 
 pub fn arrive(source: &mut Source, wire: u16, mark: u8) -> u8 {
     unsafe { flasknib_arrive(source.as_mut_ptr(), source.len(), wire, mark) }
@@ -61,7 +62,7 @@ pub fn breaker_report(breaker: &mut [u64; 75], r: &crate::breaker::Report) -> u1
     unsafe { flasknib_breaker_report(at, words, r.time, r.highest, r.fraction, r.rtt, r.size, r.rate) }
 }
 
-pub fn write_row(label: &[u8], ssrc: u32, source: &Source, jumped: u64, out: &mut [u8]) -> i64 {
+pub fn write_row(label: &[u8], ssrc: u32, source: &Source, jumped: u64, restarts: u64, out: &mut [u8]) -> i64 {
     let (words, at) = (source.len(), source.as_ptr());
-    unsafe { flasknib_write_row(label.as_ptr(), label.len(), ssrc, at, words, jumped, out.as_mut_ptr(), out.len()) }
+    unsafe { flasknib_write_row(label.as_ptr(), label.len(), ssrc, at, words, jumped, restarts, out.as_mut_ptr(), out.len()) }
 }

@@ -82,10 +82,24 @@ pub struct Counter<R> {
     marks: [u64; 4],
     arrivals: u64,
     duplicates: u64,
+    /// The wire number that would follow the last jump.
+    remembered: Option<u16>,
 }
 
 impl<R: Ring> Counter<R> {
-    /// 0, or refusal 10, 8 or 7.
+    /// A jump: 7, or 128 where it has the number that the last jump left, and the counter begins again with it.
+    #[cold]
+    fn jump(&mut self, wire: u16, mark: u8) -> u8 {
+        if self.remembered != Some(wire) {
+            self.remembered = Some(wire.wrapping_add(1));
+            return 7;
+        }
+        *self = Counter::default();
+        self.arrive(wire, mark);
+        128
+    }
+
+    /// 0, 128 for a restart, or refusal 10, 8 or 7.
     #[inline(always)]
     pub fn arrive(&mut self, wire: u16, mark: u8) -> u8 {
         if mark > 3 {
@@ -106,31 +120,35 @@ impl<R: Ring> Counter<R> {
                     self.highest += i64::from(d);
                 }
                 0 | 65_437..=65_535 => self.duplicates += u64::from(self.ring.mark(usize::from(d.wrapping_neg()))),
-                _ => return 7,
+                _ => return self.jump(wire, mark),
             }
         }
+        self.remembered = None;
         self.arrivals += 1;
         self.marks[usize::from(mark)] += 1;
         0
     }
 
-    /// Counts a block's records and gives the jumps, or minus 10.
+    /// Counts a block's records and gives the jumps and 256 times the restarts, or minus 10.
     #[inline(always)]
     pub fn count_block(&mut self, records: &[u8]) -> i64 {
         let n = records.len() / 8;
         if records.len() % 8 != 0 || !(1..=62).contains(&n) || records.chunks_exact(8).any(|record| record[6] > 3) {
             return -10;
         }
-        let mut jumps = 0;
+        let (mut jumps, mut restarts) = (0, 0);
         for record in records.chunks_exact(8) {
-            jumps += i64::from(self.arrive(u16::from_be_bytes([record[4], record[5]]), record[6]) == 7);
+            let answer = self.arrive(u16::from_be_bytes([record[4], record[5]]), record[6]);
+            jumps += i64::from(answer == 7);
+            restarts += i64::from(answer == 128);
         }
-        jumps
+        256 * restarts + jumps
     }
 
-    /// Base, highest, the four marks and the duplicates.
-    pub fn words(&self) -> [u64; 7] {
+    /// Base, highest, the four marks, the duplicates and the remembered number plus 1.
+    pub fn words(&self) -> [u64; 8] {
         let [notect, ect1, ect0, ce] = self.marks;
-        [self.base as u64, self.highest as u64, notect, ect1, ect0, ce, self.duplicates]
+        let remembered = self.remembered.map_or(0, |wire| u64::from(wire) + 1);
+        [self.base as u64, self.highest as u64, notect, ect1, ect0, ce, self.duplicates, remembered]
     }
 }

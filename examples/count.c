@@ -1,4 +1,4 @@
-/* Counts the arrivals of one source and prints its counters, its two ECN reports and its table.
+/* Counts the arrivals of one source and prints its counters, its two ECN reports and its table, before and after its sender reboots.
  * Build: cc -Iinclude examples/count.c target/staticlib/libcapi.a -o count
  */
 #include <inttypes.h>
@@ -9,6 +9,7 @@
 
 static const uint16_t wires[] = {65534, 65535, 0, 0, 3};
 static const uint8_t marks[] = {2, 2, 3, 3, 1};
+static const uint8_t rebooted[] = {0x75, 0x30, 2, 0, 0x75, 0x31, 2, 0, 0x75, 0x32, 3, 0}; /* 30000, 30001, 30002, in records of 4 bytes */
 static const char label[] = "probe 2, left";
 static const uint32_t media = 1, sender = 9;
 
@@ -31,23 +32,25 @@ static void print_text(const uint8_t *bytes, int64_t answer)
         fwrite(bytes, 1, (size_t)answer, stdout);
 }
 
-static int64_t write_row(const uint64_t *source, uint64_t jumped, uint8_t *out, size_t room)
+static int64_t write_row(const uint64_t *source, uint64_t jumped, uint64_t restarts, uint8_t *out, size_t room)
 {
-    return flasknib_write_row((const uint8_t *)label, sizeof label - 1, media, source, FLASKNIB_SOURCE_WORDS, jumped, out, room);
+    return flasknib_write_row((const uint8_t *)label, sizeof label - 1, media, source, FLASKNIB_SOURCE_WORDS, jumped, restarts, out, room);
 }
 
 int main(void)
 {
     uint64_t source[FLASKNIB_SOURCE_WORDS] = {0}; /* fresh */
-    uint64_t jumped = 0;
+    uint64_t jumped = 0, restarts = 0;
     uint8_t feedback[FLASKNIB_FEEDBACK_BYTES], summary[FLASKNIB_SUMMARY_BYTES], head[FLASKNIB_HEAD_BYTES];
 
     for (size_t i = 0; i < sizeof marks; i++) {
-        uint8_t refusal = flasknib_arrive(source, FLASKNIB_SOURCE_WORDS, wires[i], marks[i]);
-        if (refusal == FLASKNIB_JUMP)
+        uint8_t answer = flasknib_arrive(source, FLASKNIB_SOURCE_WORDS, wires[i], marks[i]);
+        if (answer == FLASKNIB_JUMP)
             jumped++;
-        else if (refusal != 0)
-            return refusal;
+        else if (answer == FLASKNIB_RESTARTED)
+            restarts++;
+        else if (answer != 0)
+            return answer;
     }
 
     printf("highest %" PRId64 "\n", (int64_t)source[1]);
@@ -62,7 +65,7 @@ int main(void)
 
     /* A row has no fixed length. Asked with a room of 0 (and a pointer that is not null), the writer refuses with 12 and says the size. */
     uint8_t none[1];
-    int64_t asked = write_row(source, jumped, none, 0);
+    int64_t asked = write_row(source, jumped, restarts, none, 0);
     print_words("row in 0 bytes", none, asked);
     if (FLASKNIB_WRITE_REFUSAL(asked) != FLASKNIB_ROOM)
         return FLASKNIB_WRITE_REFUSAL(asked);
@@ -73,7 +76,16 @@ int main(void)
     if (row == NULL)
         return EXIT_FAILURE;
     print_text(head, flasknib_write_head(head, sizeof head));
-    print_text(row, write_row(source, jumped, row, size));
+    print_text(row, write_row(source, jumped, restarts, row, size));
     free(row);
+
+    /* After a reboot the first packet jumps, and the second, which has the number behind it, is counted as the first of all. */
+    int64_t counted = flasknib_count_block(source, FLASKNIB_SOURCE_WORDS, rebooted, sizeof rebooted, 4);
+    if (counted < 0)
+        return (int)-counted;
+    jumped += FLASKNIB_BLOCK_JUMPS(counted);
+    restarts += FLASKNIB_BLOCK_RESTARTS(counted);
+    uint8_t next[FLASKNIB_ROW_MOST_BYTES];
+    print_text(next, write_row(source, jumped, restarts, next, sizeof next));
     return 0;
 }

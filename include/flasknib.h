@@ -2,8 +2,8 @@
  *
  * Every function returns on every input. Records are lent as arrays of 64-bit words in the layouts below; a signed number is stored as its
  * two's complement. A refusal is its number in document 01's table (1 to 14), and a refused call changes no word and no byte of what it
- * was lent. A record in another number of words than its layout has is refused with 9, as malformed. A function that writes bytes says with
- * refusal 12 how many it needs.
+ * was lent, with one exception: refusal 7 of flasknib_arrive changes the record's last word. A record in another number of words than its
+ * layout has is refused with 9, as malformed. A function that writes bytes says with refusal 12 how many it needs.
  */
 #ifndef FLASKNIB_H
 #define FLASKNIB_H
@@ -19,7 +19,7 @@ enum {
     FLASKNIB_PACKET_SIZE = 4,   /* a packet passes the end, or does not have its body's size */
     FLASKNIB_PADDING = 5,       /* the padding is wrong, or not in the last packet */
     FLASKNIB_BLOCK_SIZE = 6,    /* an XR block passes its packet */
-    FLASKNIB_JUMP = 7,          /* the sequence number jumps */
+    FLASKNIB_JUMP = 7,          /* the sequence number jumps; the record remembers the number that would follow it */
     FLASKNIB_FULL = 8,          /* 2^48 arrivals are counted */
     FLASKNIB_MALFORMED = 9,     /* a record is malformed */
     FLASKNIB_LIMITS = 10,       /* a number, a label, records or a compound's size outside the limits */
@@ -45,18 +45,33 @@ enum {
 #define FLASKNIB_WRITE_SIZE(answer) ((answer) < 0 ? (size_t)-((answer) / 256) : 0)
 
 /* ---- one RTP source --------------------------------------------------------------------------------------------------------------
- * 9 words: base (signed), highest (signed), not-ECT, ECT(1), ECT(0), CE, duplicates, places 0 to 63 of the history, places 64 to 99. Place k
- * stands for the number highest - k and is bit k, or bit k - 64 of the last word, counted from the lowest. The fresh record is all zero.
+ * 10 words: base (signed), highest (signed), not-ECT, ECT(1), ECT(0), CE, duplicates, places 0 to 63 of the history, places 64 to 99, the
+ * remembered number. Place k stands for the number highest - k; it is bit k of the first of its two words or bit k - 64 of the second, counted
+ * from the lowest. The remembered number is 0 for none, and otherwise a wire number plus 1; above 65,536 it is malformed (9), and so is any
+ * but 0 where nothing is counted. The fresh record is all zero.
+ *
+ * A sender that begins again with other numbers (RFC 3550, appendix A.1): a jump is refused, and the wire number that would follow it,
+ * modulo 65,536, is remembered in place of any before. A later arrival that is a jump too and has that number restarts the record: base,
+ * highest, history and all counters become those of a first arrival, this one, and no number is remembered. An arrival that is accepted
+ * forgets the remembered number; one that is refused with 9, 10 or 8 does not.
  */
-#define FLASKNIB_SOURCE_WORDS 9
+#define FLASKNIB_SOURCE_WORDS 10
 
-/* Counts one arrival. Gives 0 and the next record, or refusal 9, 10, 8 or 7. */
+/* What flasknib_arrive answers for a restart. It is no refusal: the arrival is counted. */
+enum { FLASKNIB_RESTARTED = 128 };
+
+/* Counts one arrival. Gives 0 or FLASKNIB_RESTARTED and the next record, or refusal 9, 10, 8 or 7. Refusal 7 stores the next record too: only
+ * the remembered number, word 9 counted from 0, differs. */
 uint8_t flasknib_arrive(uint64_t *source, size_t words, uint16_t wire, uint8_t mark);
 
 /* Counts the 1 to 62 records of one arrivals block in order, going on after a jump and when full; each record has `width` bytes, the last four
- * of them the wire number (2), the mark and a byte that is not judged here. Gives the number of jumps and the next record, or minus refusal
- * 9 or 10. */
+ * of them the wire number (2), the mark and a byte that is not judged here. Gives 256 * restarts + jumps and the next record, or minus refusal
+ * 9 or 10. The first packet of the pair that makes a restart is a jump, the second is counted as a restart alone. */
 int64_t flasknib_count_block(uint64_t *source, size_t words, const uint8_t *records, size_t length, size_t width);
+
+/* The jumps and the restarts in an answer of flasknib_count_block that is not negative: a uint64_t each. */
+#define FLASKNIB_BLOCK_JUMPS(answer) ((uint64_t)(answer) % 256)
+#define FLASKNIB_BLOCK_RESTARTS(answer) ((uint64_t)(answer) / 256)
 
 /* Writes the ECN feedback packet of RFC 6679, 32 bytes. Gives its length, or minus refusal 9, or 12 with its size. */
 #define FLASKNIB_FEEDBACK_BYTES 32
@@ -118,13 +133,14 @@ int64_t flasknib_write_label(const uint8_t *label, size_t length, uint32_t ssrc,
 int64_t flasknib_write_arrivals(const uint32_t *times, size_t n_times, const uint16_t *numbers, size_t n_numbers, const uint8_t *marks,
                                 size_t n_marks, uint32_t ssrc, uint8_t *out, size_t room);
 
-/* Writes the table's head line, 56 bytes. Gives its length, or minus refusal 12 with its size. */
-#define FLASKNIB_HEAD_BYTES 56
+/* Writes the table's head line, 65 bytes. Gives its length, or minus refusal 12 with its size. */
+#define FLASKNIB_HEAD_BYTES 65
 int64_t flasknib_write_head(uint8_t *out, size_t room);
 
-/* Writes a row of the table, at most 1,206 bytes. Gives its length, or minus refusal 9 or 10, or 12 with its size. */
-#define FLASKNIB_ROW_MOST_BYTES 1206
+/* Writes a row of the table, at most 1,228 bytes. `jumped` and `restarts` are at most 2^48 each, else refusal 10. Gives its length, or minus
+ * refusal 9 or 10, or 12 with its size. */
+#define FLASKNIB_ROW_MOST_BYTES 1228
 int64_t flasknib_write_row(const uint8_t *label, size_t length, uint32_t ssrc, const uint64_t *source, size_t words, uint64_t jumped,
-                           uint8_t *out, size_t room);
+                           uint64_t restarts, uint8_t *out, size_t room);
 
 #endif

@@ -1,6 +1,6 @@
 """table.py ECNTABLE FOLDER: Python's csv module reads the tables that ecntable writes back to the model's values.
 
-Each N.trace in the folder has its rows beside it in N.rows: the label in hexadecimal, then the nine numbers.
+Each N.trace in the folder has its rows beside it in N.rows: the label in hexadecimal, then the ten numbers.
 """
 import csv
 import io
@@ -8,7 +8,7 @@ import pathlib
 import subprocess
 import sys
 
-HEAD = ["label", "ssrc", "highest", "ect0", "ect1", "ce", "notect", "lost", "dup", "jumped"]
+HEAD = ["label", "ssrc", "highest", "ect0", "ect1", "ce", "notect", "lost", "dup", "jumped", "restarts"]
 
 
 def table(program, trace):

@@ -13,7 +13,7 @@ pub trait Calls {
     fn write_label(&self, label: &[u8], ssrc: u32, out: &mut [u8]) -> i64;
     fn write_arrivals(&self, times: &[u32], numbers: &[u16], marks: &[u8], ssrc: u32, out: &mut [u8]) -> i64;
     fn write_head(&self, out: &mut [u8]) -> i64;
-    fn write_row(&self, label: &[u8], ssrc: u32, source: &[u64], jumped: u64, out: &mut [u8]) -> i64;
+    fn write_row(&self, label: &[u8], ssrc: u32, source: &[u64], jumped: u64, restarts: u64, out: &mut [u8]) -> i64;
 }
 
 #[derive(Clone, Copy, Debug)]
@@ -24,15 +24,21 @@ pub struct Settings {
     pub reduce: u8,
 }
 
+/// What flasknib_arrive answers for a restart.
+pub const RESTARTED: u8 = 128;
+/// flasknib_count_block answers this times the restarts, plus the jumps.
+pub const RESTART: i64 = 256;
+
 pub const GO: u16 = 0;
 pub const REDUCE: u16 = 1;
 pub const STOP: u16 = 0x100;
 pub const REFUSED: u16 = 0x200;
 
-/// Every function with every answer it can give; a length or a number of jumps counts as 0, and a writer's 12 with any size as -12.
+/// Every function with every answer it can give; a length counts as 0, a writer's 12 with any size as -12, and of a block's jumps and restarts
+/// whether there are any.
 pub const FUNCTIONS: [(&str, &[i64]); 13] = [
-    ("flasknib_arrive", &[0, 7, 8, 9, 10]),
-    ("flasknib_count_block", &[0, -9, -10]),
+    ("flasknib_arrive", &[0, 7, 8, 9, 10, 128]),
+    ("flasknib_count_block", &[0, 1, 256, 257, -9, -10]),
     ("flasknib_write_feedback", &[0, -9, -12]),
     ("flasknib_write_summary", &[0, -9, -12]),
     ("flasknib_read_compound", &[0, 1, 2, 3, 4, 5, 6, 10, 12]),

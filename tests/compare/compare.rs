@@ -1,5 +1,5 @@
 //! One call of the library held to the model, and the count of calls and answers.
-use crate::calls::{Calls, FUNCTIONS};
+use crate::calls::{Calls, FUNCTIONS, RESTART};
 use crate::expected::Expected;
 use crate::library::Library;
 use std::cell::RefCell;
@@ -76,10 +76,12 @@ impl Compare {
     }
 }
 
-/// A length or a number of jumps counts as 0, and a writer's 12 with any size as -12.
+/// A length counts as 0, a writer's 12 with any size as -12, and of a block's jumps and restarts whether there are any.
 fn class(name: &str, answer: i64) -> i64 {
     let possible = FUNCTIONS.iter().find(|(function, _)| *function == name).expect("a function of the header").1;
-    if possible.iter().any(|&answer| answer < 0) {
+    if name == "flasknib_count_block" && answer >= 0 {
+        (answer / RESTART).min(1) * RESTART + (answer % RESTART).min(1)
+    } else if possible.iter().any(|&answer| answer < 0) {
         answer.min(0) % 256
     } else {
         answer

@@ -1,8 +1,8 @@
 //! The same calls answered by the model.
-use crate::calls::{Calls, Settings, GO, REDUCE, REFUSED, STOP};
+use crate::calls::{Calls, Settings, GO, REDUCE, REFUSED, RESTART, RESTARTED, STOP};
 use model::breaker::{Answer, Breaker, Report};
-use model::refusal::{put, require, Refusal, Written, LIMITS, ROOM};
-use model::source::{count_block, Source};
+use model::refusal::{put, require, Refusal, Written, JUMP, LIMITS, ROOM};
+use model::source::{count_block, Counted, Source};
 use model::trace::{arrivals_block, label_block, Contents, Record};
 use model::{compound, report, table, trace};
 
@@ -52,20 +52,28 @@ fn step(words: &mut [u64], call: impl Fn(&mut Breaker) -> Result<Answer, Refusal
 }
 
 impl Calls for Expected {
+    /// A jump is the one refusal that changes the record.
     fn arrive(&self, words: &mut [u64], wire: u16, mark: u8) -> u8 {
-        let next = Source::from_words(words).and_then(|mut source| {
-            source.arrive(wire, mark)?;
-            Ok(source.to_words())
+        let answer = Source::from_words(words).and_then(|mut source| {
+            let answer = source.arrive(wire, mark);
+            if answer.is_ok() || answer == Err(JUMP) {
+                words.copy_from_slice(&source.to_words());
+            }
+            answer
         });
-        put_words(next, words)
+        match answer {
+            Ok(Counted::Accepted) => 0,
+            Ok(Counted::Restarted) => RESTARTED,
+            Err(refusal) => refusal.number(),
+        }
     }
 
     fn count_block(&self, words: &mut [u64], records: &[u8], width: usize) -> i64 {
         match count_block(words, records, width) {
             Err(refusal) => minus(refusal),
-            Ok((source, jumps)) => {
+            Ok((source, jumps, restarts)) => {
                 words.copy_from_slice(&source.to_words());
-                jumps as i64
+                RESTART * restarts as i64 + jumps as i64
             }
         }
     }
@@ -126,8 +134,8 @@ impl Calls for Expected {
         length(put(Ok(table::HEAD), out))
     }
 
-    fn write_row(&self, label: &[u8], ssrc: u32, words: &[u64], jumped: u64, out: &mut [u8]) -> i64 {
-        let row = Source::from_words(words).and_then(|source| table::row(label, ssrc, &source, jumped));
+    fn write_row(&self, label: &[u8], ssrc: u32, words: &[u64], jumped: u64, restarts: u64, out: &mut [u8]) -> i64 {
+        let row = Source::from_words(words).and_then(|source| table::row(label, ssrc, &source, jumped, restarts));
         length(put(row, out))
     }
 }

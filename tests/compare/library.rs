@@ -17,8 +17,8 @@ extern "C" {
     fn flasknib_write_arrivals(times: *const u32, n_times: usize, numbers: *const u16, n_numbers: usize, marks: *const u8, n_marks: usize,
                                ssrc: u32, out: *mut u8, room: usize) -> i64;
     fn flasknib_write_head(out: *mut u8, room: usize) -> i64;
-    fn flasknib_write_row(label: *const u8, length: usize, ssrc: u32, source: *const u64, words: usize, jumped: u64, out: *mut u8,
-                          room: usize) -> i64;
+    fn flasknib_write_row(label: *const u8, length: usize, ssrc: u32, source: *const u64, words: usize, jumped: u64,
+                          restarts: u64, out: *mut u8, room: usize) -> i64;
 }
 
 pub struct Library;
@@ -78,8 +78,8 @@ impl Calls for Library {
         unsafe { flasknib_write_head(out.as_mut_ptr(), out.len()) }
     }
 
-    fn write_row(&self, label: &[u8], ssrc: u32, source: &[u64], jumped: u64, out: &mut [u8]) -> i64 {
+    fn write_row(&self, label: &[u8], ssrc: u32, source: &[u64], jumped: u64, restarts: u64, out: &mut [u8]) -> i64 {
         let (label_at, source_at, at) = (label.as_ptr(), source.as_ptr(), out.as_mut_ptr());
-        unsafe { flasknib_write_row(label_at, label.len(), ssrc, source_at, source.len(), jumped, at, out.len()) }
+        unsafe { flasknib_write_row(label_at, label.len(), ssrc, source_at, source.len(), jumped, restarts, at, out.len()) }
     }
 }

@@ -13,6 +13,7 @@ mod library;
 mod lists;
 mod reading;
 mod reports;
+mod restarts;
 mod rows;
 mod worked;
 
@@ -34,6 +35,7 @@ fn main() {
     let compare = &Compare::new(seed, only.as_deref());
     let draw = &Draw::seeded(seed);
     worked::examples(compare);
+    restarts::examples(compare);
     counting::calls(compare, draw);
     reports::calls(compare, draw);
     let mutations = reading::calls(compare, draw);

@@ -19,13 +19,15 @@ pub fn calls(compare: &Compare, draw: &Draw) {
 
 fn write_row(compare: &Compare, draw: &Draw) {
     let (label, words) = (blocks::any_label(draw), sources::any(draw));
-    let (ssrc, jumped) = (draw.u64() as u32, draw.astray(0, MOST_ARRIVALS));
-    let length = Source::from_words(&words).and_then(|source| row(&label, ssrc, &source, jumped)).map_or(80, |row| row.len());
+    let ssrc = draw.u64() as u32;
+    let (jumped, restarts) = (draw.astray(0, MOST_ARRIVALS), draw.astray(0, MOST_ARRIVALS));
+    let wanted = Source::from_words(&words).and_then(|source| row(&label, ssrc, &source, jumped, restarts));
+    let length = wanted.map_or(80, |row| row.len());
     for room in draw.rooms(length) {
         let out = vec![draw.u64() as u8; room];
         let lent = &mut (Lent::new(&label), Lent::new(&words), Lent::new(&out));
         compare.call("flasknib_write_row", lent, |calls, (label, source, out)| {
-            calls.write_row(label.part(), ssrc, source.part(), jumped, out.part_mut())
+            calls.write_row(label.part(), ssrc, source.part(), jumped, restarts, out.part_mut())
         });
     }
 }

@@ -1,4 +1,4 @@
-//! Lists of true numbers with their marks, and orders of them that keep to the limits.
+//! Lists of true numbers with their marks, and orders of them that keep to the limits; wire numbers of a sender that begins again.
 use crate::Draw;
 use model::truth::{keeps_to_the_limits, Arrival};
 
@@ -52,5 +52,39 @@ fn swap_near(draw: &Draw, list: &mut [Arrival]) {
     list.swap(one, another);
     if !keeps_to_the_limits(list) {
         list.swap(one, another);
+    }
+}
+
+/// At least `count` wire numbers behind `highest`: in order, and now and then jumps, alone and in pairs.
+pub fn wires(draw: &Draw, highest: u16, count: usize) -> Vec<u16> {
+    let (mut last, mut wires) = (highest, Vec::new());
+    let often = draw.of(&[1, 4, 30]);
+    while wires.len() < count {
+        if draw.one_in(often) {
+            wires.extend(jumps(draw, last));
+            last = *wires.last().unwrap();
+        } else {
+            last = last.wrapping_add(draw.within(1, 3) as u16);
+            wires.push(last);
+        }
+    }
+    wires
+}
+
+/// Jumps from `highest`, and whether they restart: a pair, over the wrap too, with a pair's first twice, with another jump or an accepted number
+/// between, or the second of the pair alone.
+fn jumps(draw: &Draw, highest: u16) -> Vec<u16> {
+    let far = highest.wrapping_add(draw.edge(3_000, 65_436) as u16);
+    let other = far.wrapping_add(draw.edge(2, 65_534) as u16);
+    let (next, near) = (far.wrapping_add(1), highest.wrapping_add(1));
+    match draw.below(10) {
+        0..=2 => vec![far, next],
+        3 => vec![65_535, 0],
+        4 => vec![far, other, other.wrapping_add(1)],
+        5 => vec![far, other, next],
+        6 => vec![far, near, next],
+        7 => vec![far, far, next],
+        8 => vec![far, next, next.wrapping_add(1), far, next],
+        _ => vec![draw.of(&[far, next, near])],
     }
 }

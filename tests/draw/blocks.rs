@@ -37,14 +37,21 @@ pub fn any_label(draw: &Draw) -> Vec<u8> {
 pub fn records(draw: &Draw) -> Vec<Record> {
     let mut wire = draw.u64() as u16;
     let ahead = draw.of(&[2, 40, 4_000]);
+    let wires = (0..draw.edge(1, 62)).map(|_| {
+        wire = wire.wrapping_add(draw.below(ahead) as u16).wrapping_sub(draw.below(3) as u16);
+        wire
+    });
+    with_times(draw, &wires.collect::<Vec<u16>>())
+}
+
+/// Records of these wire numbers.
+pub fn with_times(draw: &Draw, wires: &[u16]) -> Vec<Record> {
     let mut time = draw.u64() as u32;
-    (0..draw.edge(1, 62))
-        .map(|_| {
-            wire = wire.wrapping_add(draw.below(ahead) as u16).wrapping_sub(draw.below(3) as u16);
-            time = time.wrapping_add(draw.below(30) as u32);
-            Record { time, wire, mark: draw.below(4) as u8 }
-        })
-        .collect()
+    let record = |&wire| {
+        time = time.wrapping_add(draw.below(30) as u32);
+        Record { time, wire, mark: draw.below(4) as u8 }
+    };
+    wires.iter().map(record).collect()
 }
 
 pub fn sound(draw: &Draw) -> Vec<u8> {

@@ -3,12 +3,20 @@ use crate::{arrivals, Draw};
 use model::source::{Source, MOST_ARRIVALS, WORDS};
 use model::truth::counted;
 
+/// A record that may remember a number: any, one at an end, or one near the highest.
 pub fn sound(draw: &Draw) -> Vec<u64> {
-    match draw.below(10) {
-        0 => vec![0; WORDS],
-        1..=5 => counted(&arrivals::list(draw)).to_words().to_vec(),
-        _ => at_the_limits(draw).to_vec(),
-    }
+    let mut words = match draw.below(10) {
+        0 => return vec![0; WORDS],
+        1..=5 => counted(&arrivals::list(draw)).to_words(),
+        _ => at_the_limits(draw),
+    };
+    words[9] = match draw.below(6) {
+        0 => draw.edge(1, 65_536),
+        1 => 1 + u64::from(draw.u64() as u16),
+        2 => 1 + u64::from((words[1] as u16).wrapping_add(draw.below(7) as u16).wrapping_sub(3)),
+        _ => 0,
+    };
+    words.to_vec()
 }
 
 /// Any record: now and then damaged, or of another number of words.
@@ -17,7 +25,7 @@ pub fn any(draw: &Draw) -> Vec<u64> {
     match draw.below(8) {
         0 => damage(draw, &mut words),
         1 => pass_a_limit(draw, &mut words),
-        2 if draw.one_in(4) => words.resize(draw.index(12), 0),
+        2 if draw.one_in(4) => words.resize(draw.index(13), 0),
         _ => {}
     }
     words
@@ -60,7 +68,7 @@ fn damage(draw: &Draw, words: &mut [u64]) {
         1 => words[place].wrapping_sub(1),
         2 => words[place] ^ 1 << draw.below(64),
         3 => 0,
-        4 => draw.of(&[65_535, 65_536, 1 << 48, (1 << 48) + 1, 1 << 62, 1 << 63, u64::MAX]),
+        4 => draw.of(&[1, 65_535, 65_536, 65_537, 1 << 48, (1 << 48) + 1, 1 << 62, 1 << 63, u64::MAX]),
         _ => draw.any_size(),
     };
 }
@@ -71,7 +79,7 @@ fn pass_a_limit(draw: &Draw, words: &mut [u64]) {
     let arrivals = source.arrivals();
     let distinct = arrivals - source.duplicates;
     let more = draw.below(2);
-    match draw.below(8) {
+    match draw.below(9) {
         0 => words[0] = 65_535 + more,
         1 => words[1] = words[0].wrapping_sub(more),
         2 => words[2] += MOST_ARRIVALS - arrivals + more,
@@ -79,6 +87,7 @@ fn pass_a_limit(draw: &Draw, words: &mut [u64]) {
         4 => words[7] ^= more,
         5 => words[8] ^= 1 << (35 + more),
         6 => words[1] = words[0] + 2_999 * distinct.saturating_sub(1) + more,
+        7 => words[9] = 65_536 + more,
         _ => {
             // The marks' sum comes out right if it is taken modulo 2^64.
             words[2] = words[2].wrapping_add(1 << 63);

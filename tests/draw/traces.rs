@@ -1,12 +1,22 @@
 //! Whole traces, sound and damaged.
-use crate::{blocks, Draw};
+use crate::{arrivals, blocks, Draw};
 use model::trace::{arrivals_block, label_block, set_check, BLOCK};
 
+/// The blocks have numbers of their own, or those of one sender, which jumps and begins again within them and over their ends.
 pub fn sound(draw: &Draw, most_blocks: u64) -> Vec<u8> {
     let ssrc = draw.u64() as u32;
     let mut trace = label_block(&blocks::label(draw), ssrc).unwrap();
-    for _ in 0..draw.below(most_blocks + 1) {
-        trace.extend(arrivals_block(&blocks::records(draw), ssrc).unwrap());
+    let count = draw.below(most_blocks + 1);
+    if draw.one_in(2) {
+        (0..count).for_each(|_| trace.extend(arrivals_block(&blocks::records(draw), ssrc).unwrap()));
+        return trace;
+    }
+    let wires = arrivals::wires(draw, draw.u64() as u16, 62 * count as usize);
+    let mut rest = &wires[..];
+    for _ in 0..count {
+        let (block, behind) = rest.split_at(draw.edge(1, 62) as usize);
+        trace.extend(arrivals_block(&blocks::with_times(draw, block), ssrc).unwrap());
+        rest = behind;
     }
     trace
 }

@@ -1,6 +1,6 @@
 //! Document 01, "Table": the whole run of ecntable over a trace.
 use crate::refusal::*;
-use crate::source::{Source, MOST_ARRIVALS};
+use crate::source::{Counted, Source, MOST_ARRIVALS};
 use crate::table::{row, HEAD};
 use crate::trace::{read, Contents, BLOCK};
 
@@ -10,6 +10,7 @@ pub struct Run {
     pub label: Option<(u32, Vec<u8>)>,
     pub source: Source,
     pub jumped: u64,
+    pub restarts: u64,
 }
 
 impl Run {
@@ -23,8 +24,10 @@ impl Run {
             }
             (Some((first, _)), Contents::Arrivals(records)) if *first == ssrc => {
                 for record in records {
-                    if self.source.arrive(record.wire, record.mark) == Err(JUMP) {
-                        self.jumped = MOST_ARRIVALS.min(self.jumped + 1);
+                    match self.source.arrive(record.wire, record.mark) {
+                        Err(JUMP) => self.jumped = MOST_ARRIVALS.min(self.jumped + 1),
+                        Ok(Counted::Restarted) => self.restarts = MOST_ARRIVALS.min(self.restarts + 1),
+                        _ => {}
                     }
                 }
                 Ok(true)
@@ -35,7 +38,7 @@ impl Run {
 
     pub fn row(&self) -> Vec<u8> {
         let (ssrc, label) = self.label.as_ref().unwrap();
-        row(label, *ssrc, &self.source, self.jumped).unwrap()
+        row(label, *ssrc, &self.source, self.jumped, self.restarts).unwrap()
     }
 }
 

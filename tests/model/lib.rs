@@ -1,4 +1,5 @@
-//! Document 01 in its simplest form, written from the document and the RFCs alone. The tests hold the library and the program to it.
+//! Document 01 with document 02's L3 and L5 in its simplest form, written from the documents and the RFCs alone. The tests hold the library
+//! and the program to it.
 pub mod breaker;
 pub mod bytes;
 pub mod compound;

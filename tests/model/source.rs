@@ -1,8 +1,8 @@
-//! Document 01, "Counting arrivals": the record of one RTP source, judged and stepped. The history is a set of numbers.
+//! Document 01, "Counting arrivals", and document 02, L5: the record of one RTP source, judged and stepped. The history is a set of numbers.
 use crate::refusal::*;
 use std::collections::BTreeSet;
 
-pub const WORDS: usize = 9;
+pub const WORDS: usize = 10;
 pub const MOST_ARRIVALS: u64 = 1 << 48;
 /// RFC 3550, appendix A.1: MAX_DROPOUT less one, and MAX_MISORDER.
 pub const MOST_AHEAD: i64 = 2_999;
@@ -22,6 +22,15 @@ pub struct Source {
     pub duplicates: u64,
     /// Those of the numbers from highest - 99 to highest that have arrived.
     pub history: BTreeSet<i64>,
+    /// The wire number that is expected behind the last jump.
+    pub remembered: Option<u16>,
+}
+
+/// What an arrival does that is not refused.
+#[derive(Clone, Copy, Debug, PartialEq)]
+pub enum Counted {
+    Accepted,
+    Restarted,
 }
 
 impl Source {
@@ -38,12 +47,14 @@ impl Source {
             marks: [words[2], words[3], words[4], words[5]],
             duplicates: words[6],
             history: (0..PLACES).filter(|&place| marked(words, place)).map(|place| highest - place).collect(),
+            remembered: words[9].checked_sub(1).map(|number| number as u16),
         })
     }
 
     pub fn to_words(&self) -> [u64; WORDS] {
         let [not_ect, ect1, ect0, ce] = self.marks;
-        let mut words = [self.base as u64, self.highest as u64, not_ect, ect1, ect0, ce, self.duplicates, 0, 0];
+        let remembered = self.remembered.map_or(0, |number| u64::from(number) + 1);
+        let mut words = [self.base as u64, self.highest as u64, not_ect, ect1, ect0, ce, self.duplicates, 0, 0, remembered];
         for number in &self.history {
             let place = self.highest - number;
             words[7 + place as usize / 64] |= 1 << (place % 64);
@@ -62,11 +73,14 @@ impl Source {
         self.highest - self.base + 1 - (self.arrivals() - self.duplicates) as i64
     }
 
-    /// The record is sound: `from_words` gave it. What is left of the order 9, 10, 8, 7.
-    pub fn arrive(&mut self, wire: u16, mark: u8) -> Result<(), Refusal> {
+    /// The record is sound: `from_words` gave it. What is left of the order 9, 10, 8, 7; of the refusals 7 alone changes the record.
+    pub fn arrive(&mut self, wire: u16, mark: u8) -> Result<Counted, Refusal> {
         require(mark <= 3, LIMITS)?;
         require(self.arrivals() < MOST_ARRIVALS, FULL)?;
-        let number = self.extended(wire).ok_or(JUMP)?;
+        let Some(number) = self.extended(wire) else {
+            return self.jump(wire, mark);
+        };
+        self.remembered = None;
         if self.arrivals() == 0 {
             self.base = number;
             self.highest = number;
@@ -78,7 +92,18 @@ impl Source {
         let oldest = self.highest - (PLACES - 1);
         self.history.retain(|&arrived| arrived >= oldest);
         self.marks[usize::from(mark)] += 1;
-        Ok(())
+        Ok(Counted::Accepted)
+    }
+
+    /// RFC 3550, appendix A.1: two packets in a row that jump to the same place begin again, the second as a first arrival.
+    fn jump(&mut self, wire: u16, mark: u8) -> Result<Counted, Refusal> {
+        if self.remembered == Some(wire) {
+            *self = Source::default();
+            self.arrive(wire, mark)?;
+            return Ok(Counted::Restarted);
+        }
+        self.remembered = Some(((u32::from(wire) + 1) % 65_536) as u16);
+        Err(JUMP)
     }
 
     /// The only number within the limits that has this wire number, if there is one.
@@ -115,16 +140,18 @@ fn sound(words: &[u64; WORDS]) -> bool {
         && words[8] < 1 << 36
         && places <= distinct
         && highest - base <= i128::from(MOST_AHEAD) * (distinct - 1)
+        && words[9] <= 65_536
 }
 
-/// The records of one arrivals block counted in order; gives the number of jumps. The wire number and the mark are in the last four
-/// bytes of each record.
-pub fn count_block(words: &[u64], records: &[u8], width: usize) -> Result<(Source, u64), Refusal> {
+/// The records of one arrivals block counted in order; gives the numbers of jumps and restarts. The wire number and the mark are in the last
+/// four bytes of each record.
+pub fn count_block(words: &[u64], records: &[u8], width: usize) -> Result<(Source, u64, u64), Refusal> {
     let mut source = Source::from_words(words)?;
     require(width >= 4 && records.len() % width == 0 && (1..=62).contains(&(records.len() / width)), LIMITS)?;
     let arrivals: Vec<(u16, u8)> =
         records.chunks(width).map(|record| &record[width - 4..]).map(|last| (u16::from_be_bytes([last[0], last[1]]), last[2])).collect();
     require(arrivals.iter().all(|&(_, mark)| mark <= 3), LIMITS)?;
-    let jumps = arrivals.iter().filter(|&&(wire, mark)| source.arrive(wire, mark) == Err(JUMP)).count();
-    Ok((source, jumps as u64))
+    let answers: Vec<_> = arrivals.iter().map(|&(wire, mark)| source.arrive(wire, mark)).collect();
+    let count = |wanted| answers.iter().filter(|&&answer| answer == wanted).count() as u64;
+    Ok((source, count(Err(JUMP)), count(Ok(Counted::Restarted))))
 }

@@ -23,6 +23,7 @@ pub fn counted(list: &[Arrival]) -> Source {
         marks: [with(0), with(1), with(2), with(3)],
         duplicates: (list.len() - numbers.len()) as u64,
         history: numbers.range(highest - (PLACES - 1)..).copied().collect(),
+        remembered: None,
     }
 }
 

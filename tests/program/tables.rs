@@ -20,7 +20,7 @@ fn rows(trace: &[u8]) -> String {
         if run.block(block) == Ok(true) {
             let (ssrc, label) = run.label.as_ref().unwrap();
             let hexadecimal: String = label.iter().map(|byte| format!("{byte:02x}")).collect();
-            let numbers = numbers(*ssrc, &run.source, run.jumped).map(|number| number.to_string()).join(",");
+            let numbers = numbers(*ssrc, &run.source, run.jumped, run.restarts).map(|number| number.to_string()).join(",");
             lines += &format!("{hexadecimal},{numbers}\n");
         }
     }

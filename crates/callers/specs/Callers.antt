@@ -1,4 +1,4 @@
--- Demand 3 for a caller from C (include/flasknib.h, "one RTP source"): calls of flasknib_arrive on nine words that were zero at first, each on
+-- Demand 3 for a caller from C (include/flasknib.h, "one RTP source"): calls of flasknib_arrive on ten words that were zero at first, each on
 -- the words that the call before left.
 use mathlib.Core.Path.{_≡_}
 use mathlib.Core.Bool.{cond}
@@ -20,9 +20,9 @@ abbrev pub answerTo : TruePacket → ℕ
 answerTo p = cond (leb (p .mark) 3) 0 10
 
 pub record Chain (ps : List TruePacket) : Type 0 where
-  pub answers : arriveCodes (replicate 9 0) (map passed ps) ≡ map answerTo ps
+  pub answers : arriveCodes (replicate 10 0) (map passed ps) ≡ map answerTo ps
   -- the words at the end are the words of the count
-  pub words : arriveChain (replicate 9 0) (map passed ps) ≡ sourceWords (count (arrivals ps))
+  pub words : arriveChain (replicate 10 0) (map passed ps) ≡ sourceWords (count (arrivals ps))
 
 abbrev pub ChainHoldsCount : Type 0
 ChainHoldsCount = (ps : List TruePacket) → Described ps → Chain ps

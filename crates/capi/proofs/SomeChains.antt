@@ -6,14 +6,14 @@ use Rattle.numbers.specs.Since.{since, signed}
 use Rattle.source.specs.Places.{pack, place, marks, places, moved, added}
 use Rattle.source.specs.Record as source
 use Rattle.source.specs.Distances.{reachOf}
-use Rattle.source.specs.Arrivals.{counted, first, ahead, behind, distance, arrival}
+use Rattle.source.specs.Arrivals.{counted, first, ahead, behind, distance, remembering, jumped, arrival}
 use Rattle.breaker.specs.Limits.{settingsOk, reportOk}
 use Rattle.breaker.specs.Windows.{emptyWindow}
 use Rattle.breaker.specs.Soundness.{sound}
 use Rattle.breaker.specs.Rules.{runAfter, windowAfter, holds, ruled}
 use Rattle.breaker.specs.Calls.{preset, startOf, reportOf, tickOf}
 use Rattle.breaker.specs.Runs.{called, after}
-use Rattle.lent.specs.SourceWords.{sourceOf, sourceWords}
+use Rattle.lent.specs.SourceWords.{sourceWith, sourceWords}
 use Rattle.lent.specs.BreakerWords.{intervalWords, breakerWords, intervalsOf, settingsOf, windowOf, breakerOf, wordsFit}
 use Rattle.capi.specs.Sources.{arriveAnswer, arriveWords}
 use Rattle.capi.specs.BreakerCalls.{callAnswer, callLeft}
@@ -22,8 +22,8 @@ use Rattle.capi.proofs.SourceChains.{arrives-in-turn, arrives-from-zero
 use Rattle.capi.proofs.BreakerChains.{unchanged-leaves, next-is-record, called-in-turn, called-from-start}
 
 pub some-arrivals : SomeArrivals
-unfolding ones onesIn pack place marks places moved added source.fresh source.hasCounted source.sound reachOf counted first ahead behind distance arrival signed sourceOf sourceWords arriveAnswer arriveWords arriveChain arriveCodes afterArrivals
-some-arrivals = record { fit = refl; answers = refl; left = refl; sound = refl }
+unfolding ones onesIn pack place marks places moved added source.fresh source.hasCounted source.sound reachOf counted first ahead behind distance remembering jumped arrival signed sourceWith sourceWords arriveAnswer arriveWords arriveChain arriveCodes afterArrivals
+some-arrivals = record { fit = refl; answers = refl; left = refl; sound = refl; typed = refl }
 
 pub some-calls : SomeCalls
 unfolding since settingsOk reportOk emptyWindow sound runAfter windowAfter holds ruled startOf reportOf tickOf called intervalWords breakerWords intervalsOf settingsOf windowOf breakerOf wordsFit callAnswer callLeft breakerChain breakerCodes after
@@ -31,7 +31,7 @@ some-calls = record { begun = refl; fit = refl; answers = refl; left = refl; typ
 
 used : Unit {0}
 used =
-    let arrives = arrives-in-turn (afterArrivals source.freshRecord someArrivals) someArrivals (some-arrivals .sound) (some-arrivals .fit) in
+    let arrives = arrives-in-turn (afterArrivals source.freshRecord someArrivals) someArrivals (some-arrivals .sound) (some-arrivals .typed) (some-arrivals .fit) in
     let from-zero = arrives-from-zero someArrivals (some-arrivals .fit) in
     let unchanged = unchanged-leaves (reportAt 16000 7) stopped (some-calls .same) in
     let next = next-is-record (reportAt 1000 7) started (some-calls .begun) refl in

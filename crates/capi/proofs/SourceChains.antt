@@ -1,26 +1,26 @@
 -- Arrivals on a lent record, one after another. Assumes nothing.
 use mathlib.Core.Path.{_≡_, refl, sym, ap, ap₂, _∙_}
-use mathlib.Core.Bool.{Bool, true, false, not, cond}
+use mathlib.Core.Bool.{Bool, true, false, cond}
 use mathlib.Core.List.{List, [], _∷_}
 use Prim.Native.Nat.{ℕ, _^_, _≤_, _<_}
 use native.Mathlib.Omega.{arith}
 use borrow.Author.Tests.{ltb-true}
-use lib.Dec.{leb, ltb, lt→ltb}
+use lib.Dec.{eqb, lt→ltb}
 use lib.IntN.{ℤ, pos}
 use Rattle.answers.proofs.Conditions.{and-left, and-right, all-true, true-is}
 use Rattle.numbers.proofs.Integers.{eqZ-eq}
 use Rattle.source.specs.declared.Source.{Source}
 use Rattle.source.specs.declared.Arrival.{Arrival}
-use Rattle.source.specs.declared.Arrival.the-variants.{Accepted, Refused}
-use Rattle.source.specs.declared.distances.Reach.{Reach}
-use Rattle.source.specs.declared.distances.Reach.the-variants.{Ahead, Behind, Jump}
-use Rattle.source.specs.Distances.{reachOf}
-use Rattle.source.specs.Record.{arrivals, distinct, zeros, fresh, sound}
-use Rattle.source.specs.Arrivals.{distance, laterBy, arrival, after}
+use Rattle.source.specs.declared.Arrival.the-variants.{Accepted, Restarted, Refused}
+use Rattle.source.specs.Record.{arrivals, distinct, zeros, fresh, sound, wireNumber}
+use Rattle.source.specs.Arrivals.{after}
 use Rattle.source.proofs.Facts.{facts, fresh-sound, sound-has-counted}
 use Rattle.source.proofs.Kept.{sound-stays}
-use Rattle.lent.specs.SourceWords.{sourceOf, sourceWords, FitsWord}
-use Rattle.lent.proofs.SourceLaws.{record-back}
+use Rattle.source.proofs.Afresh.{typed-stays, refusal-keeps}
+use Rattle.lent.specs.SourceWords.{sourceOf, isSource, loaded, sourceWords, FitsWord}
+use Rattle.lent.proofs.SourceLaws.{record-back, held}
+use Rattle.lent.specs.declared.source_words.Loaded.the-variants.{Held}
+use Rattle.answers.specs.Refusals.{numberOf}
 use Rattle.capi.specs.Sources.{arrivalCode, arrivalWords, arriveAnswer, arriveWords}
 use Rattle.capi.specs.Chains.{arriveChain, arriveCodes, arrives, afterArrivals, arrivalCodes, wireFits, ArrivesInTurn, ArrivesFromZero}
 
@@ -29,72 +29,57 @@ use Rattle.capi.specs.Chains.{arriveChain, arriveCodes, arrives, afterAr
 fits : (n : ℕ) {z : ℤ} → z ≡ pos n → n < 2 ^ 63 → FitsWord z
 fits n e h = rw e (record { least = record { le = tt }; most = record { lt = lt→ltb n (2 ^ 63) h } })
 
-sound-back : (s : Source) → sound s ≡ true → sourceOf (sourceWords s) ≡ s
+sound-back : (s : Source) → sound s ≡ true → wireNumber (s .remembered) ≡ true → loaded (sourceWords s) ≡ Held s
 unfolding fresh
-sound-back s e = go (fresh s) refl
+sound-back s e n = go (fresh s) refl
   where
-    go : (b : Bool) → fresh s ≡ b → sourceOf (sourceWords s) ≡ s
+    go : (b : Bool) → fresh s ≡ b → loaded (sourceWords s) ≡ Held s
     go true f =
         record-back s (fits 0 (eqZ-eq (s .base .0) (pos 0) (true-is _ (all-true (zeros s) 0 f))) (omega arith))
-        (fits 0 (eqZ-eq (s .highest .0) (pos 0) (true-is _ (all-true (zeros s) 1 f))) (omega arith))
+        (fits 0 (eqZ-eq (s .highest .0) (pos 0) (true-is _ (all-true (zeros s) 1 f))) (omega arith)) n
     go false f =
         let k = facts s (sound-has-counted s e f) in
         let d : distinct s ≤ arrivals s = omega arith in
-        record-back s (fits (k .low) (k .base) (omega (arith, k .wire))) (fits (k .high) (k .highest) (omega (arith, k .spread, k .most, k .wire)))
+        record-back s (fits (k .low) (k .base) (omega (arith, k .wire))) (fits (k .high) (k .highest) (omega (arith, k .spread, k .most, k .wire))) n
 
--- ---- a refused arrival hands the record back as it was
-
-abbrev Keeps : Source → Arrival → Type 0
-Keeps s (Accepted next) = Unit {0}
-Keeps s (Refused refusal same) = same ≡ s
+-- ---- one call
 
 module _ (s : Source) (c : ℕ × ℕ) where
-  by-test : (t : Bool) (x y : Arrival) → Keeps s x → Keeps s y → Keeps s (cond t x y)
-  by-test true x y f g = f
-  by-test false x y f g = g
+  module _ (e : sound s ≡ true) (n : wireNumber (s .remembered) ≡ true) where
+    back : (isSource (sourceWords s) ≡ true) × (s ≡ sourceOf (sourceWords s))
+    back = let h = held (sourceWords s) (sound-back s e n) in (h .1, h .2)
 
-  by-reach : (r : Reach) → Keeps s (laterBy s (c .1) r)
-  by-reach (Ahead d) = tt
-  by-reach (Behind k) = tt
-  by-reach Jump = refl
-
-  keeps : Keeps s (arrives s c)
-  unfolding arrival
-  keeps =
-      by-test (not (sound s)) _ _ refl
-      (by-test (ltb 3 (c .1)) _ _ refl
-      (by-test (leb (2 ^ 48) (arrivals s)) _ _ refl
-      (by-test (fresh s) _ _ tt
-      (by-reach (reachOf (distance (s .highest) (record { 0 = c .0 })))))))
-
-  -- ---- one call
-
-  module _ (e : sound s ≡ true) where
     left-of : arriveWords (sourceWords s) (c .0) (c .1) ≡ sourceWords (after (arrives s c))
-    unfolding arriveWords sourceWords
-    left-of = ap (λ (x : Source). arrivalWords (sourceWords s) (arrives x c)) (sound-back s e) ∙ go (arrives s c) keeps
+    unfolding arriveWords
+    left-of = rw (back .0, ← back .1) (go (arrives s c) refl)
       where
-        go : (a : Arrival) → Keeps s a → arrivalWords (sourceWords s) a ≡ sourceWords (after a)
+        refused : (t : Bool) (new next : Source) → next ≡ cond t new s → cond t (sourceWords next) (sourceWords s) ≡ sourceWords next
+        refused true new next k = refl
+        refused false new next k = ap sourceWords (sym k)
+
+        go : (a : Arrival) → arrives s c ≡ a → arrivalWords (sourceWords s) a ≡ sourceWords (after a)
         go (Accepted next) k = refl
-        go (Refused refusal same) k = ap sourceWords (sym k)
+        go (Restarted next) k = refl
+        go (Refused refusal next) k = refused (eqb (numberOf refusal) 7) _ next (refusal-keeps s next (record { 0 = c .0 }) (c .1) refusal k)
 
     answer-of : arriveAnswer (sourceWords s) (c .0) (c .1) ≡ arrivalCode (arrives s c)
-    unfolding arriveAnswer sourceWords
-    answer-of = ap (λ (x : Source). arrivalCode (arrives x c)) (sound-back s e)
+    unfolding arriveAnswer
+    answer-of = rw (back .0, ← back .1)
 
 -- ---- many
 
 pub arrives-in-turn : ArrivesInTurn
 unfolding arriveChain arriveCodes afterArrivals arrivalCodes
-arrives-in-turn s [] e n = record { left = refl; answers = refl }
-arrives-in-turn s (c ∷ cs) e n =
-    let left = left-of s c e in
-    let rest = arrives-in-turn (after (arrives s c)) cs (sound-stays s (record { 0 = c .0 }) (c .1) (ltb-true _ _ (and-left _ _ n)) e) (and-right (wireFits c) _ n) in
+arrives-in-turn s [] e r n = record { left = refl; answers = refl }
+arrives-in-turn s (c ∷ cs) e r n =
+    let left = left-of s c e r in
+    let wire = ltb-true _ _ (and-left _ _ n) in
+    let rest = arrives-in-turn (after (arrives s c)) cs (sound-stays s (record { 0 = c .0 }) (c .1) wire e) (typed-stays s (record { 0 = c .0 }) (c .1) r) (and-right (wireFits c) _ n) in
     record {
       left = ap (λ (w : List ℕ). arriveChain w cs) left ∙ rest .left;
-      answers = ap₂ (λ (a : ℕ) (l : List ℕ). a ∷ l) (answer-of s c e) (ap (λ (w : List ℕ). arriveCodes w cs) left ∙ rest .answers);
+      answers = ap₂ (λ (a : ℕ) (l : List ℕ). a ∷ l) (answer-of s c e r) (ap (λ (w : List ℕ). arriveCodes w cs) left ∙ rest .answers);
     }
 
 pub arrives-from-zero : ArrivesFromZero
 unfolding sourceWords
-arrives-from-zero calls n = arrives-in-turn _ calls fresh-sound n
+arrives-from-zero calls n = arrives-in-turn _ calls fresh-sound refl n

@@ -68,13 +68,13 @@ WritesHead old r out =
     old r out
 
 -- what a row shows
-abbrev pub totalsOf : List ℕ → ℕ → Totals
-totalsOf words jumped = record { source = sourceOf words; jumped = jumped }
+abbrev pub totalsOf : List ℕ → ℕ → ℕ → Totals
+totalsOf words jumped restarts = record { source = sourceOf words; jumped = jumped; restarts = restarts }
 
 -- "Table", a row: 9, 10, 12; or its bytes
-abbrev pub WritesRow : List ℕ → ℕ → List ℕ → ℕ → List ℕ → ℤ → List ℕ → Type 0
-WritesRow label ssrc words jumped old r out =
+abbrev pub WritesRow : List ℕ → ℕ → List ℕ → ℕ → ℕ → List ℕ → ℤ → List ℕ → Type 0
+WritesRow label ssrc words jumped restarts old r out =
     Gives lengthCode
-    (recordFault words (rowFault label (totalsOf words jumped)))
-    (rowBytes label ssrc (totalsOf words jumped))
+    (recordFault words (rowFault label (totalsOf words jumped restarts)))
+    (rowBytes label ssrc (totalsOf words jumped restarts))
     old r out

@@ -8,7 +8,7 @@ use lib.ListN.{replicate}
 use Rattle.answers.specs.Conditions.{all}
 use Rattle.source.specs.declared.Source.{Source}
 use Rattle.source.specs.declared.Arrival.{Arrival}
-use Rattle.source.specs.Record.{freshRecord, sound}
+use Rattle.source.specs.Record.{freshRecord, sound, wireNumber}
 use Rattle.source.specs.Arrivals.{arrival, after}
 use Rattle.breaker.specs.declared.Settings.{Settings}
 use Rattle.breaker.specs.declared.Breaker.{Breaker}
@@ -52,21 +52,24 @@ pub record ArriveChain (words : List ℕ) (s : Source) (calls : List (ℕ × ℕ
   pub answers : arriveCodes words calls ≡ arrivalCodes s calls
 
 abbrev pub ArrivesInTurn : Type 0
-ArrivesInTurn = (s : Source) (calls : List (ℕ × ℕ)) → sound s ≡ true → all (map wireFits calls) ≡ true → ArriveChain (sourceWords s) s calls
+ArrivesInTurn =
+    (s : Source) (calls : List (ℕ × ℕ)) → sound s ≡ true → wireNumber (s .remembered) ≡ true → all (map wireFits calls) ≡ true
+    → ArriveChain (sourceWords s) s calls
 
--- nine words 0 are the fresh record's
+-- ten words 0 are the fresh record's
 abbrev pub ArrivesFromZero : Type 0
-ArrivesFromZero = (calls : List (ℕ × ℕ)) → all (map wireFits calls) ≡ true → ArriveChain (replicate 9 0) freshRecord calls
+ArrivesFromZero = (calls : List (ℕ × ℕ)) → all (map wireFits calls) ≡ true → ArriveChain (replicate 10 0) freshRecord calls
 
--- such a list, with a jump in its middle
+-- such a list, with a jump and a restart
 abbrev pub someArrivals : List (ℕ × ℕ)
-someArrivals = (65534, 2) ∷ (5000, 2) ∷ (0, 3) ∷ []
+someArrivals = (65534, 2) ∷ (5000, 2) ∷ (5001, 3) ∷ (9000, 1) ∷ []
 
 pub record SomeArrivals : Type 0 where
   pub fit : all (map wireFits someArrivals) ≡ true
-  pub answers : arriveCodes (replicate 9 0) someArrivals ≡ 0 ∷ 7 ∷ 0 ∷ []
-  pub left : arriveChain (replicate 9 0) someArrivals ≡ 65534 ∷ 65536 ∷ 0 ∷ 0 ∷ 1 ∷ 1 ∷ 0 ∷ 5 ∷ 0 ∷ []
+  pub answers : arriveCodes (replicate 10 0) someArrivals ≡ 0 ∷ 7 ∷ 128 ∷ 7 ∷ []
+  pub left : arriveChain (replicate 10 0) someArrivals ≡ 5001 ∷ 5001 ∷ 0 ∷ 0 ∷ 0 ∷ 1 ∷ 0 ∷ 1 ∷ 0 ∷ 9002 ∷ []
   pub sound : sound (afterArrivals freshRecord someArrivals) ≡ true
+  pub typed : wireNumber (afterArrivals freshRecord someArrivals .remembered) ≡ true
 
 -- ---- a breaker's reports and ticks
 

@@ -1,48 +1,49 @@
 -- What the calls on one source's record answer, and what they leave in the lent words (include/flasknib.h, "one RTP source").
-use Prim.Native.Nat.{ℕ}
+use Prim.Native.Nat.{ℕ, _+_, _*_}
 use mathlib.Core.Bool.{cond}
 use mathlib.Core.List.{List}
 use mathlib.Core.Option.{Option, some}
 use lib.Dec.{eqb}
 use lib.IntN.{ℤ, pos, negℤ}
-use lib.ListN.{length}
 use Rattle.answers.specs.declared.Refusal.{Refusal}
 use Rattle.answers.specs.declared.Refusal.the-variants.{Malformed}
 use Rattle.answers.specs.Refusals.{numberOf}
 use Rattle.source.specs.declared.Arrival.{Arrival}
-use Rattle.source.specs.declared.Arrival.the-variants.{Accepted, Refused}
+use Rattle.source.specs.declared.Arrival.the-variants.{Accepted, Restarted, Refused}
 use Rattle.source.specs.declared.BlockCount.{BlockCount}
 use Rattle.source.specs.declared.BlockCount.the-variants.{Counted, Refused as NotCounted}
 use Rattle.source.specs.Arrivals.{arrival}
 use Rattle.source.specs.Blocks.{blockCount}
 use Rattle.report.specs.Reports.{fault, feedbackBytes, summaryBytes}
-use Rattle.lent.specs.SourceWords.{sourceOf, sourceWords}
+use Rattle.lent.specs.SourceWords.{sourceOf, isSource, sourceWords}
 use Rattle.capi.specs.Codes.{lengthCode, Gives, Leaves}
 
--- a record in another number of words than 9 is refused with 9, before the refusals of its values
+-- words that are no record's are refused with 9, before the refusals of its values
 unfoldable pub recordFault : List ℕ → Option Refusal → Option Refusal
-recordFault words fault = cond (eqb (length words) 9) fault (some Malformed)
+recordFault words fault = cond (isSource words) fault (some Malformed)
 
 -- ---- flasknib_arrive
 
--- 0, or the refusal
+-- 0, 128 for a restart, or the refusal
 abbrev pub arrivalCode : Arrival → ℕ
 arrivalCode (Accepted next) = 0
-arrivalCode (Refused refusal same) = numberOf refusal
+arrivalCode (Restarted next) = 128
+arrivalCode (Refused refusal next) = numberOf refusal
 
--- the words of the next record, or the words as they were
+-- the words of the next record; a refusal but 7 leaves the words as they were
 abbrev pub arrivalWords : List ℕ → Arrival → List ℕ
 arrivalWords words (Accepted next) = sourceWords next
-arrivalWords words (Refused refusal same) = words
+arrivalWords words (Restarted next) = sourceWords next
+arrivalWords words (Refused refusal next) = cond (eqb (numberOf refusal) 7) (sourceWords next) words
 
 unfoldable pub arriveAnswer : List ℕ → ℕ → ℕ → ℕ
-arriveAnswer words wire mark = cond (eqb (length words) 9) (arrivalCode (arrival (sourceOf words) (record { 0 = wire }) mark)) 9
+arriveAnswer words wire mark = cond (isSource words) (arrivalCode (arrival (sourceOf words) (record { 0 = wire }) mark)) 9
 
 unfoldable pub arriveWords : List ℕ → ℕ → ℕ → List ℕ
 arriveWords words wire mark =
-    cond (eqb (length words) 9) (arrivalWords words (arrival (sourceOf words) (record { 0 = wire }) mark)) words
+    cond (isSource words) (arrivalWords words (arrival (sourceOf words) (record { 0 = wire }) mark)) words
 
--- "Counting arrivals": 9, 10, 8, 7; or 0 and the next record
+-- "Counting arrivals": 9, 10, 8, 7; or 0, or 128 for a restart, and the next record; 7 leaves its record too
 abbrev pub CountsArrival : List ℕ → ℕ → ℕ → ℕ → List ℕ → Type 0
 CountsArrival words wire mark r out =
     Leaves
@@ -52,25 +53,25 @@ CountsArrival words wire mark r out =
 
 -- ---- flasknib_count_block
 
--- the jumps, or minus the refusal
+-- 256 times the restarts and the jumps, or minus the refusal
 abbrev pub countCode : BlockCount → ℤ
-countCode (Counted next jumps) = pos jumps
+countCode (Counted next jumps restarts) = pos (256 * restarts + jumps)
 countCode (NotCounted refusal same) = negℤ (pos (numberOf refusal))
 
 -- the words of the next record, or the words as they were
 abbrev pub countWords : List ℕ → BlockCount → List ℕ
-countWords words (Counted next jumps) = sourceWords next
+countWords words (Counted next jumps restarts) = sourceWords next
 countWords words (NotCounted refusal same) = words
 
 unfoldable pub blockAnswer : List ℕ → ℕ → List ℕ → ℤ
 blockAnswer words width records =
-    cond (eqb (length words) 9) (countCode (blockCount (sourceOf words) width records)) (negℤ (pos 9))
+    cond (isSource words) (countCode (blockCount (sourceOf words) width records)) (negℤ (pos 9))
 
 unfoldable pub blockWords : List ℕ → ℕ → List ℕ → List ℕ
 blockWords words width records =
-    cond (eqb (length words) 9) (countWords words (blockCount (sourceOf words) width records)) words
+    cond (isSource words) (countWords words (blockCount (sourceOf words) width records)) words
 
--- "Trace file", the records of an arrivals block: 9, 10; or the jumps and the next record
+-- "Trace file", the records of an arrivals block: 9, 10; or the restarts and jumps, and the next record
 abbrev pub CountsBlock : List ℕ → ℕ → List ℕ → ℤ → List ℕ → Type 0
 CountsBlock words width records r out =
     Leaves

@@ -1,7 +1,7 @@
 // The table's head line and rows.
 use crate::codes;
 use answers::Refusal;
-use lent::source_words::WORDS;
+use lent::source_words::Loaded;
 use lent::source_words::load;
 use source::Totals;
 use table::write_head;
@@ -23,13 +23,18 @@ pub extern "C" fn flasknib_write_row(
     ssrc: u32,
     words: &[u64],
     jumped: u64,
+    restarts: u64,
     out: &mut [u8],
 ) -> i64
-    ensures { λ r. ⌜ WritesRow (now (label .entry)) ssrc (now (words .entry)) jumped (now (out .entry)) r (now (out .exit)) ⌝ }
+    ensures { λ r. ⌜ WritesRow (now (label .entry)) ssrc (now (words .entry)) jumped restarts (now (out .entry)) r (now (out .exit)) ⌝ }
 {
-    if words.len() != WORDS {
+    let Loaded::Held(source) = load(words) else {
         return codes::minus(Refusal::Malformed);
-    }
-    let source = load(words);
-    codes::length(write_row(label, ssrc, Totals { source, jumped }, out))
+    };
+    let totals = Totals {
+        source,
+        jumped,
+        restarts,
+    };
+    codes::length(write_row(label, ssrc, totals, out))
 }

@@ -2,7 +2,7 @@
 use crate::codes;
 use answers::Refusal;
 use format::Wire;
-use lent::source_words::WORDS;
+use lent::source_words::Loaded;
 use lent::source_words::load;
 use lent::source_words::store;
 use report::write_feedback;
@@ -11,35 +11,55 @@ use source::Arrival;
 use source::BlockCount;
 ghost use Rattle.capi.specs.Sources.{CountsArrival, CountsBlock, WritesFeedback, WritesSummary};
 
-// Counts one arrival. Gives 0 and the next record, or refusal 9, 10, 8 or 7.
+// The refusal that leaves a record of its own: a jump.
+const JUMP: u8 = 7;
+
+// The answer to an arrival that restarts the record.
+const RESTARTED: u8 = 128;
+
+// What the restarts of a block are multiplied with, so that its jumps stand beside them.
+const RESTARTS: u64 = 256;
+
+// Counts one arrival. Gives 0 or 128, for a restart, and the next record; or refusal 9, 10, 8 or 7. A jump (7) leaves its record too.
 #[no_mangle]
 pub extern "C" fn flasknib_arrive(words: &mut [u64], wire: u16, mark: u8) -> u8
     ensures { λ r. ⌜ CountsArrival (now (words .entry)) wire mark r (now (words .exit)) ⌝ }
 {
-    if words.len() != WORDS {
+    let Loaded::Held(source) = load(words) else {
         return 9;
-    }
-    match load(words).arrive(Wire(wire), mark) {
+    };
+    match source.arrive(Wire(wire), mark) {
         Arrival::Accepted(next) => {
             store(next, words);
             0
         }
-        Arrival::Refused(refusal, _) => refusal.number(),
+        Arrival::Restarted(next) => {
+            store(next, words);
+            RESTARTED
+        }
+        Arrival::Refused(refusal, next) => {
+            let number = refusal.number();
+            if number == JUMP {
+                store(next, words);
+                return JUMP;
+            }
+            number
+        }
     }
 }
 
-// Counts the records of one arrivals block. Gives the jumps and the next record, or minus refusal 9 or 10.
+// Counts the records of one arrivals block. Gives 256 * restarts + jumps and the next record, or minus refusal 9 or 10.
 #[no_mangle]
 pub extern "C" fn flasknib_count_block(words: &mut [u64], records: &[u8], width: usize) -> i64
     ensures { λ r. ⌜ CountsBlock (now (words .entry)) width (now (records .entry)) r (now (words .exit)) ⌝ }
 {
-    if words.len() != WORDS {
+    let Loaded::Held(source) = load(words) else {
         return codes::minus(Refusal::Malformed);
-    }
-    match load(words).count_block(records, width) {
-        BlockCount::Counted(next, jumps) => {
+    };
+    match source.count_block(records, width) {
+        BlockCount::Counted(next, jumps, restarts) => {
             store(next, words);
-            jumps as i64
+            (RESTARTS * restarts + jumps) as i64
         }
         BlockCount::Refused(refusal, _) => codes::minus(refusal),
     }
@@ -55,10 +75,10 @@ pub extern "C" fn flasknib_write_feedback(
 ) -> i64
     ensures { λ r. ⌜ WritesFeedback (now (words .entry)) sender media (now (out .entry)) r (now (out .exit)) ⌝ }
 {
-    if words.len() != WORDS {
+    let Loaded::Held(source) = load(words) else {
         return codes::minus(Refusal::Malformed);
-    }
-    codes::length(write_feedback(load(words), sender, media, out))
+    };
+    codes::length(write_feedback(source, sender, media, out))
 }
 
 // Writes the XR ECN summary block. Gives its length, or minus refusal 9 or 12.
@@ -66,8 +86,8 @@ pub extern "C" fn flasknib_write_feedback(
 pub extern "C" fn flasknib_write_summary(words: &[u64], media: u32, out: &mut [u8]) -> i64
     ensures { λ r. ⌜ WritesSummary (now (words .entry)) media (now (out .entry)) r (now (out .exit)) ⌝ }
 {
-    if words.len() != WORDS {
+    let Loaded::Held(source) = load(words) else {
         return codes::minus(Refusal::Malformed);
-    }
-    codes::length(write_summary(load(words), media, out))
+    };
+    codes::length(write_summary(source, media, out))
 }

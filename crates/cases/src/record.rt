@@ -1,6 +1,6 @@
 // A source's record from lines, for the programs that hand one to a call:
 //   n                                                                      the fresh record
-//   s base highest ect0 ect1 ce notect duplicates recent older             a record with these fields
+//   s base highest ect0 ect1 ce notect duplicates recent older remembered  a record with these fields; remembered is 0 for none, else number + 1
 //   a number mark                                                          the record after an arrival
 use crate::letter;
 use crate::number;
@@ -11,6 +11,7 @@ use format::Wire;
 use source::Arrival;
 use source::Extended;
 use source::History;
+use source::Remembered;
 use source::Source;
 
 // The arrival of a line.
@@ -22,8 +23,17 @@ pub fn arrival(s: Source, line: &[u8]) -> Arrival {
 fn kept(answer: Arrival) -> Source {
     match answer {
         Arrival::Accepted(s) => s,
+        Arrival::Restarted(s) => s,
         Arrival::Refused(_, s) => s,
     }
+}
+
+// What a word says is remembered.
+fn remembered(word: u64) -> Remembered {
+    if word == 0 {
+        return Remembered::Nothing;
+    }
+    Remembered::Number(Wire(((word - 1) % 65536) as u16))
 }
 
 // The record with the fields of a line.
@@ -43,6 +53,7 @@ fn with_fields(line: &[u8]) -> Source {
         notect: number(line, 6),
         duplicates: number(line, 7),
         history,
+        remembered: remembered(number(line, 10)),
     }
 }
 

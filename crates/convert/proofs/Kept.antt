@@ -23,7 +23,7 @@ use Rattle.source.specs.declared.BlockCount.the-variants.{Counted, Refused}
 use Rattle.source.specs.declared.Totals.{Totals}
 use Rattle.source.specs.Record.{sound}
 use Rattle.source.specs.Blocks.{blockCount}
-use Rattle.source.specs.Totals.{mostJumped, freshTotals, withBlock}
+use Rattle.source.specs.Totals.{mostTold, freshTotals, withBlock}
 use Rattle.source.proofs.Totalled.{SoundTotals, fresh-totals, next-sound}
 use Rattle.trace.specs.Contents.{labelOk}
 use Rattle.trace.specs.Reading.{blockOf}
@@ -56,20 +56,29 @@ module _ {run : Run} {zeroth : List ℕ} where
         label = all-true (runConditions run zeroth) 2 e;
         totals = record {
           good = all-true (soundTotals (run .totals)) 0 totals;
-          few = leb-true (run .totals .jumped) mostJumped (all-true (soundTotals (run .totals)) 1 totals);
+          jumped = leb-true (run .totals .jumped) mostTold (all-true (soundTotals (run .totals)) 1 totals);
+          restarts = leb-true (run .totals .restarts) mostTold (all-true (soundTotals (run .totals)) 2 totals);
         };
       }
 
   pub sound-good : Good run zeroth → soundRun run zeroth ≡ true
   unfolding soundRun
-  sound-good g = rw (g .own, le-leb (run .length) bodyBytes (g .short), g .label, g .totals .good, le-leb (run .totals .jumped) mostJumped (g .totals .few))
+  sound-good g =
+      rw (
+        g .own,
+        le-leb (run .length) bodyBytes (g .short),
+        g .label,
+        g .totals .good,
+        le-leb (run .totals .jumped) mostTold (g .totals .jumped),
+        le-leb (run .totals .restarts) mostTold (g .totals .restarts),
+      )
 
   pub whole : Good run zeroth → length zeroth ≡ blockBytes
   whole g = eqb-true (length zeroth) blockBytes (all-true (ownLabel run zeroth) 0 (g .own))
 
   -- its row is not refused
   pub row-fits : Good run zeroth → rowFault (labelOf run zeroth) (run .totals) ≡ none
-  row-fits g = fault-none (labelOf run zeroth) (run .totals) (g .totals .good) (g .label) (g .totals .few)
+  row-fits g = fault-none (labelOf run zeroth) (run .totals) (g .totals .good) (g .label) (g .totals .jumped) (g .totals .restarts)
 
 -- ---- the last condition decides
 
@@ -83,8 +92,8 @@ module _ (run : Run) (zeroth : List ℕ) where
   unfolding soundRun
   sound-last o l t = rw (o, le-leb (run .length) bodyBytes l, t) (sym (and-true (all (soundTotals (run .totals)))))
 
-pub totals-last : (t : Totals) → sound (t .source) ≡ true → leb (t .jumped) mostJumped ≡ all (soundTotals t)
-totals-last t e = rw e (sym (and-true (leb (t .jumped) mostJumped)))
+pub totals-last : (t : Totals) → sound (t .source) ≡ true → t .jumped ≤ mostTold → leb (t .restarts) mostTold ≡ all (soundTotals t)
+totals-last t e j = rw (e, le-leb (t .jumped) mostTold j) (sym (and-true (leb (t .restarts) mostTold)))
 
 -- ---- the run after a block
 
@@ -92,7 +101,7 @@ block-totals : (t : Totals) (w : ℕ) (bytes : List ℕ) → Octets bytes → So
 block-totals t w bytes o g = go (blockCount (t .source) w bytes) refl
   where
     go : (c : BlockCount) → blockCount (t .source) w bytes ≡ c → SoundTotals (withBlock t c)
-    go (Counted next jumps) e = record { good = next-sound (t .source) w bytes e o; few = omega arith }
+    go (Counted next jumps restarts) e = record { good = next-sound (t .source) w bytes e o; jumped = omega arith; restarts = omega arith }
     go (Refused refusal same) e = g
 
 pub arrived-good : (run : Run) (zeroth : List ℕ) (form : Form) (n : ℕ) (b : List ℕ) → Octets b → Good run zeroth → Good (arrived run form n b) zeroth

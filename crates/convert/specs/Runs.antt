@@ -20,7 +20,7 @@ use Rattle.format.specs.declared.Kind.the-variants as kind
 use Rattle.source.specs.declared.Totals.{Totals}
 use Rattle.source.specs.Record.{sound}
 use Rattle.source.specs.Blocks.{blockCount}
-use Rattle.source.specs.Totals.{mostJumped, freshTotals, withBlock}
+use Rattle.source.specs.Totals.{mostTold, freshTotals, withBlock}
 use Rattle.trace.specs.Contents.{labelOk}
 use Rattle.trace.specs.Reading.{kindIn, countIn, ssrcIn, blockOf}
 use Rattle.trace.specs.declared.Block.{Block}
@@ -97,7 +97,7 @@ ownLabel run zeroth =
     ∷ []
 
 abbrev pub soundTotals : Totals → List Bool
-soundTotals t = sound (t .source) ∷ leb (t .jumped) mostJumped ∷ []
+soundTotals t = sound (t .source) ∷ leb (t .jumped) mostTold ∷ leb (t .restarts) mostTold ∷ []
 
 -- a run that block 0, its label and the totals allow, else 9
 abbrev pub runConditions : Run → List ℕ → List Bool

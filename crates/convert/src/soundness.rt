@@ -53,7 +53,10 @@ fn are_sound(t: Totals) -> bool
     let Lost::Packets(_) = source.lost() else {
         return false;
     };
-    t.jumped <= Totals::MOST_JUMPED
+    if Totals::MOST < t.jumped {
+        return false;
+    }
+    t.restarts <= Totals::MOST
 }
 
 // Whether a run is sound, with block 0.

@@ -48,9 +48,10 @@ module _ (ps : List TruePacket) (lost-is : lost (count ps) ≡ lostOf ps) where
     duplicates = duplicatesOf ps % 2 ^ 16;
   }
 
-  count-row : (label : List ℕ) (ssrc jumped : ℕ) → rowBytes label ssrc (record { source = count ps; jumped = jumped }) ≡ countRow label ssrc ps jumped
+  count-row : (label : List ℕ) (ssrc jumped restarts : ℕ)
+      → rowBytes label ssrc (record { source = count ps; jumped = jumped; restarts = restarts }) ≡ countRow label ssrc ps jumped restarts
   unfolding rowBytes countFrom
-  count-row label ssrc jumped = rw lost-is
+  count-row label ssrc jumped restarts = rw lost-is
 
 -- ---- the theorem
 
@@ -67,9 +68,9 @@ demand3 ps d =
       sound = fault-none (run ps) good;
       feedback = λ sender media. ap₂ (λ (z : ℤ) (c : Counts). feedbackOf sender media (modulo (2 ^ 32) z) c) top counts;
       summary = λ media. ap (summaryOf media) counts;
-      row = λ label ssrc jumped ok few. record {
-        accepted = row-accepted label (record { source = run ps; jumped = jumped }) good ok few;
-        bytes = ap (λ (s : Source). rowBytes label ssrc (record { source = s; jumped = jumped })) (r .state) ∙ count-row (arrivals ps) lost-is label ssrc jumped;
+      row = λ label ssrc jumped restarts ok few less. record {
+        accepted = row-accepted label (record { source = run ps; jumped = jumped; restarts = restarts }) good ok few less;
+        bytes = ap (λ (s : Source). rowBytes label ssrc (record { source = s; jumped = jumped; restarts = restarts })) (r .state) ∙ count-row (arrivals ps) lost-is label ssrc jumped restarts;
       };
       order = λ qs other same first.
           r .state ∙ perm-count (baseOf (arrivals ps)) (same-perm (arrivals ps) (arrivals qs) same)

@@ -9,5 +9,7 @@ pub mod Traces
 pub mod PrintedTable
 pub mod ReadBack
 pub mod WorkedExamples
+pub mod Between
 pub mod Witnesses
 pub mod Uses
+pub mod WitnessesBetween

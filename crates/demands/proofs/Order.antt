@@ -10,6 +10,7 @@ use lib.ListN.{length}
 use Rattle.numbers.specs.Integers.{eqZ}
 use Rattle.answers.proofs.Conditions.{is-true, is-false, true-is, false-not, both}
 use Rattle.numbers.proofs.Integers.{eqZ-refl, eqZ-eq, eq-eqZ, leZ-antisym}
+use Rattle.source.specs.declared.Remembered.the-variants.{Nothing}
 use Rattle.source.specs.Places.{bit, history}
 use Rattle.source.specs.Arrivals.{extended}
 use Rattle.source.proofs.Rows.{history-ext}
@@ -156,6 +157,7 @@ perm-count base {ps} {qs} r = λ i. record {
   ce = perm-tally 3 r i;
   duplicates = ap₂ _-_ (perm-length r) (perm-distinct r) i;
   history = history-ext (recent ps) (recent qs) row i;
+  remembered = Nothing;
 }
   where
     row : (k : ℕ) → k < 100 → recent ps k ≡ recent qs k

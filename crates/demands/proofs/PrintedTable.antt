@@ -84,7 +84,7 @@ module _ (zeroth label : List ℕ) (ssrc : ℕ) (label-is : take (length label) 
     (ps : List TruePacket) (m : Marks ps) (d : Described ps) where
   -- the run with the first arrivals
   abbrev with : List TruePacket → Run
-  with us = record { length = length label; ssrc = ssrc; totals = record { source = run us; jumped = 0 } }
+  with us = record { length = length label; ssrc = ssrc; totals = record { source = run us; jumped = 0; restarts = 0 } }
 
   front-described : (us vs : List TruePacket) → us ++ vs ≡ ps → Marks us → Described us
   front-described us vs e mu =
@@ -95,12 +95,12 @@ module _ (zeroth label : List ℕ) (ssrc : ℕ) (label-is : take (length label) 
         steady = rw all (steady-front us vs (subst Steady whole (d .steady)));
       }
 
-  row-is : (us vs : List TruePacket) → us ++ vs ≡ ps → Marks us → rowOf (with us) zeroth ≡ countRow label ssrc us 0
+  row-is : (us vs : List TruePacket) → us ++ vs ≡ ps → Marks us → rowOf (with us) zeroth ≡ countRow label ssrc us 0 0
   unfolding rowOf
   row-is us vs e mu =
-      ap (λ (l : List ℕ). rowBytes l ssrc (record { source = run us; jumped = 0 })) label-is
-      ∙ demand3 us (front-described us vs e mu) .row label ssrc 0 ok (omega arith) .bytes
-      ∙ ap (λ (l : List TruePacket). countRow label ssrc l 0) (all-arrivals us mu)
+      ap (λ (l : List ℕ). rowBytes l ssrc (record { source = run us; jumped = 0; restarts = 0 })) label-is
+      ∙ demand3 us (front-described us vs e mu) .row label ssrc 0 0 ok (omega arith) (omega arith) .bytes
+      ∙ ap (λ (l : List TruePacket). countRow label ssrc l 0 0) (all-arrivals us mu)
 
   -- a block of `vs` leads from `us` to `us ++ vs`
   next-is : (us vs ws : List TruePacket) → us ++ (vs ++ ws) ≡ ps → (b : List ℕ) (form : Form) (n : ℕ) → blockOf b ≡ Arrivals form n ssrc
@@ -111,13 +111,13 @@ module _ (zeroth label : List ℕ) (ssrc : ℕ) (label-is : take (length label) 
       let answered : AnsweredFrom (run us) vs = answers-front (run us) vs ws (answers-behind freshRecord us (vs ++ ws) (subst (AnsweredFrom freshRecord) (sym e) (demand3 ps d .answers))) in
       let counted = block-counted b form n ssrc is vs same (run us) good answered in
       ap (nextBy (with us) b) is ∙ rw (eq-eqb ssrc ssrc refl)
-      (ap (λ (c : BlockCount). goes (record { length = length label; ssrc = ssrc; totals = withBlock (record { source = run us; jumped = 0 }) c })) counted
-      ∙ ap (λ (s : Source). goes (record { length = length label; ssrc = ssrc; totals = record { source = s; jumped = 0 } })) (sym (run-parts freshRecord us vs)))
+      (ap (λ (c : BlockCount). goes (record { length = length label; ssrc = ssrc; totals = withBlock (record { source = run us; jumped = 0; restarts = 0 }) c })) counted
+      ∙ ap (λ (s : Source). goes (record { length = length label; ssrc = ssrc; totals = record { source = s; jumped = 0; restarts = 0 } })) (sym (run-parts freshRecord us vs)))
 
   -- the last row of some blocks, behind those of `us`
   Last : List (List ℕ) → List TruePacket → Type 0
   Last [] us = us ≡ ps
-  Last (b ∷ bs) us = (front : List (List ℕ)) × (joined (rows label ssrc ps (length us) (b ∷ bs)) ≡ joined front ++ countRow label ssrc ps 0)
+  Last (b ∷ bs) us = (front : List (List ℕ)) × (joined (rows label ssrc ps (length us) (b ∷ bs)) ≡ joined front ++ countRow label ssrc ps 0 0)
 
   record Rows (i : ℕ) (bs : List (List ℕ)) (us : List TruePacket) : Type 0 where
     lines : rest i bs (with us) zeroth ≡ toOutput (joined (rows label ssrc ps (length us) bs))
@@ -125,10 +125,10 @@ module _ (zeroth label : List ℕ) (ssrc : ℕ) (label-is : take (length label) 
 
   last-next : (b : List ℕ) (bs : List (List ℕ)) (us next : List TruePacket) → length us + countIn b ≡ length next → take (length next) ps ≡ next → Last bs next → Last (b ∷ bs) us
   unfolding rows Last
-  last-next b [] us next n t l = ([], rw (n, t, l) (append-nil (countRow label ssrc ps 0)))
+  last-next b [] us next n t l = ([], rw (n, t, l) (append-nil (countRow label ssrc ps 0 0)))
   last-next b (c ∷ cs) us next n t l =
-      let row : List ℕ = countRow label ssrc next 0 in
-      (row ∷ l .0, rw (n, t, l .1) (sym (append-assoc row (joined (l .0)) (countRow label ssrc ps 0))))
+      let row : List ℕ = countRow label ssrc next 0 0 in
+      (row ∷ l .0, rw (n, t, l .1) (sym (append-assoc row (joined (l .0)) (countRow label ssrc ps 0 0))))
 
   rest-rows : (i : ℕ) (bs : List (List ℕ)) (us vs : List TruePacket) → us ++ vs ≡ ps → Marks us → AllArrivals ssrc bs → map inRecord (together bs) ≡ map ofArrival vs → Rows i bs us
   unfolding rows walk closed Last
@@ -174,16 +174,16 @@ module _ (trace label : List ℕ) (ssrc : ℕ) (ps : List TruePacket) (d : Descr
   all-lines = printed-started trace _ (start-label (blocksOf trace .zeroth) (h .zeroth)) ∙ ap (both (toOutput headBytes)) (all-rows .lines)
 
   last-line : (bs : List (List ℕ)) → printed trace ≡ toOutput (headBytes ++ joined (rows label ssrc ps 0 bs))
-      → Last (blocksOf trace .zeroth) label ssrc held-label label-ok ps held-marks d bs [] → 1 ≤ length ps → EndsIn trace (countRow label ssrc ps 0)
+      → Last (blocksOf trace .zeroth) label ssrc held-label label-ok ps held-marks d bs [] → 1 ≤ length ps → EndsIn trace (countRow label ssrc ps 0 0)
   unfolding Last
   last-line [] lines last some = absurd (omega (arith, ap length last))
   last-line (b ∷ bs) lines last some = (last .0, lines ∙ ap (λ (l : List ℕ). toOutput (headBytes ++ l)) (last .1))
 
   -- the row of the record at the end
-  row-of : countRow label ssrc ps 0 ≡ rowBytes label ssrc (record { source = run ps; jumped = 0 })
+  row-of : countRow label ssrc ps 0 0 ≡ rowBytes label ssrc (record { source = run ps; jumped = 0; restarts = 0 })
   row-of =
-      ap (λ (l : List TruePacket). countRow label ssrc l 0) (sym (all-arrivals ps held-marks))
-      ∙ sym (demand3 ps d .row label ssrc 0 label-ok (omega arith) .bytes)
+      ap (λ (l : List TruePacket). countRow label ssrc l 0 0) (sym (all-arrivals ps held-marks))
+      ∙ sym (demand3 ps d .row label ssrc 0 0 label-ok (omega arith) (omega arith) .bytes)
 
 pub table-holds-count : TableHoldsCount
 table-holds-count trace label ssrc ps d h =
@@ -197,8 +197,8 @@ same-last-row trace other label ssrc ps qs d e h k same first some =
     let mp = all-arrivals ps (held-marks trace label ssrc ps d h) in
     let mq = all-arrivals qs (held-marks other label ssrc qs e k) in
     let end : run ps ≡ run qs = demand3 ps d .order qs e (rw (mp, mq) same) (rw (mp, mq) first) in
-    let row : countRow label ssrc qs 0 ≡ countRow label ssrc ps 0 =
-    row-of other label ssrc qs e k ∙ ap (λ (s : Source). rowBytes label ssrc (record { source = s; jumped = 0 })) (sym end) ∙ sym (row-of trace label ssrc ps d h) in
+    let row : countRow label ssrc qs 0 0 ≡ countRow label ssrc ps 0 0 =
+    row-of other label ssrc qs e k ∙ ap (λ (s : Source). rowBytes label ssrc (record { source = s; jumped = 0; restarts = 0 })) (sym end) ∙ sym (row-of trace label ssrc ps d h) in
     let more : 1 ≤ length qs = omega (arith, perm-length (same-perm ps qs same)) in (
       table-holds-count trace label ssrc ps d h .last some,
       subst (EndsIn other) row (table-holds-count other label ssrc qs e k .last more),

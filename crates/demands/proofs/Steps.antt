@@ -14,11 +14,15 @@ use lib.Signed.{_≤ℤ_}
 use Rattle.numbers.specs.Integers.{eqZ}
 use Rattle.numbers.proofs.Integers.{eqZ-minus, minus-zero, minus-pos, minus-shift}
 use Rattle.source.specs.declared.Source.{Source}
+use Rattle.source.specs.declared.Remembered.the-variants.{Nothing}
+use Rattle.source.specs.Distances.{reachOf}
+use Rattle.source.specs.declared.Arrival.{Arrival}
 use Rattle.source.specs.declared.Arrival.the-variants.{Accepted}
+use Rattle.source.specs.declared.distances.Reach.{Reach}
 use Rattle.source.specs.Places.{bit, pack, history, marks, moved, added}
 use Rattle.source.specs.Record as Record
 use Rattle.source.specs.Record.{freshRecord}
-use Rattle.source.specs.Arrivals.{extended, counted, first, ahead, behind, distance, laterBy, later}
+use Rattle.source.specs.Arrivals.{extended, counted, first, ahead, behind, distance, laterBy}
 use Rattle.source.proofs.Facts.{fresh-sound}
 use Rattle.source.proofs.Rows.{history-ext}
 use Rattle.source.proofs.Answers.{arrival-first, arrival-later}
@@ -48,6 +52,7 @@ next-is old base h p ps n row eh en er = λ i. record {
   ce = tally 3 (p ∷ ps);
   duplicates = en i;
   history = history-ext row (recent (p ∷ ps)) er i;
+  remembered = Nothing;
 }
 
 -- ---- the first arrival
@@ -135,17 +140,20 @@ call-later {base} p q qs k m few near = go near
     many = count-arrivals base (q ∷ qs) (k .fit)
 
     -- the call goes by the distance
-    by : (z : ℤ) (d : ℕ) → p .number ≡ z → distance (extended (pos (k .high))) (wireOf z) ≡ d → call state p ≡ later state d (p .mark)
+    by-reach : Reach → Arrival
+    by-reach = laterBy state (wireOf (p .number)) (p .mark)
+
+    by : (z : ℤ) (d : ℕ) → p .number ≡ z → distance (extended (pos (k .high))) (wireOf z) ≡ d → call state p ≡ by-reach (reachOf d)
     by z d e f =
         arrival-later state (wireOf (p .number)) (p .mark) (count-sound k (omega arith)) m (omega (arith, many)) (omega (arith, many))
-        ∙ ap (λ (i : ℕ). later state i (p .mark)) (ap₂ (λ (x y : ℤ). distance (extended x) (wireOf y)) (count-highest base (q ∷ qs) ∙ k .top) e ∙ f)
+        ∙ ap (λ (i : ℕ). by-reach (reachOf i)) (ap₂ (λ (x y : ℤ). distance (extended x) (wireOf y)) (count-highest base (q ∷ qs) ∙ k .top) e ∙ f)
 
     go : Near (k .high) (p .number) → call state p ≡ Accepted (countFrom base (p ∷ (q ∷ qs)))
-    go (above d l u e) = by (pos (k .high + d)) d e (distance-above (k .high) d u) ∙ ap (laterBy state (p .mark)) (reach-ahead d l u)
+    go (above d l u e) = by (pos (k .high + d)) d e (distance-above (k .high) d u) ∙ ap by-reach (reach-ahead d l u)
         ∙ ap Accepted (ahead-is base p q qs (k .high) (k .top) d l e)
-    go (below zero u e) = by (pos (k .high)) 0 (e ∙ minus-zero (k .high)) (distance-level (k .high)) ∙ ap (laterBy state (p .mark)) reach-level
+    go (below zero u e) = by (pos (k .high)) 0 (e ∙ minus-zero (k .high)) (distance-level (k .high)) ∙ ap by-reach reach-level
         ∙ ap Accepted (behind-is base p q qs (k .high) (k .top) 0 u e)
     go (below (suc j) u e) = by (pos (k .high) -ℤ pos (suc j)) (65536 - suc j) e (distance-below (k .high) j u)
-        ∙ ap (laterBy state (p .mark)) (reach-behind (65536 - suc j) (omega arith) (omega arith))
+        ∙ ap by-reach (reach-behind (65536 - suc j) (omega arith) (omega arith))
         ∙ ap (λ (i : ℕ). Accepted (behind state i (p .mark))) (omega arith)
         ∙ ap Accepted (behind-is base p q qs (k .high) (k .top) (suc j) u e)

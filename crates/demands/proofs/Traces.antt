@@ -1,5 +1,5 @@
 -- Lists of calls in two parts, and the records of a trace's blocks as calls. Assumes nothing.
-use mathlib.Core.Path.{_≡_, refl, sym, ap, _∙_, subst}
+use mathlib.Core.Path.{_≡_, refl, sym, ap, ap₂, _∙_, subst}
 use mathlib.Core.Bool.{Bool, true, cond, _&&_}
 use mathlib.Core.List.{List, [], _∷_, _++_, map}
 use Prim.Native.Nat.{ℕ, zero, suc, _+_, _-_, _*_, _≤_}
@@ -20,7 +20,7 @@ use Rattle.source.specs.declared.Arrival.the-variants.{Accepted, Refused}
 use Rattle.source.specs.declared.BlockCount.the-variants.{Counted}
 use Rattle.source.specs.Record.{sound}
 use Rattle.source.specs.Arrivals.{after}
-use Rattle.source.specs.Blocks.{Packet, packets, marksFit, jump, countAll, blockCount}
+use Rattle.source.specs.Blocks.{Packet, packets, marksFit, jump, restart, countAll, blockCount}
 use Rattle.source.proofs.Packets.{packets-take}
 use Rattle.source.proofs.Totalled.{length-packets, block-counts}
 use Rattle.trace.specs.Layout.{recordAt, bodyOf}
@@ -95,13 +95,13 @@ marks-fit [] m = refl
 marks-fit (v ∷ vs) m = rw (le-leb (v .mark) 3 (m .0), marks-fit vs (m .1))
 
 -- calls that are all accepted, counted as a block
-count-accepted : (vs : List TruePacket) (s : Source) (jumps : ℕ) → Marks vs → AnsweredFrom s vs → countAll (map ofArrival vs) s jumps ≡ Counted (runFrom s vs) jumps
+count-accepted : (vs : List TruePacket) (s : Source) (jumps restarts : ℕ) → Marks vs → AnsweredFrom s vs → countAll (map ofArrival vs) s jumps restarts ≡ Counted (runFrom s vs) jumps restarts
 unfolding countAll
-count-accepted [] s jumps m a = refl
-count-accepted (v ∷ vs) s jumps m a =
+count-accepted [] s jumps restarts m a = refl
+count-accepted (v ∷ vs) s jumps restarts m a =
     let is : call s v ≡ Accepted (after (call s v)) = subst (λ (t : Bool). call s v ≡ cond t (Accepted (after (call s v))) (Refused Limits s)) (le-leb (v .mark) 3 (m .0)) (a .0) in
-    ap (λ (n : ℕ). countAll (map ofArrival vs) (after (call s v)) n) (ap (λ (n : ℕ). jumps + n) (ap jump is) ∙ add-zero jumps)
-    ∙ count-accepted vs (after (call s v)) jumps (m .1) (a .1)
+    ap₂ (λ (i j : ℕ). countAll (map ofArrival vs) (after (call s v)) i j) (ap (λ (n : ℕ). jumps + n) (ap jump is) ∙ add-zero jumps) (ap (λ (n : ℕ). restarts + n) (ap restart is) ∙ add-zero restarts)
+    ∙ count-accepted vs (after (call s v)) jumps restarts (m .1) (a .1)
 
 -- a block of `vs`: their marks, their number, and what it counts
 module _ (b : List ℕ) (form : Form) (n ssrc : ℕ) (e : blockOf b ≡ Arrivals form n ssrc) (vs : List TruePacket)
@@ -124,13 +124,13 @@ module _ (b : List ℕ) (form : Form) (n ssrc : ℕ) (e : blockOf b ≡ Arrivals
       ∙ packets-are (shapeOf form) n (bodyOf b) ∙ same
 
   pub block-counted : (s : Source) → sound s ≡ true → AnsweredFrom s vs
-      → blockCount s (width (shapeOf form)) (take (n * width (shapeOf form)) (drop bodyAt b)) ≡ Counted (runFrom s vs) 0
+      → blockCount s (width (shapeOf form)) (take (n * width (shapeOf form)) (drop bodyAt b)) ≡ Counted (runFrom s vs) 0 0
   unfolding in-block
   block-counted s g a =
       let h = accepted b e in
       let long : length in-block ≡ n * width (shapeOf form) = ap length (sym (h .block .place)) ∙ h .block .long in
       block-counts (width (shapeOf form)) n in-block (omega arith) long (h .least) (most form n (h .most)) (ap marksFit block-packets ∙ marks-fit vs block-marks) s g
-      ∙ ap (λ (l : List Packet). countAll l s 0) block-packets ∙ count-accepted vs s 0 block-marks a
+      ∙ ap (λ (l : List Packet). countAll l s 0 0) block-packets ∙ count-accepted vs s 0 0 block-marks a
     where
       most : (form : Form) (n : ℕ) → n ≤ shapeOf form .most → n ≤ 62
       most One n h = h

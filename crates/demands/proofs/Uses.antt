@@ -39,7 +39,7 @@ used : Unit {0}
 used =
     let d = demand3 wrapped (met .described) in
     let order = d .order reordered (met .again .0) (met .again .1) (met .again .2) in
-    let row = d .row text 1 3 (met .label-ok) (met .few-jumped) in
+    let row = d .row text 1 3 2 (met .label-ok) (met .few-jumped) (met .few-restarts) in
     let table = table-holds-count whole text 1 c1Packets (met .c1-described) (met .held) in
     let last = same-last-row whole cut text 1 c1Packets c1Packets (met .c1-described) (met .c1-described) (met .held) (met .recut) (λ p. refl) refl (omega arith) in
     let calls = calls-print (λ _. replicate 100 0) whole (met .bytes) (met .enough) in
@@ -47,7 +47,7 @@ used =
     let label-back = label-reads-back One text 1 (met .label-fits) (met .ssrcs .1) in
     let label-written = label-is-written One label (length text) 1 (met .label-bytes) (met .label-reads) in
     let check = one-check label label (met .label-bytes) (met .label-bytes) (met .label-long) (met .label-long) (met .label-right) (met .label-right) refl in
-    let splits = row-splits text 1 (record { source = run c1Packets; jumped = 3 }) [] (met .label-ok) in
+    let splits = row-splits text 1 (record { source = run c1Packets; jumped = 3; restarts = 2 }) [] (met .label-ok) in
     let line = line-splits text (codes "a \"b\"" ∷ []) [] (met .plain) in
     let arrivals-back = arrivals-read-back One (0 ∷ 20 ∷ []) (65534 ∷ 65535 ∷ []) (2 ∷ 2 ∷ []) 1 (met .lists-fit) (met .times-fit) (met .numbers-fit) (met .ssrcs .1) in
     let arrivals-written = arrivals-are-written One c1Block 5 1 (met .arrivals-bytes) (met .arrivals-read) in
@@ -62,7 +62,7 @@ used =
     let stops = stays-stopped reported (tick 20001) Timeout (notLater ∷ []) (met .stops) in
     let feedback = feedback-reads-back (run c1Packets) 5 9 1 (met .ssrcs .0) (met .ssrcs .1) in
     let summary = summary-reads-back (run c1Packets) 5 1 (met .ssrcs .1) in
-    let fits = row-fits text 1 (record { source = run c1Packets; jumped = 3 }) (met .ssrcs .1) (met .row-accepted) in
+    let fits = row-fits text 1 (record { source = run c1Packets; jumped = 3; restarts = 2 }) (met .ssrcs .1) (met .row-accepted) in
     let room = room-is-exact none (feedbackBytes 9 1 (run c1Packets)) (replicate 31 0) 32 (met .room) in
-    let row-room = row-room-is-exact begun begun (callNext begun label c1Block) label (replicate 38 0) 39 (met .row-room) in
+    let row-room = row-room-is-exact begun begun (callNext begun label c1Block) label (replicate 40 0) 41 (met .row-room) in
     tt

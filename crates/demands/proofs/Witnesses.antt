@@ -79,7 +79,7 @@ whole-enough : EnoughBy (λ _. replicate 100 0) (blocksOf whole) (runFrom (block
 unfolding labelBlock arrivalsBlock recordsOf recordBytes recordsBytes header filled checked bytes words onesAdd onesSum word blockOf rightCheck contentsOf labelBody labelByte every arrivalsBody countOk goodRecords Blocks.cut blocksOf runFrom nextOf arrived blockCount sound fresh hasCounted packets countAll arrival first counted distance reachOf ahead behind pack marks place moved added rowOf rowBytes asField anySpecial special doubled doubledByte decimal digitsOf signed line lost places ones
 whole-enough = taken _ refl (leb→le _ _ tt) ends
 
-row-room : stepOf begun (callNext begun label c1Block) label (replicate 38 0) ≡ step.Room 39 begun
+row-room : stepOf begun (callNext begun label c1Block) label (replicate 40 0) ≡ step.Room 41 begun
 unfolding labelBlock arrivalsBlock recordsOf recordBytes recordsBytes header filled checked bytes words onesAdd onesSum word blockOf rightCheck contentsOf labelBody labelByte every arrivalsBody countOk goodRecords callNext soundRun labelOk nextOf arrived blockCount sound fresh hasCounted packets countAll arrival first counted distance reachOf ahead behind pack marks place moved added rowOf rowBytes asField anySpecial special doubled doubledByte decimal digitsOf signed line lost places ones onesIn written
 row-room = refl
 
@@ -93,7 +93,7 @@ room : written none (feedbackBytes 9 1 (run c1Packets)) (replicate 31 0) ≡ Roo
 unfolding written feedbackOf countsBytes bytes
 room = refl
 
-row-accepted : rowFault text (record { source = run c1Packets; jumped = 3 }) ≡ none
+row-accepted : rowFault text (record { source = run c1Packets; jumped = 3; restarts = 2 }) ≡ none
 unfolding rowFault labelOk labelByte every
 row-accepted = rw c1-sound
 
@@ -120,6 +120,7 @@ met = record {
   );
   c1-described = record { few = omega arith; steady = (leZ-yes tt, leZ-yes tt, (leZ-yes tt, leZ-yes tt, (leZ-yes tt, leZ-yes tt, (leZ-yes tt, leZ-yes tt, (leZ-yes tt, leZ-yes tt, tt))))) };
   few-jumped = omega arith;
+  few-restarts = omega arith;
   c1-seen = refl;
   held = whole-held;
   recut = cut-held;

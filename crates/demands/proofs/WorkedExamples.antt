@@ -6,7 +6,7 @@ use Rattle.numbers.specs.Since.{since}
 use Rattle.source.specs.Places.{pack, place, marks, places, moved, added}
 use Rattle.source.specs.Record.{fresh, hasCounted, sound, lost}
 use Rattle.source.specs.Distances.{reachOf}
-use Rattle.source.specs.Arrivals.{counted, first, ahead, behind, distance, arrival}
+use Rattle.source.specs.Arrivals.{counted, first, ahead, behind, distance, remembering, jumped, arrival}
 use Rattle.report.specs.Carried.{countsOf}
 use Rattle.report.specs.Reports.{countsBytes, feedbackOf, summaryOf}
 use Rattle.table.specs.Decimal.{digitsOf, decimal, signed}
@@ -21,5 +21,5 @@ use Rattle.breaker.specs.Runs.{called, answersOf}
 use Rattle.demands.specs.Examples.{ExamplesHold}
 
 pub examples-hold : ExamplesHold
-unfolding ones onesIn bytes since pack place marks places moved added fresh hasCounted sound reachOf lost counted first ahead behind distance arrival countsOf countsBytes feedbackOf summaryOf digitsOf decimal signed special anySpecial doubledByte doubled asField line rowBytes settingsOk reportOk emptyWindow breaker.sound runAfter windowAfter holds ruled startOf reportOf called answersOf
+unfolding ones onesIn bytes since pack place marks places moved added fresh hasCounted sound reachOf lost counted first ahead behind distance remembering jumped arrival countsOf countsBytes feedbackOf summaryOf digitsOf decimal signed special anySpecial doubledByte doubled asField line rowBytes settingsOk reportOk emptyWindow breaker.sound runAfter windowAfter holds ruled startOf reportOf called answersOf
 examples-hold = refl

@@ -8,6 +8,7 @@ use lib.IntN.{ℤ, pos, _+ℤ_, _-ℤ_}
 use lib.ListN.{length}
 use Rattle.numbers.specs.Integers.{modulo, eqZ}
 use Rattle.source.specs.declared.Source.{Source}
+use Rattle.source.specs.declared.Remembered.the-variants.{Nothing}
 use Rattle.source.specs.Places.{bit, history}
 use Rattle.source.specs.Arrivals.{extended}
 use Rattle.format.specs.declared.Counts.{Counts}
@@ -55,7 +56,7 @@ lostOf (p ∷ ps) = highestOf (p ∷ ps) -ℤ baseOf (p ∷ ps) +ℤ pos 1 -ℤ 
 abbrev pub recent : List TruePacket → ℕ → Bool
 recent ps k = mem (highestOf ps -ℤ pos k) ps
 
--- ---- as a record, and as a report carries it
+-- ---- as a record, which remembers no number, and as a report carries it
 
 unfoldable pub countFrom : ℤ → List TruePacket → Source
 countFrom base ps = record {
@@ -67,6 +68,7 @@ countFrom base ps = record {
   ce = tally 3 ps;
   duplicates = duplicatesOf ps;
   history = history (recent ps);
+  remembered = Nothing;
 }
 
 abbrev pub count : List TruePacket → Source

@@ -12,7 +12,7 @@ use Prim.Native.Nat.{ℕ, _^_, _≤_}
 use Rattle.numbers.specs.Integers.{modulo}
 use Rattle.source.specs.Record.{freshRecord}
 use Rattle.report.specs.Reports.{fault, feedbackOf, feedbackBytes, summaryOf, summaryBytes}
-use Rattle.source.specs.Totals.{mostJumped}
+use Rattle.source.specs.Totals.{mostTold}
 use Rattle.trace.specs.Contents.{labelOk}
 use Rattle.demands.specs.Calls.{TruePacket, AnsweredFrom, arrivals, run, Described}
 use Rattle.demands.specs.Count.{baseOf, highestOf, count, countsIn, SameArrivals}
@@ -29,7 +29,7 @@ pub record Outcome (ps : List TruePacket) : Type 0 where
       → feedbackBytes sender media (run ps) ≡ feedbackOf sender media (modulo (2 ^ 32) (highestOf (arrivals ps))) (countsIn (arrivals ps))
   pub summary : (media : ℕ) → summaryBytes media (run ps) ≡ summaryOf media (countsIn (arrivals ps))
   -- and so does a row of the table, with any label that a trace can have
-  pub row : (label : List ℕ) (ssrc jumped : ℕ) → labelOk label ≡ true → jumped ≤ mostJumped → Row ps label ssrc jumped
+  pub row : (label : List ℕ) (ssrc jumped restarts : ℕ) → labelOk label ≡ true → jumped ≤ mostTold → restarts ≤ mostTold → Row ps label ssrc jumped restarts
   -- any other such list with the same arrivals and the same first one ends in the same state
   pub order : (qs : List TruePacket) → Described qs → SameArrivals (arrivals ps) (arrivals qs) → baseOf (arrivals ps) ≡ baseOf (arrivals qs) → run ps ≡ run qs
 

@@ -7,7 +7,7 @@ use lib.IntN.{ℤ, pos, negsuc}
 use Rattle.answers.specs.Refusals.{numberOf}
 use Rattle.source.specs.declared.Source.{Source}
 use Rattle.source.specs.declared.Arrival.{Arrival}
-use Rattle.source.specs.declared.Arrival.the-variants.{Accepted, Refused}
+use Rattle.source.specs.declared.Arrival.the-variants.{Accepted, Restarted, Refused}
 use Rattle.source.specs.Record.{freshRecord, lost}
 use Rattle.source.specs.Arrivals.{arrival, after}
 use Rattle.report.specs.Reports.{feedbackBytes, summaryBytes}
@@ -30,7 +30,7 @@ pub data Given : Type 0 where
   -- the feedback packet, and the summary block, of their record: the sender's and the media SSRC
   feedback : ℕ → ℕ → List Seen → Given
   summary : ℕ → List Seen → Given
-  -- the row of their record: the label, the SSRC, and none jumped
+  -- the row of their record: the label, the SSRC, none jumped and no restart
   row : List ℕ → ℕ → List Seen → Given
   -- a breaker with k intervals started at 0, the first report at 1 ms and then k more, each 5,000 ms after the one before, all with the
   -- same fraction lost, round trip, packet size and rate
@@ -48,6 +48,7 @@ pub data Outcome : Type 0 where
 abbrev pub answerTo : Arrival → List Seen → Arrival
 answerTo a [] = a
 answerTo (Accepted s) (x ∷ xs) = answerTo (arrival s (record { 0 = x .0 }) (x .1)) xs
+answerTo (Restarted s) (x ∷ xs) = answerTo (arrival s (record { 0 = x .0 }) (x .1)) xs
 answerTo (Refused refusal s) (x ∷ xs) = Refused refusal s
 
 abbrev pub values : Source → List ℤ
@@ -55,6 +56,7 @@ values s = s .highest .0 ∷ pos (s .ect0) ∷ pos (s .ect1) ∷ pos (s .ce) ∷
 
 abbrev pub countedOf : Arrival → Outcome
 countedOf (Accepted s) = counted 0 (values s)
+countedOf (Restarted s) = counted 0 (values s)
 countedOf (Refused refusal s) = counted (numberOf refusal) (values s)
 
 -- report n of a breaker, from 0
@@ -70,7 +72,7 @@ abbrev pub outcome : Given → Outcome
 outcome (arrivals xs) = countedOf (answerTo (Accepted freshRecord) xs)
 outcome (feedback sender media xs) = written (feedbackBytes sender media (after (answerTo (Accepted freshRecord) xs)))
 outcome (summary media xs) = written (summaryBytes media (after (answerTo (Accepted freshRecord) xs)))
-outcome (row label ssrc xs) = written (rowBytes label ssrc (record { source = after (answerTo (Accepted freshRecord) xs); jumped = 0 }))
+outcome (row label ssrc xs) = written (rowBytes label ssrc (record { source = after (answerTo (Accepted freshRecord) xs); jumped = 0; restarts = 0 }))
 outcome (reports k fraction rtt size rate) =
     answered (answersOf (startOf (record { k = k; m = 3; timeout = 15000; reduce = false }) 0 .breaker) (reportsUpTo k fraction rtt size rate []))
 
@@ -100,10 +102,10 @@ examples =
       outcome = written
           (0x0D ∷ 0x00 ∷ 0x00 ∷ 0x05 ∷ 0 ∷ 0 ∷ 0 ∷ 1 ∷ 0 ∷ 0 ∷ 0 ∷ 2 ∷ 0 ∷ 0 ∷ 0 ∷ 1 ∷ 0 ∷ 2 ∷ 0 ∷ 0 ∷ 0 ∷ 2 ∷ 0 ∷ 1 ∷ []);
     }
-    -- C1's row: `"probe 2, left",1,65539,2,1,2,0,2,1,0` and CR LF
+    -- C1's row, with the eleventh value 0: `"probe 2, left",1,65539,2,1,2,0,2,1,0,0` and CR LF
     ∷ record {
       given = row (112 ∷ 114 ∷ 111 ∷ 98 ∷ 101 ∷ 32 ∷ 50 ∷ 44 ∷ 32 ∷ 108 ∷ 101 ∷ 102 ∷ 116 ∷ []) 1 c1;
-      outcome = written (34 ∷ 112 ∷ 114 ∷ 111 ∷ 98 ∷ 101 ∷ 32 ∷ 50 ∷ 44 ∷ 32 ∷ 108 ∷ 101 ∷ 102 ∷ 116 ∷ 34 ∷ 44 ∷ 49 ∷ 44 ∷ 54 ∷ 53 ∷ 53 ∷ 51 ∷ 57 ∷ 44 ∷ 50 ∷ 44 ∷ 49 ∷ 44 ∷ 50 ∷ 44 ∷ 48 ∷ 44 ∷ 50 ∷ 44 ∷ 49 ∷ 44 ∷ 48 ∷ 13 ∷ 10 ∷ []);
+      outcome = written (34 ∷ 112 ∷ 114 ∷ 111 ∷ 98 ∷ 101 ∷ 32 ∷ 50 ∷ 44 ∷ 32 ∷ 108 ∷ 101 ∷ 102 ∷ 116 ∷ 34 ∷ 44 ∷ 49 ∷ 44 ∷ 54 ∷ 53 ∷ 53 ∷ 51 ∷ 57 ∷ 44 ∷ 50 ∷ 44 ∷ 49 ∷ 44 ∷ 50 ∷ 44 ∷ 48 ∷ 44 ∷ 50 ∷ 44 ∷ 49 ∷ 44 ∷ 48 ∷ 44 ∷ 48 ∷ 13 ∷ 10 ∷ []);
     }
     -- C4, and its lost in a packet
     ∷ record { given = arrivals ((10, 0) ∷ (9, 0) ∷ []); outcome = counted 0 (pos 10 ∷ pos 0 ∷ pos 0 ∷ pos 0 ∷ pos 2 ∷ negsuc 0 ∷ pos 0 ∷ []) }

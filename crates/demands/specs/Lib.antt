@@ -2,7 +2,9 @@ pub mod Calls
 pub mod Count
 pub mod RoundTrip
 pub mod TableRow
+pub mod Between
 pub mod Demand3
 pub mod PrintedTable
 pub mod Examples
 pub mod Witnesses
+pub mod WitnessesBetween

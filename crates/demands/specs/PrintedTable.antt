@@ -53,10 +53,10 @@ pub record Holds (trace label : List ℕ) (ssrc : ℕ) (ps : List TruePacket) : 
 
 -- ---- the table
 
--- one row per block, with the values of the count over the arrivals up to its end and jumped 0; k of them stand in the blocks before
+-- one row per block, with the values of the count over the arrivals up to its end, jumped 0 and restarts 0; k of them stand in the blocks before
 unfoldable pub rows : List ℕ → ℕ → List TruePacket → ℕ → List (List ℕ) → List (List ℕ)
 rows label ssrc ps k [] = []
-rows label ssrc ps k (b ∷ bs) = countRow label ssrc (take (k + countIn b) ps) 0 ∷ rows label ssrc ps (k + countIn b) bs
+rows label ssrc ps k (b ∷ bs) = countRow label ssrc (take (k + countIn b) ps) 0 0 ∷ rows label ssrc ps (k + countIn b) bs
 
 -- the head line, `front` rows, and the row `row` as the last
 abbrev pub EndsIn : List ℕ → List ℕ → Type 0
@@ -66,7 +66,7 @@ pub record Table (trace label : List ℕ) (ssrc : ℕ) (ps : List TruePacket) : 
   -- nothing is printed but the head line and one row per block
   pub lines : printed trace ≡ toOutput (headBytes ++ joined (rows label ssrc ps 0 (blocksOf trace .others)))
   -- the last has the values of the count over all arrivals, where there are some
-  pub last : 1 ≤ length ps → EndsIn trace (countRow label ssrc ps 0)
+  pub last : 1 ≤ length ps → EndsIn trace (countRow label ssrc ps 0 0)
 
 abbrev pub TableHoldsCount : Type 0
 TableHoldsCount = (trace label : List ℕ) (ssrc : ℕ) (ps : List TruePacket) → Described ps → Holds trace label ssrc ps → Table trace label ssrc ps
@@ -76,4 +76,4 @@ abbrev pub SameLastRow : Type 0
 SameLastRow =
     (trace other label : List ℕ) (ssrc : ℕ) (ps qs : List TruePacket) → Described ps → Described qs → Holds trace label ssrc ps → Holds other label ssrc qs
     → SameArrivals ps qs → baseOf ps ≡ baseOf qs → 1 ≤ length ps
-    → EndsIn trace (countRow label ssrc ps 0) × EndsIn other (countRow label ssrc ps 0)
+    → EndsIn trace (countRow label ssrc ps 0 0) × EndsIn other (countRow label ssrc ps 0 0)

@@ -10,8 +10,8 @@ use Rattle.demands.specs.Calls.{TruePacket, arrivals, run}
 use Rattle.demands.specs.Count.{highestOf, duplicatesOf, tally, lostOf}
 
 -- the texts of a row's numbers, from the count over a list of arrivals
-abbrev pub countTexts : ℕ → List TruePacket → ℕ → List (List ℕ)
-countTexts ssrc ps jumped =
+abbrev pub countTexts : ℕ → List TruePacket → ℕ → ℕ → List (List ℕ)
+countTexts ssrc ps jumped restarts =
     decimal ssrc
     ∷ signed (highestOf ps)
     ∷ decimal (tally 2 ps)
@@ -21,13 +21,14 @@ countTexts ssrc ps jumped =
     ∷ signed (lostOf ps)
     ∷ decimal (duplicatesOf ps)
     ∷ decimal jumped
+    ∷ decimal restarts
     ∷ []
 
 -- the label, and these texts
-abbrev pub countRow : List ℕ → ℕ → List TruePacket → ℕ → List ℕ
-countRow label ssrc ps jumped = line (asField label) (countTexts ssrc ps jumped)
+abbrev pub countRow : List ℕ → ℕ → List TruePacket → ℕ → ℕ → List ℕ
+countRow label ssrc ps jumped restarts = line (asField label) (countTexts ssrc ps jumped restarts)
 
 -- the row of the state at the end of a list of calls: it is not refused, and has the count's values
-pub record Row (ps : List TruePacket) (label : List ℕ) (ssrc jumped : ℕ) : Type 0 where
-  pub accepted : rowFault label (record { source = run ps; jumped = jumped }) ≡ none
-  pub bytes : rowBytes label ssrc (record { source = run ps; jumped = jumped }) ≡ countRow label ssrc (arrivals ps) jumped
+pub record Row (ps : List TruePacket) (label : List ℕ) (ssrc jumped restarts : ℕ) : Type 0 where
+  pub accepted : rowFault label (record { source = run ps; jumped = jumped; restarts = restarts }) ≡ none
+  pub bytes : rowBytes label ssrc (record { source = run ps; jumped = jumped; restarts = restarts }) ≡ countRow label ssrc (arrivals ps) jumped restarts

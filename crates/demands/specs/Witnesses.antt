@@ -14,7 +14,7 @@ use Rattle.format.specs.Blocks.{blockBytes}
 use Rattle.format.specs.Forms.{shapeOf}
 use Rattle.format.specs.declared.Form.the-variants.{One}
 use Rattle.source.specs.Record.{sound}
-use Rattle.source.specs.Totals.{freshTotals, mostJumped}
+use Rattle.source.specs.Totals.{freshTotals, mostTold}
 use Rattle.report.specs.Reports.{feedbackBytes}
 use Rattle.trace.specs.Contents.{labelOk}
 use Rattle.trace.specs.Layout.{labelBlock, arrivalsBlock}
@@ -102,7 +102,8 @@ pub record Met : Type 0 where
   pub c1-described : Described c1Packets
   pub c1-seen : map (λ p. (wireOf (p .number) .0, p .mark)) c1Packets ≡ c1
   -- its part on the table's row
-  pub few-jumped : 3 ≤ mostJumped
+  pub few-jumped : 3 ≤ mostTold
+  pub few-restarts : 2 ≤ mostTold
   -- TableHoldsCount and SameLastRow
   pub held : Holds whole text 1 c1Packets
   pub recut : Holds cut text 1 c1Packets
@@ -142,7 +143,7 @@ pub record Met : Type 0 where
   -- FeedbackReadsBack, SummaryReadsBack: the sender's SSRC and the media SSRC
   pub ssrcs : (9 < 2 ^ 32) × (1 < 2 ^ 32)
   -- RowFits
-  pub row-accepted : rowFault text (record { source = run c1Packets; jumped = 3 }) ≡ none
+  pub row-accepted : rowFault text (record { source = run c1Packets; jumped = 3; restarts = 2 }) ≡ none
   -- RoomIsExact, RowRoomIsExact: C1's feedback packet and its row, each with one byte too few
   pub room : written none (feedbackBytes 9 1 (run c1Packets)) (replicate 31 0) ≡ Room 32
-  pub row-room : stepOf begun (callNext begun label c1Block) label (replicate 38 0) ≡ step.Room 39 begun
+  pub row-room : stepOf begun (callNext begun label c1Block) label (replicate 40 0) ≡ step.Room 41 begun

@@ -1,11 +1,13 @@
--- A source's record and its 9 words: taking out and putting back are inverse. Assumes nothing.
-use mathlib.Core.Path.{_≡_, sym, ap, ap₂, _∙_}
-use mathlib.Core.List.{List, [], _∷_}
+-- A source's record and its 10 words: taking out and putting back are inverse. Assumes nothing.
+use mathlib.Core.Path.{_≡_, refl, sym, ap, ap₂, _∙_}
+use mathlib.Core.Bool.{Bool, true, false, cond}
+use mathlib.Core.List.{List, [], _∷_, _++_}
 use Prim.Native.Nat.{ℕ, zero, suc, _+_, _-_, _^_, _≤_, _<_}
 use native.Mathlib.Nat.{mod-eq-of-lt}
 use native.Mathlib.Decide.{decLe}
 use native.Mathlib.Omega.{arith}
-use lib.Dec.{leb→le, ltb→lt}
+use borrow.Author.Tests.{eqb-true, ltb-true, ne-eqb, le-leb}
+use lib.Dec.{eqb, leb, leb→le, ltb→lt}
 use lib.IntN.{ℤ, pos, negsuc}
 use lib.ListN.{length, getD, drop, drop-of-length-le}
 use lib.Seq.{drop-cons}
@@ -13,7 +15,13 @@ use Rattle.numbers.specs.Integers.{modulo}
 use Rattle.numbers.specs.Since.{signed}
 use Rattle.numbers.proofs.Integers.{minus-neg}
 use Rattle.numbers.proofs.Differences.{signed-low, signed-high}
-use Rattle.lent.specs.SourceWords.{sourceOf, sourceWords, FitsWord, RecordBack, WordsBack}
+use Rattle.answers.proofs.Conditions.{and-left}
+use Rattle.source.specs.declared.Remembered.{Remembered}
+use Rattle.source.specs.declared.Remembered.the-variants.{Nothing, Number}
+use Rattle.source.specs.declared.Source.{Source}
+use Rattle.source.specs.Record.{wireNumber}
+use Rattle.lent.specs.declared.source_words.Loaded.the-variants.{Held, Malformed}
+use Rattle.lent.specs.SourceWords.{rememberedWord, rememberedIn, sourceWith, sourceOf, isSource, loaded, sourceWords, FitsWord, RecordBack, WordsBack}
 
 -- ---- two's complement
 
@@ -37,20 +45,45 @@ word-back w h = go (decLe (2 ^ 63) w)
         ap (modulo (2 ^ 64)) (signed-high 63 w l ∙ minus-neg w (2 ^ 64) h)
         ∙ ap (λ (i : ℕ). 2 ^ 64 - suc i) (mod-eq-of-lt (omega arith)) ∙ omega arith
 
+-- ---- what is remembered
+
+remembered-back : (r : Remembered) → wireNumber r ≡ true → (rememberedIn (rememberedWord r) ≡ r) × (rememberedWord r ≤ 65536)
+remembered-back Nothing e = (refl, omega arith)
+remembered-back (Number wire) e =
+    let same : wire .0 + 1 - 1 ≡ wire .0 = omega arith in
+    let less : wire .0 < 65536 = ltb-true (wire .0) 65536 e in
+    (rw (ne-eqb (wire .0 + 1) 0 (λ z. omega arith)) (λ i. Number (record { 0 = same i })), omega arith)
+
+remembered-word : (n : ℕ) → rememberedWord (rememberedIn n) ≡ n
+remembered-word zero = refl
+remembered-word (suc n) = rw (ne-eqb (suc n) 0 (λ z. omega arith)) (omega arith)
+
 -- ---- records
 
 pub record-back : RecordBack
-unfolding sourceOf sourceWords
-record-back s base highest = λ i. record {
-  base = record { 0 = number-back (s .base .0) base i };
-  highest = record { 0 = number-back (s .highest .0) highest i };
-  notect = s .notect;
-  ect1 = s .ect1;
-  ect0 = s .ect0;
-  ce = s .ce;
-  duplicates = s .duplicates;
-  history = s .history;
-}
+unfolding sourceWith loaded sourceWords
+record-back s base highest number =
+    let r = remembered-back (s .remembered) number in
+    rw (le-leb (rememberedWord (s .remembered)) 65536 (r .1)) (ap Held (λ i. record {
+      base = record { 0 = number-back (s .base .0) base i };
+      highest = record { 0 = number-back (s .highest .0) highest i };
+      notect = s .notect;
+      ect1 = s .ect1;
+      ect0 = s .ect0;
+      ce = s .ce;
+      duplicates = s .duplicates;
+      history = s .history;
+      remembered = r .0 i;
+    }))
+
+-- the words that are a record's are 10
+pub held : (words : List ℕ) {s : Source} → loaded words ≡ Held s → (length words ≡ 10) × (isSource words ≡ true) × (s ≡ sourceOf words)
+unfolding loaded
+held words {s} e = go (isSource words) refl e
+  where
+    go : (b : Bool) → isSource words ≡ b → cond b (Held (sourceOf words)) Malformed ≡ Held s → (length words ≡ 10) × (isSource words ≡ true) × (s ≡ sourceOf words)
+    go true f e = (eqb-true (length words) 10 (and-left (eqb (length words) 10) (leb (getD words 9 0) 65536) f), f, cc)
+    go false f e = let z : _≡_ {A = ℕ} 0 1 = cc in absurd (omega arith)
 
 -- n elements from i on, one by one
 elements : List ℕ → ℕ → ℕ → List ℕ
@@ -65,7 +98,10 @@ elements-all l i (suc n) h =
     drop-cons l i 0 k ∙ ap (λ (t : List ℕ). getD l i 0 ∷ t) (elements-all l (suc i) n (omega arith))
 
 pub words-back : WordsBack
-unfolding sourceOf sourceWords elements
-words-back words h base highest =
-    ap₂ (λ (x y : ℕ). x ∷ y ∷ elements words 2 7) (word-back (getD words 0 0) base) (word-back (getD words 1 0) highest)
-    ∙ sym (elements-all words 0 9 h)
+unfolding sourceWith sourceWords elements
+words-back words s base highest e =
+    let h = held words e in
+    ap sourceWords (h .2)
+    ∙ ap₂ (λ (x y : ℕ). x ∷ y ∷ (elements words 2 7 ++ (rememberedWord (rememberedIn (getD words 9 0)) ∷ []))) (word-back (getD words 0 0) base) (word-back (getD words 1 0) highest)
+    ∙ ap (λ (z : ℕ). getD words 0 0 ∷ getD words 1 0 ∷ (elements words 2 7 ++ (z ∷ []))) (remembered-word (getD words 9 0))
+    ∙ sym (elements-all words 0 10 (h .0))

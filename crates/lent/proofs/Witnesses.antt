@@ -3,18 +3,19 @@ use mathlib.Core.Path.{refl}
 use native.Mathlib.Omega.{arith}
 use lib.Signed.{leZ-yes, ltZ-yes}
 use Rattle.numbers.specs.Since.{signed}
-use Rattle.lent.specs.SourceWords.{sourceOf}
+use Rattle.lent.specs.SourceWords.{sourceWith, sourceOf, loaded}
 use Rattle.lent.specs.BreakerWords.{breakerOf, wordsFit}
 use Rattle.lent.specs.Witnesses.{Met, someSource, someBreaker}
 use Rattle.lent.proofs.SourceLaws.{record-back, words-back}
 use Rattle.lent.proofs.Restored.{breaker-restored, read-typed, words-restored}
 
 pub met : Met
-unfolding sourceOf signed wordsFit
+unfolding sourceWith loaded signed wordsFit
 met = record {
   base-fits = record { least = leZ-yes tt; most = ltZ-yes tt };
   highest-fits = record { least = leZ-yes tt; most = ltZ-yes tt };
-  source-long = refl;
+  remembered-fits = refl;
+  source-held = refl;
   base-word = omega arith;
   highest-word = omega arith;
   breaker-typed = read-typed someBreaker;
@@ -24,8 +25,8 @@ met = record {
 
 used : Unit {0}
 used =
-    let source = record-back (sourceOf someSource) (met .base-fits) (met .highest-fits) in
-    let source-words = words-back someSource (met .source-long) (met .base-word) (met .highest-word) in
+    let source = record-back (sourceOf someSource) (met .base-fits) (met .highest-fits) (met .remembered-fits) in
+    let source-words = words-back someSource (sourceOf someSource) (met .base-word) (met .highest-word) (met .source-held) in
     let breaker = breaker-restored (breakerOf someBreaker) (met .breaker-typed) in
     let breaker-words = words-restored someBreaker (met .breaker-long) (met .breaker-fits) in
     tt

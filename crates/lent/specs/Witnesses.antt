@@ -6,12 +6,14 @@ use Prim.Native.Nat.{ℕ, _-_, _^_, _<_}
 use lib.ListN.{length, getD, replicate}
 use Rattle.answers.specs.Conditions.{all}
 use Rattle.breaker.specs.Theorems.{Typed}
-use Rattle.lent.specs.SourceWords.{sourceOf, FitsWord}
+use Rattle.source.specs.Record.{wireNumber}
+use Rattle.lent.specs.declared.source_words.Loaded.the-variants.{Held}
+use Rattle.lent.specs.SourceWords.{sourceOf, loaded, FitsWord}
 use Rattle.lent.specs.BreakerWords.{breakerOf, wordsFit}
 
--- base -1, as its two's complement, and highest 65536
+-- base -1, as its two's complement, highest 65536, and number 65535 remembered
 abbrev pub someSource : List ℕ
-someSource = (2 ^ 64 - 1) ∷ 65536 ∷ 0 ∷ 0 ∷ 1 ∷ 1 ∷ 0 ∷ 5 ∷ 0 ∷ []
+someSource = (2 ^ 64 - 1) ∷ 65536 ∷ 0 ∷ 0 ∷ 1 ∷ 1 ∷ 0 ∷ 5 ∷ 0 ∷ 65536 ∷ []
 
 -- stopped by the media rule, in a trial, with two intervals in its window
 abbrev pub someBreaker : List ℕ
@@ -21,7 +23,8 @@ pub record Met : Type 0 where
   -- RecordBack, WordsBack
   pub base-fits : FitsWord (sourceOf someSource .base .0)
   pub highest-fits : FitsWord (sourceOf someSource .highest .0)
-  pub source-long : length someSource ≡ 9
+  pub remembered-fits : wireNumber (sourceOf someSource .remembered) ≡ true
+  pub source-held : loaded someSource ≡ Held (sourceOf someSource)
   pub base-word : getD someSource 0 0 < 2 ^ 64
   pub highest-word : getD someSource 1 0 < 2 ^ 64
   -- BreakerRestored, WordsRestored

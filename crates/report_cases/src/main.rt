@@ -1,7 +1,8 @@
 // The two ECN reports written, read from standard input. Each line is written back; a writer's answer follows it, and behind that its
 // output of 40 bytes (aa where nothing was written) in hexadecimal. A line is a letter with numbers, each behind one space:
 //   n                                                               the fresh record
-//   s base highest ect0 ect1 ce notect duplicates recent older      a record with these fields
+//   s base highest ect0 ect1 ce notect duplicates recent older remembered
+//                                                                   a record with these fields
 //   a number mark                                                   the record after an arrival
 //   f sender media room                                             the feedback packet of the record, in an output of `room` bytes
 //   x media room                                                    the summary block of the record, in an output of `room` bytes

@@ -2,7 +2,6 @@
 use mathlib.Core.Path.{_≡_, refl, sym, ap, _∙_}
 use mathlib.Core.Bool.{Bool, true, false, not, or-true}
 use Prim.Native.Nat.{ℕ, zero, suc, _+_, _-_, _*_, _^_, _≤_, _<_}
-use native.Mathlib.Decide.{decLe}
 use native.Mathlib.Omega.{arith}
 use lib.Dec.{eqb, eqb→eq}
 use lib.IntN.{ℤ, pos, _+ℤ_, _-ℤ_}
@@ -13,15 +12,14 @@ use Rattle.source.specs.declared.Extended.{Extended}
 use Rattle.source.specs.declared.Source.{Source}
 use Rattle.source.specs.declared.Arrival.{Arrival}
 use Rattle.source.specs.declared.distances.Reach.{Reach}
-use Rattle.source.specs.declared.distances.Reach.the-variants as reach
 use Rattle.source.specs.Places.{bit, history, marks, moved, added}
-use Rattle.source.specs.Distances.{mostAhead, reachOf}
-use Rattle.source.specs.Record.{arrivals, sound}
-use Rattle.source.specs.Arrivals.{counted, first, ahead, behind, distance, laterBy, arrival, after}
+use Rattle.source.specs.Distances.{mostAhead}
+use Rattle.source.specs.Record.{arrivals, freshRecord, hasCounted, sound}
+use Rattle.source.specs.Arrivals.{counted, first, ahead, behind, distance, next, remembering, arrival, after}
 use Rattle.source.specs.Theorems.{SoundStays}
 use Rattle.source.proofs.Rows.{bit-le, marked, marked-one, marked-moved, marked-added, pack-lt, marks-history, places-history, places-least}
 use Rattle.source.proofs.Facts.{Facts, facts, facts-count, has-counted-sound, some-has-counted}
-use Rattle.source.proofs.Answers.{arrival-mark, arrival-full, arrival-first, arrival-later}
+use Rattle.source.proofs.Answers.{Stands, Answered, malformed, limits, full, was-first, was-ahead, was-behind, restarted, jump, answered}
 use Rattle.source.proofs.Reached.{Within, within}
 
 -- a mark of at most 3 is counted once
@@ -32,7 +30,7 @@ one-mark (suc (suc zero)) h = refl
 one-mark (suc (suc (suc zero))) h = refl
 one-mark (suc (suc (suc (suc m)))) h = absurd (omega arith)
 
-bit-not : (b : Bool) → bit b + bit (not b) ≡ 1
+pub bit-not : (b : Bool) → bit b + bit (not b) ≡ 1
 bit-not true = refl
 bit-not false = refl
 
@@ -96,27 +94,29 @@ pub distance-lt : {d : ℕ} (h : Extended) (wire : Wire) → d ≡ distance h wi
 unfolding distance
 distance-lt h wire e = rw e (modulo-lt 65536 (omega arith) (pos (wire .0) -ℤ h .0))
 
-module _ (s : Source) (mark : ℕ) (m : mark ≤ 3) (e : sound s ≡ true) (f : Facts s) (l : arrivals s < 2 ^ 48) where
-  sound-of : (next : Source) → Facts next → sound next ≡ true
-  sound-of next g = has-counted-sound next (facts-count next g)
+sound-of : (s : Source) → Facts s → sound s ≡ true
+sound-of s f = has-counted-sound s (facts-count s f)
 
-  later-sound : (r : Reach) → Within r → sound (after (laterBy s mark r)) ≡ true
-  later-sound (reach.Ahead d) w = sound-of (ahead s d mark) (ahead-facts s mark m f l d (w .0) (w .1))
-  later-sound (reach.Behind k) w = sound-of (behind s k mark) (behind-facts s mark m f l k)
-  later-sound reach.Jump w = e
+-- what is remembered is not judged in a record that has counted
+remembering-sound : (s : Source) (number : Wire) → hasCounted s ≡ true → sound (remembering s number) ≡ true
+unfolding remembering hasCounted
+remembering-sound s number e = has-counted-sound (remembering s number) e
 
 pub sound-stays : SoundStays
-sound-stays s wire mark w e = go (decLe mark 3) (decLe (2 ^ 48) (arrivals s)) (decLe 1 (arrivals s))
+sound-stays s wire mark w e = go (arrival s wire mark) (answered s wire mark)
   where
-    same : {a : Arrival} → arrival s wire mark ≡ a → after a ≡ s → sound (after (arrival s wire mark)) ≡ true
-    same p q = ap (λ (a : Arrival). sound (after a)) p ∙ ap sound q ∙ e
+    has : {r : Reach} → Stands s wire mark r → hasCounted s ≡ true
+    has t = some-has-counted s e (t .some)
 
-    go : Dec (mark ≤ 3) → Dec (2 ^ 48 ≤ arrivals s) → Dec (1 ≤ arrivals s) → sound (after (arrival s wire mark)) ≡ true
-    go (no m) n k = same (arrival-mark s wire mark e (omega arith)) refl
-    go (yes m) (yes n) k = same (arrival-full s wire mark e m n) refl
-    go (yes m) (no n) (no k) =
-        ap (λ (a : Arrival). sound (after a)) (arrival-first s wire mark e m (omega arith))
-        ∙ has-counted-sound (first s wire mark) (facts-count (first s wire mark) (first-facts s mark m wire w (omega arith)))
-    go (yes m) (no n) (yes k) =
-        ap (λ (a : Arrival). sound (after a)) (arrival-later s wire mark e m k (omega arith))
-        ∙ later-sound s mark m e (facts s (some-has-counted s e k)) (omega arith) (reachOf (distance (s .highest) wire)) (within (distance (s .highest) wire) (distance-lt (s .highest) wire refl) refl)
+    near : {r : Reach} → Stands s wire mark r → Within r
+    near t = within (distance (s .highest) wire) (distance-lt (s .highest) wire refl) (sym (t .reached))
+
+    go : (a : Arrival) → Answered s wire mark a → sound (after a) ≡ true
+    go a malformed = e
+    go a limits = e
+    go a full = e
+    go a (was-first c z) = sound-of (first s wire mark) (first-facts s mark (c .mark-fits) wire w z)
+    go a (was-ahead d t) = sound-of (ahead s d mark) (ahead-facts s mark (t .counts .mark-fits) (facts s (has t)) (t .counts .room) d (near t .0) (near t .1))
+    go a (was-behind k t) = sound-of (behind s k mark) (behind-facts s mark (t .counts .mark-fits) (facts s (has t)) (t .counts .room) k)
+    go a (restarted t) = sound-of (first freshRecord wire mark) (first-facts freshRecord mark (t .counts .mark-fits) wire w refl)
+    go a (jump t) = remembering-sound s (next wire) (has t)

@@ -5,11 +5,9 @@ pub mod Facts
 pub mod Reached
 pub mod Answers
 pub mod Kept
+pub mod Afresh
 pub mod Packets
-pub mod Bytes
-pub mod Simulated
-pub mod Chosen
-pub mod Turns
-pub mod Opened
 pub mod Totalled
 pub mod Losses
+pub mod OneCall
+pub mod Between

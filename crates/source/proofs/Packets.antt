@@ -6,18 +6,22 @@ use Prim.Native.Nat.{ℕ, zero, suc, _+_, _-_, _*_, _/_, _%_, _≤_, _<_}
 use native.Mathlib.Nat.{suc-mul, div-add-mod', div-le-self, mul-mod-left, mul-div-cancel, le-div-iff-mul-le}
 use native.Mathlib.Omega.{arith}
 use borrow.Author.Tests.{le-leb, lt-leb, leb-true, eqb-true}
-use lib.Dec.{leb}
+use lib.Dec.{eqb, leb}
 use lib.ListN.{length, getD, take, drop, length-drop}
 use lib.Seq.{getD-take, getD-drop, drop-drop, take-nil}
 use Rattle.numbers.specs.BigEndian.{word}
 use Rattle.numbers.proofs.BigEndian.{word-two, word-drop}
 use Rattle.answers.specs.Conditions.{all}
 use Rattle.answers.proofs.Conditions.{all-true, and-left, and-right}
+use Rattle.answers.specs.Refusals.{numberOf}
 use Rattle.source.specs.declared.Source.{Source}
+use Rattle.source.specs.declared.Arrival.{Arrival}
+use Rattle.source.specs.declared.Arrival.the-variants as answer
 use Rattle.source.specs.declared.BlockCount.the-variants.{Counted}
 use Rattle.source.specs.Record.{sound}
 use Rattle.source.specs.Arrivals.{arrival, after}
-use Rattle.source.specs.Blocks.{Packet, packets, marksFit, inLimits, jump, countAll}
+use Rattle.source.proofs.Rows.{bit-le}
+use Rattle.source.specs.Blocks.{Packet, packets, marksFit, inLimits, jump, restart, countAll}
 
 -- the record of `width` bytes at a place
 abbrev pub packet : ℕ → List ℕ → ℕ → Packet
@@ -173,42 +177,66 @@ module _ (width : ℕ) (s : List ℕ) where
         same = sym (here ∙ rw (le-leb (getD s (at + (width - 2)) 0) 3 g));
       }
 
+-- an answer is at most one jump, and at most one restart
+pub jump-le : (a : Arrival) → jump a ≤ 1
+jump-le (answer.Accepted s) = omega arith
+jump-le (answer.Restarted s) = omega arith
+jump-le (answer.Refused refusal s) = bit-le (eqb (numberOf refusal) 7)
+
+pub restart-le : (a : Arrival) → restart a ≤ 1
+restart-le (answer.Accepted s) = omega arith
+restart-le (answer.Restarted s) = omega arith
+restart-le (answer.Refused refusal s) = omega arith
+
 -- the count of the records that are left is the count of all
 module _ (width : ℕ) (s : List ℕ) (start : Source) where
-  pub record CountLeft (at : ℕ) (state : Source) (jumps : ℕ) : Type 0 where
+  pub record CountLeft (at : ℕ) (state : Source) (jumps restarts : ℕ) : Type 0 where
     pub left : Left width s at
     pub fit : marksFit (rest width s at left) ≡ true
     pub good : sound state ≡ true
-    pub same : countAll (rest width s at left) state jumps ≡ countAll (packets width (length s / width) s) start 0
+    pub few-jumps : jumps + left .k ≤ 62
+    pub few-restarts : restarts + left .k ≤ 62
+    pub same : countAll (rest width s at left) state jumps restarts ≡ countAll (packets width (length s / width) s) start 0 0
 
-  unfoldable pub count-start : length s % width ≡ 0 → marksFit (packets width (length s / width) s) ≡ true → sound start ≡ true → CountLeft 0 start 0
+  pub count-start : Limits width s → sound start ≡ true → CountLeft 0 start 0 0
   unfolding all-left
-  count-start e m g = record { left = all-left width s e; fit = m; good = g; same = refl }
+  count-start l g = record {
+    left = all-left width s (l .whole);
+    fit = l .fit;
+    good = g;
+    few-jumps = omega (arith, l .few);
+    few-restarts = omega (arith, l .few);
+    same = refl;
+  }
 
-  module _ (at : ℕ) (state : Source) (jumps : ℕ) (c : CountLeft at state jumps) where
-    pub count-end : 1 ≤ width → length s ≤ at → Counted state jumps ≡ countAll (packets width (length s / width) s) start 0
+  module _ (at : ℕ) (state : Source) (jumps restarts : ℕ) (c : CountLeft at state jumps restarts) where
+    pub count-end : 1 ≤ width → length s ≤ at → Counted state jumps restarts ≡ countAll (packets width (length s / width) s) start 0 0
     unfolding countAll
-    count-end w h = ap (λ (ps : List Packet). countAll ps state jumps) (sym (none-left width s at (c .left) w h)) ∙ c .same
+    count-end w h = ap (λ (ps : List Packet). countAll ps state jumps restarts) (sym (none-left width s at (c .left) w h)) ∙ c .same
 
     module _ (h : at < length s) where
-      pub next : Next width s at (c .left)
+      next : Next width s at (c .left)
       next = one-left width s at (c .left) h
 
-      pub fits : (leb (packet width s at .mark) 3 && marksFit (rest width s (at + width) (next .after))) ≡ true
+      fits : (leb (packet width s at .mark) 3 && marksFit (rest width s (at + width) (next .after))) ≡ true
       fits = sym (ap marksFit (next .is)) ∙ c .fit
 
       pub mark-here : packet width s at .mark ≤ 3
       mark-here = leb-true (packet width s at .mark) 3 (and-left (leb (packet width s at .mark) 3) _ fits)
 
-      unfoldable pub count-next : (state′ : Source) (jumps′ : ℕ) → sound state′ ≡ true
-          → state′ ≡ after (arrival state (packet width s at .wire) (packet width s at .mark))
-          → jumps′ ≡ jumps + jump (arrival state (packet width s at .wire) (packet width s at .mark))
-          → CountLeft (at + width) state′ jumps′
+      -- and there is room for one more of each
+      pub room-here : (jumps ≤ 61) × (restarts ≤ 61)
+      room-here = (omega (arith, c .few-jumps, next .one-less), omega (arith, c .few-restarts, next .one-less))
+
+      pub count-next : (a : Arrival) → a ≡ arrival state (packet width s at .wire) (packet width s at .mark) → sound (after a) ≡ true
+          → CountLeft (at + width) (after a) (jumps + jump a) (restarts + restart a)
       unfolding countAll
-      count-next state′ jumps′ g es ej = record {
+      count-next a e g = record {
         left = next .after;
         fit = and-right (leb (packet width s at .mark) 3) _ fits;
         good = g;
-        same = ap₂ (λ (t : Source) (n : ℕ). countAll (rest width s (at + width) (next .after)) t n) es ej
-            ∙ ap (λ (ps : List Packet). countAll ps state jumps) (sym (next .is)) ∙ c .same;
+        few-jumps = omega (arith, c .few-jumps, next .one-less, jump-le a);
+        few-restarts = omega (arith, c .few-restarts, next .one-less, restart-le a);
+        same = ap (λ (b : Arrival). countAll (rest width s (at + width) (next .after)) (after b) (jumps + jump b) (restarts + restart b)) e
+            ∙ ap (λ (ps : List Packet). countAll ps state jumps restarts) (sym (next .is)) ∙ c .same;
       }

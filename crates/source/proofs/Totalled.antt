@@ -6,26 +6,21 @@ use Prim.Native.Nat.{ℕ, zero, suc, _+_, _-_, _*_, _/_, _%_, _≤_, _<_}
 use native.Mathlib.Nat.{mul-mod-left, mul-div-cancel}
 use native.Mathlib.Omega.{arith}
 use borrow.Author.Tests.{le-leb}
-use lib.Dec.{eqb}
 use lib.ListN.{length, drop}
 use lib.Seq.{getD-drop}
 use Rattle.answers.specs.Conditions.{all}
-use Rattle.answers.specs.Refusals.{numberOf}
 use Rattle.answers.specs.declared.Refusal.the-variants as refusal
 use Rattle.numbers.proofs.BigEndian.{Octets, word-lt}
 use Rattle.source.specs.declared.Source.{Source}
-use Rattle.source.specs.declared.Arrival.{Arrival}
-use Rattle.source.specs.declared.Arrival.the-variants as answer
 use Rattle.source.specs.declared.BlockCount.the-variants.{Counted, Refused}
 use Rattle.source.specs.declared.Totals.{Totals}
 use Rattle.source.specs.Record.{sound}
 use Rattle.source.specs.Arrivals.{arrival, after}
-use Rattle.source.specs.Blocks.{Packet, packets, marksFit, inLimits, jump, countAll, blockCount}
-use Rattle.source.specs.Totals.{mostJumped, freshTotals, withBlock}
-use Rattle.source.proofs.Rows.{bit-le}
+use Rattle.source.specs.Blocks.{Packet, packets, marksFit, inLimits, jump, restart, countAll, blockCount}
+use Rattle.source.specs.Totals.{mostTold, freshTotals, withBlock}
 use Rattle.source.proofs.Facts.{fresh-sound}
 use Rattle.source.proofs.Kept.{sound-stays}
-use Rattle.source.proofs.Packets.{Limits, limits}
+use Rattle.source.proofs.Packets.{Limits, limits, jump-le, restart-le}
 
 -- ---- packets, each with a wire number of 16 bits
 
@@ -43,38 +38,40 @@ unfolding packets
 length-packets width zero s = refl
 length-packets width (suc n) s = ap suc (length-packets width n (drop width s))
 
--- ---- counting them gives a sound record, and no more jumps than packets
+-- ---- counting them gives a sound record, and no more jumps or restarts than packets
 
-pub record AllCounted (ps : List Packet) (s : Source) (jumps : ℕ) : Type 0 where
+pub record AllCounted (ps : List Packet) (s : Source) (jumps restarts : ℕ) : Type 0 where
   pub state : Source
-  pub more : ℕ
-  pub is : countAll ps s jumps ≡ Counted state more
+  pub jumped : ℕ
+  pub restarted : ℕ
+  pub is : countAll ps s jumps restarts ≡ Counted state jumped restarted
   pub good : sound state ≡ true
 
-pub all-counted : (ps : List Packet) (s : Source) (jumps : ℕ) → Wires ps → sound s ≡ true → AllCounted ps s jumps
+pub all-counted : (ps : List Packet) (s : Source) (jumps restarts : ℕ) → Wires ps → sound s ≡ true → AllCounted ps s jumps restarts
 unfolding countAll Wires
-all-counted [] s jumps w e = record { state = s; more = jumps; is = refl; good = e }
-all-counted (p ∷ ps) s jumps w e =
+all-counted [] s jumps restarts w e = record { state = s; jumped = jumps; restarted = restarts; is = refl; good = e }
+all-counted (p ∷ ps) s jumps restarts w e =
     let a = arrival s (p .wire) (p .mark) in
-    let rest = all-counted ps (after a) (jumps + jump a) (w .1) (sound-stays s (p .wire) (p .mark) (w .0) e) in
-    record { state = rest .state; more = rest .more; is = rest .is; good = rest .good }
+    let rest = all-counted ps (after a) (jumps + jump a) (restarts + restart a) (w .1) (sound-stays s (p .wire) (p .mark) (w .0) e) in
+    record { state = rest .state; jumped = rest .jumped; restarted = rest .restarted; is = rest .is; good = rest .good }
 
-jump-le : (a : Arrival) → jump a ≤ 1
-jump-le (answer.Accepted s) = omega arith
-jump-le (answer.Refused refusal s) = bit-le (eqb (numberOf refusal) 7)
-
-pub all-few : (ps : List Packet) (s : Source) (jumps : ℕ) {next : Source} {more : ℕ} → countAll ps s jumps ≡ Counted next more → more ≤ jumps + length ps
+pub all-few : (ps : List Packet) (s : Source) (jumps restarts : ℕ) {next : Source} {jumped restarted : ℕ} → countAll ps s jumps restarts ≡ Counted next jumped restarted
+    → (jumped ≤ jumps + length ps) × (restarted ≤ restarts + length ps)
 unfolding countAll
-all-few [] s jumps {more = more} e = let q : jumps ≡ more = cc in omega arith
-all-few (p ∷ ps) s jumps e =
+all-few [] s jumps restarts {jumped = jumped} {restarted = restarted} e =
+    let q : jumps ≡ jumped = cc in
+    let r : restarts ≡ restarted = cc in
+    (omega arith, omega arith)
+all-few (p ∷ ps) s jumps restarts e =
     let a = arrival s (p .wire) (p .mark) in
-    omega (arith, all-few ps (after a) (jumps + jump a) e, jump-le a)
+    let f = all-few ps (after a) (jumps + jump a) (restarts + restart a) e in
+    (omega (arith, f .0, jump-le a), omega (arith, f .1, restart-le a))
 
 -- ---- the call on a block
 
 -- what it counts where nothing is refused
 module _ (width n : ℕ) (bytes : List ℕ) (wide : 4 ≤ width) (long : length bytes ≡ n * width) (some : 1 ≤ n) (few : n ≤ 62) (fit : marksFit (packets width n bytes) ≡ true) where
-  pub block-counts : (s : Source) → sound s ≡ true → blockCount s width bytes ≡ countAll (packets width n bytes) s 0
+  pub block-counts : (s : Source) → sound s ≡ true → blockCount s width bytes ≡ countAll (packets width n bytes) s 0 0
   unfolding blockCount
   block-counts s g =
       let count : length bytes / width ≡ n = rw long (mul-div-cancel n (omega arith)) in
@@ -83,32 +80,36 @@ module _ (width n : ℕ) (bytes : List ℕ) (wide : 4 ≤ width) (long : length 
 
 -- and what its answer shows
 module _ (s : Source) (width : ℕ) (bytes : List ℕ) where
-  pub record BlockCounted (next : Source) (jumps : ℕ) : Type 0 where
+  pub record BlockCounted (next : Source) (jumps restarts : ℕ) : Type 0 where
     pub good : sound s ≡ true
     pub within : Limits width bytes
-    pub is : countAll (packets width (length bytes / width) bytes) s 0 ≡ Counted next jumps
+    pub is : countAll (packets width (length bytes / width) bytes) s 0 0 ≡ Counted next jumps restarts
 
-  module _ {next : Source} {jumps : ℕ} (e : blockCount s width bytes ≡ Counted next jumps) where
-    pub block-counted : BlockCounted next jumps
+  module _ {next : Source} {jumps restarts : ℕ} (e : blockCount s width bytes ≡ Counted next jumps restarts) where
+    pub block-counted : BlockCounted next jumps restarts
     unfolding blockCount
     block-counted = go (sound s) (all (inLimits width bytes)) refl refl e
       where
         go : (a b : Bool) → sound s ≡ a → all (inLimits width bytes) ≡ b
-            → cond (not a) (Refused refusal.Malformed s) (cond (not b) (Refused refusal.Limits s) (countAll (packets width (length bytes / width) bytes) s 0)) ≡ Counted next jumps
-            → BlockCounted next jumps
+            → cond (not a) (Refused refusal.Malformed s) (cond (not b) (Refused refusal.Limits s) (countAll (packets width (length bytes / width) bytes) s 0 0)) ≡ Counted next jumps restarts
+            → BlockCounted next jumps restarts
         go false b g l e = let z : _≡_ {A = ℕ} 0 1 = cc in absurd (omega arith)
         go true false g l e = let z : _≡_ {A = ℕ} 0 1 = cc in absurd (omega arith)
         go true true g l e = record { good = g; within = limits width bytes l; is = e }
 
+    few-of : (jumps ≤ 0 + length (packets width (length bytes / width) bytes)) × (restarts ≤ 0 + length (packets width (length bytes / width) bytes))
+    few-of = all-few (packets width (length bytes / width) bytes) s 0 0 (block-counted .is)
+
     pub few-jumps : jumps ≤ 62
-    few-jumps =
-        let c = block-counted in
-        omega (arith, all-few (packets width (length bytes / width) bytes) s 0 (c .is), length-packets width (length bytes / width) bytes, c .within .few)
+    few-jumps = omega (arith, few-of .0, length-packets width (length bytes / width) bytes, block-counted .within .few)
+
+    pub few-restarts : restarts ≤ 62
+    few-restarts = omega (arith, few-of .1, length-packets width (length bytes / width) bytes, block-counted .within .few)
 
     pub next-sound : Octets bytes → sound next ≡ true
     next-sound o =
         let c = block-counted in
-        let a = all-counted (packets width (length bytes / width) bytes) s 0 (packets-wires width (length bytes / width) bytes o) (c .good) in
+        let a = all-counted (packets width (length bytes / width) bytes) s 0 0 (packets-wires width (length bytes / width) bytes o) (c .good) in
         let same : a .state ≡ next = cc in
         rw same at (a .good)
 
@@ -116,14 +117,15 @@ module _ (s : Source) (width : ℕ) (bytes : List ℕ) where
 
 pub record SoundTotals (t : Totals) : Type 0 where
   pub good : sound (t .source) ≡ true
-  pub few : t .jumped ≤ mostJumped
+  pub jumped : t .jumped ≤ mostTold
+  pub restarts : t .restarts ≤ mostTold
 
 pub fresh-totals : SoundTotals freshTotals
-fresh-totals = record { good = fresh-sound; few = omega arith }
+fresh-totals = record { good = fresh-sound; jumped = omega arith; restarts = omega arith }
 
 -- a block's count keeps them sound
 pub totals-sound : (width n : ℕ) (bytes : List ℕ) → Octets bytes → (t : Totals) → SoundTotals t
-    → SoundTotals (withBlock t (countAll (packets width n bytes) (t .source) 0))
+    → SoundTotals (withBlock t (countAll (packets width n bytes) (t .source) 0 0))
 totals-sound width n bytes o t g =
-    let c = all-counted (packets width n bytes) (t .source) 0 (packets-wires width n bytes o) (g .good) in
-    rw (c .is) (record { good = c .good; few = omega arith })
+    let c = all-counted (packets width n bytes) (t .source) 0 0 (packets-wires width n bytes o) (g .good) in
+    rw (c .is) (record { good = c .good; jumped = omega arith; restarts = omega arith })

@@ -12,7 +12,7 @@ use Rattle.answers.specs.declared.Refusal.the-variants.{Malformed, Limits}
 use Rattle.format.specs.declared.Wire.{Wire}
 use Rattle.source.specs.declared.Source.{Source}
 use Rattle.source.specs.declared.Arrival.{Arrival}
-use Rattle.source.specs.declared.Arrival.the-variants.{Accepted, Refused}
+use Rattle.source.specs.declared.Arrival.the-variants.{Accepted, Restarted, Refused}
 use Rattle.source.specs.declared.BlockCount.{BlockCount}
 use Rattle.source.specs.declared.BlockCount.the-variants as block
 use Rattle.source.specs.Places.{bit}
@@ -46,17 +46,24 @@ inLimits width s =
 -- whether an answer is refusal 7
 abbrev pub jump : Arrival → ℕ
 jump (Accepted s) = 0
+jump (Restarted s) = 0
 jump (Refused refusal s) = bit (eqb (numberOf refusal) 7)
 
--- packets taken in order, each on the record that the one before handed back, going on after a refusal; and the jumps among them
-unfoldable pub countAll : List Packet → Source → ℕ → BlockCount
-countAll [] s jumps = block.Counted s jumps
-countAll (p ∷ ps) s jumps =
-    countAll ps (after (arrival s (p .wire) (p .mark))) (jumps + jump (arrival s (p .wire) (p .mark)))
+-- whether an answer is a restart
+abbrev pub restart : Arrival → ℕ
+restart (Accepted s) = 0
+restart (Restarted s) = 1
+restart (Refused refusal s) = 0
+
+-- packets taken in order, each on the record that the one before handed back, going on after a refusal; and the jumps and restarts among them
+unfoldable pub countAll : List Packet → Source → ℕ → ℕ → BlockCount
+countAll [] s jumps restarts = block.Counted s jumps restarts
+countAll (p ∷ ps) s jumps restarts =
+    countAll ps (after (arrival s (p .wire) (p .mark))) (jumps + jump (arrival s (p .wire) (p .mark))) (restarts + restart (arrival s (p .wire) (p .mark)))
 
 -- the answer to a block: refusals in the order 9, 10
 unfoldable pub blockCount : Source → ℕ → List ℕ → BlockCount
 blockCount s width bytes =
     cond (not (sound s)) (block.Refused Malformed s)
     (cond (not (all (inLimits width bytes))) (block.Refused Limits s)
-    (countAll (packets width (length bytes / width) bytes) s 0))
+    (countAll (packets width (length bytes / width) bytes) s 0 0))

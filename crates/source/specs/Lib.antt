@@ -4,5 +4,5 @@ pub mod Record
 pub mod Arrivals
 pub mod Blocks
 pub mod Totals
-pub mod Tallied
+pub mod Between
 pub mod Theorems

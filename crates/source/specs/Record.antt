@@ -1,6 +1,6 @@
 -- The record of one source and when it is sound (document 01, "Counting arrivals").
 use Prim.Native.Nat.{ℕ, _+_, _-_, _*_, _^_}
-use mathlib.Core.Bool.{Bool, not, cond, _||_}
+use mathlib.Core.Bool.{Bool, true, false, not, cond, _||_}
 use mathlib.Core.List.{List, [], _∷_}
 use lib.Dec.{eqb, leb, ltb}
 use lib.IntN.{ℤ, pos, _+ℤ_, _-ℤ_}
@@ -8,6 +8,8 @@ use lib.Signed.{leZ}
 use Rattle.answers.specs.Conditions.{all}
 use Rattle.numbers.specs.Integers.{eqZ}
 use Rattle.answers.specs.declared.Refusal.the-variants.{Malformed}
+use Rattle.source.specs.declared.Remembered.{Remembered}
+use Rattle.source.specs.declared.Remembered.the-variants.{Nothing, Number}
 use Rattle.source.specs.declared.Source.{Source}
 use Rattle.source.specs.declared.Lost.{Lost}
 use Rattle.source.specs.declared.Lost.the-variants.{Packets, Refused}
@@ -22,7 +24,17 @@ arrivals s = s .notect + s .ect1 + s .ect0 + s .ce
 abbrev pub distinct : Source → ℕ
 distinct s = arrivals s - s .duplicates
 
--- all zero
+-- no number is remembered
+abbrev pub nothing : Remembered → Bool
+nothing Nothing = true
+nothing (Number wire) = false
+
+-- a number that is remembered has 16 bits
+abbrev pub wireNumber : Remembered → Bool
+wireNumber Nothing = true
+wireNumber (Number wire) = ltb (wire .0) 65536
+
+-- all zero, and none remembered
 abbrev pub zeros : Source → List Bool
 zeros s =
     eqZ (s .base .0) (pos 0)
@@ -34,6 +46,7 @@ zeros s =
     ∷ eqb (s .duplicates) 0
     ∷ eqb (s .history .recent) 0
     ∷ eqb (s .history .older) 0
+    ∷ nothing (s .remembered)
     ∷ []
 
 abbrev pub freshRecord : Source
@@ -46,6 +59,7 @@ freshRecord = record {
   ce = 0;
   duplicates = 0;
   history = record { recent = 0; older = 0 };
+  remembered = Nothing;
 }
 
 unfoldable pub fresh : Source → Bool
@@ -53,7 +67,7 @@ fresh s = all (zeros s)
 
 -- a record that has counted: base a wire number; highest at least base; marks that sum to 1 to 2^48; duplicates below that sum; the
 -- history marks the highest, and nothing beyond place 99; no more places marked than distinct arrivals; and a highest that so many
--- arrivals can reach
+-- arrivals can reach. (It remembers none or any wire number.)
 abbrev pub conditions : Source → List Bool
 conditions s =
     leZ (pos 0) (s .base .0)

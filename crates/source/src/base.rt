@@ -1,6 +1,7 @@
 // A record with one arrival more, and the first, which sets base and highest.
 use crate::Extended;
 use crate::History;
+use crate::Remembered;
 use crate::Source;
 use format::Wire;
 ghost use mathlib.Core.Path.{_≡_};
@@ -43,6 +44,7 @@ pub fn counted(
         ce,
         duplicates,
         history,
+        remembered: Remembered::Nothing,
     }
 }
 

@@ -1,9 +1,8 @@
 // The records of one arrivals block, counted in order.
+use crate::Arrival;
 use crate::BlockCount;
 use crate::Source;
-use crate::base::first;
-use crate::soundness::is_fresh;
-use crate::tallies;
+use crate::step::step;
 use format::Wire;
 use format::block::BEHIND_TIME;
 use format::block::MOST_RECORDS;
@@ -13,8 +12,9 @@ ghost use mathlib.Core.Bool.{true};
 ghost use Prim.Native.Nat.{_/_, _%_, _≤_};
 ghost use lib.ListN.{length};
 ghost use Rattle.answers.specs.Conditions.{all};
-ghost use Rattle.source.specs.Record.{hasCounted, sound};
-ghost use Rattle.source.specs.Blocks.{packets, marksFit, inLimits, countAll};
+ghost use Rattle.source.specs.Record.{sound};
+ghost use Rattle.source.specs.Arrivals.{after};
+ghost use Rattle.source.specs.Blocks.{packets, marksFit, inLimits, jump, restart, countAll};
 
 // Whether no record has a mark above 3.
 fn marks_fit(records: &[u8], width: usize) -> bool
@@ -53,32 +53,62 @@ pub fn in_limits(records: &[u8], width: usize) -> bool
     marks_fit(records, width)
 }
 
-// The records counted in a record that has counted, going on after a jump and when full.
-fn tallied(s: Source, records: &[u8], width: usize) -> BlockCount
-    requires { ⌜ (hasCounted s ≡ true) × (4 ≤ width) × (length (now records) % width ≡ 0) × (length (now records) / width ≤ 62) × (marksFit (packets width (length (now records) / width) (now records)) ≡ true) ⌝ }
-    ensures { λ r. ⌜ r ≡ countAll (packets width (length (now (records .entry)) / width) (now (records .entry))) s 0 ⌝ }
+// The record that an answer hands back.
+fn after(answer: Arrival) -> Source
+    ensures { λ r. ⌜ r ≡ after answer ⌝ }
 {
-    let mut t = tallies::begun(s);
+    match answer {
+        Arrival::Accepted(s) => s,
+        Arrival::Restarted(s) => s,
+        Arrival::Refused(_, s) => s,
+    }
+}
+
+// 1 for refusal 7.
+fn jump(answer: Arrival) -> u64
+    ensures { λ r. ⌜ r ≡ jump answer ⌝ }
+{
+    match answer {
+        Arrival::Accepted(_) => 0,
+        Arrival::Restarted(_) => 0,
+        Arrival::Refused(refusal, _) => {
+            if refusal.number() == 7 {
+                return 1;
+            }
+            0
+        }
+    }
+}
+
+// 1 for a restart.
+fn restart(answer: Arrival) -> u64
+    ensures { λ r. ⌜ r ≡ restart answer ⌝ }
+{
+    match answer {
+        Arrival::Accepted(_) => 0,
+        Arrival::Restarted(_) => 1,
+        Arrival::Refused(_, _) => 0,
+    }
+}
+
+// The records counted one by one, going on after a refusal.
+pub fn count(s: Source, records: &[u8], width: usize) -> BlockCount
+    requires { ⌜ (sound s ≡ true) × (all (inLimits width (now records)) ≡ true) ⌝ }
+    ensures { λ r. ⌜ r ≡ countAll (packets width (length (now (records .entry)) / width) (now (records .entry))) s 0 0 ⌝ }
+{
+    let mut next = s;
+    let mut jumps: u64 = 0;
+    let mut restarts: u64 = 0;
     let mut at: usize = 0;
     while at < records.len() {
         let place = at + width - BEHIND_TIME;
         let number = join16(records[place], records[place + 1]);
         let mark = records[place + 2];
-        t = tallies::take(t, Wire(number), mark);
+        let answer = step(next, Wire(number), mark);
+        next = after(answer);
+        jumps += jump(answer);
+        restarts += restart(answer);
         at += width;
     }
-    BlockCount::Counted(tallies::restored(s, t), tallies::jumps(t))
-}
-
-// The records counted; the first of a fresh record sets its base.
-pub fn count(s: Source, records: &[u8], width: usize) -> BlockCount
-    requires { ⌜ (sound s ≡ true) × (all (inLimits width (now records)) ≡ true) ⌝ }
-    ensures { λ r. ⌜ r ≡ countAll (packets width (length (now (records .entry)) / width) (now (records .entry))) s 0 ⌝ }
-{
-    if !is_fresh(s) {
-        return tallied(s, records, width);
-    }
-    let number = join16(records[width - BEHIND_TIME], records[width - 3]);
-    let mark = records[width - 2];
-    tallied(first(s, Wire(number), mark), &records[width..], width)
+    BlockCount::Counted(next, jumps, restarts)
 }

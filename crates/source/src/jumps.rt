@@ -1,18 +1,18 @@
-// The count of jumps.
+// The counts of jumps and of restarts.
 use crate::Totals;
 ghost use mathlib.Core.Path.{_≡_};
 ghost use Prim.Native.Nat.{_+_, min};
-ghost use Rattle.source.specs.Totals.{mostJumped};
+ghost use Rattle.source.specs.Totals.{mostTold};
 
-// The jumps so far and those of a block; the count stays at its most.
-pub fn raised(jumped: u64, jumps: u64) -> u64
-    ensures { λ r. ⌜ r ≡ min (jumped + jumps) mostJumped ⌝ }
+// A count so far and that of a block; it stays at its most.
+pub fn raised(total: u64, more: u64) -> u64
+    ensures { λ r. ⌜ r ≡ min (total + more) mostTold ⌝ }
 {
-    if Totals::MOST_JUMPED < jumped {
-        return Totals::MOST_JUMPED;
+    if Totals::MOST < total {
+        return Totals::MOST;
     }
-    if Totals::MOST_JUMPED - jumped < jumps {
-        return Totals::MOST_JUMPED;
+    if Totals::MOST - total < more {
+        return Totals::MOST;
     }
-    jumped + jumps
+    total + more
 }

@@ -11,10 +11,10 @@ mod distances;
 mod jumps;
 mod loss;
 mod places;
+mod restarts;
 mod sequence;
 mod soundness;
 mod step;
-mod tallies;
 
 use answers::Refusal;
 use format::Wire;
@@ -28,7 +28,13 @@ pub struct History {
     pub older: u64,
 }
 
-// What is counted of one source. Fresh, it is all zero.
+// The wire number that would follow the last jump, until an arrival is accepted (RFC 3550, appendix A.1: bad_seq).
+pub enum Remembered {
+    Nothing,
+    Number(Wire),
+}
+
+// What is counted of one source. Fresh, it is all zero and remembers nothing.
 pub struct Source {
     pub base: Extended,
     pub highest: Extended,
@@ -38,24 +44,29 @@ pub struct Source {
     pub ce: u64,
     pub duplicates: u64,
     pub history: History,
+    pub remembered: Remembered,
 }
 
-// The answer to an arrival: the next record, or a refusal with the record that was given.
+// The answer to an arrival: the next record; the record that begins again with it; or a refusal, with the record that was given, in which refusal 7
+// alone changes what is remembered.
 pub enum Arrival {
     Accepted(Source),
+    Restarted(Source),
     Refused(Refusal, Source),
 }
 
-// The answer to a block of arrivals: the next record and how many were refused as jumps, or a refusal with the record that was given.
+// The answer to a block of arrivals: the next record, how many were refused as jumps, and how many restarts there were; or a refusal with the record
+// that was given.
 pub enum BlockCount {
-    Counted(Source, u64),
+    Counted(Source, u64, u64),
     Refused(Refusal, Source),
 }
 
-// What a table shows of one source: its record, and how many arrivals its blocks left out as jumps.
+// What a table shows of one source: its record, how many arrivals its blocks left out as jumps, and how often it began again.
 pub struct Totals {
     pub source: Source,
     pub jumped: u64,
+    pub restarts: u64,
 }
 
 // How many packets are lost, negative where packets from before the base came.
@@ -81,10 +92,12 @@ impl Source {
                 recent: 0,
                 older: 0,
             },
+            remembered: Remembered::Nothing,
         }
     }
 
-    // Counts one arrival. Refusals: 9 malformed record, 10 mark above 3, 8 full, 7 jump.
+    // Counts one arrival. Refusals: 9 malformed record, 10 mark above 3, 8 full, 7 jump. A jump is remembered by the number that would follow it; a jump
+    // that has the remembered number restarts the record.
     pub fn arrive(self, wire: Wire, mark: u8) -> Arrival
         ensures { λ r. ⌜ r ≡ arrival self wire mark ⌝ }
     {
@@ -126,26 +139,31 @@ impl Source {
 }
 
 impl Totals {
-    // The most jumps that are counted.
-    pub const MOST_JUMPED: u64 = 0x1_0000_0000_0000;
+    // The most jumps, and the most restarts, that are counted.
+    pub const MOST: u64 = 0x1_0000_0000_0000;
 
     // The totals before any arrival.
     pub fn fresh() -> Totals
         ensures { λ r. ⌜ r ≡ freshTotals ⌝ }
     {
         let source = Source::fresh();
-        Totals { source, jumped: 0 }
+        Totals {
+            source,
+            jumped: 0,
+            restarts: 0,
+        }
     }
 
-    // The totals with the count of a block: its record, and its jumps added, up to the most. A refused count changes nothing.
+    // The totals with the count of a block: its record, and its jumps and restarts added, each up to the most. A refused count changes nothing.
     pub fn with_block(self, count: BlockCount) -> Totals
         ensures { λ r. ⌜ r ≡ withBlock self count ⌝ }
     {
         match count {
             BlockCount::Refused(_, _) => self,
-            BlockCount::Counted(source, jumps) => Totals {
+            BlockCount::Counted(source, jumps, restarts) => Totals {
                 source,
                 jumped: jumps::raised(self.jumped, jumps),
+                restarts: jumps::raised(self.restarts, restarts),
             },
         }
     }

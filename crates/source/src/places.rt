@@ -61,14 +61,6 @@ pub fn near(h: History, up: u64, k: u64) -> History
     }
 }
 
-// 1 where place k is marked, once every place is moved up by `up`.
-pub fn near_mark(h: History, up: u64, k: u64) -> u64
-    requires { ⌜ (up < 64) × (k < 64) × (h .older < 2 ^ 36) ⌝ }
-    ensures { λ r. ⌜ (r ≡ bit (moved up (marks h) k)) × (r ≤ 1) ⌝ }
-{
-    (h.recent << up >> k) % 2
-}
-
 // Every place moved up by d, one at least, and place 0 marked.
 pub fn moved_on(h: History, d: u64) -> History
     requires { ⌜ (1 ≤ d) × (h .older < 2 ^ 36) ⌝ }

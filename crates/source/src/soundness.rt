@@ -3,6 +3,7 @@ use crate::Extended;
 use crate::Source;
 use crate::distances::MOST_AHEAD;
 use crate::places;
+use crate::restarts;
 use crate::sequence;
 ghost use mathlib.Core.Path.{_≡_};
 ghost use Prim.Native.Nat.{_+_, _^_, min};
@@ -34,13 +35,14 @@ pub fn arrivals(s: Source) -> u64
     n
 }
 
-// Whether every field is zero.
+// Whether every field is zero, and none is remembered.
 pub fn is_fresh(s: Source) -> bool
     ensures { λ r. ⌜ r ≡ fresh s ⌝ }
 {
     let base = s.base;
     let highest = s.highest;
     let history = s.history;
+    let remembered = s.remembered;
     if !sequence::is_zero(base) {
         return false;
     }
@@ -65,7 +67,10 @@ pub fn is_fresh(s: Source) -> bool
     if 0 < history.recent {
         return false;
     }
-    history.older == 0
+    if 0 < history.older {
+        return false;
+    }
+    restarts::is_nothing(remembered)
 }
 
 // Whether the record meets the conditions of one that has counted.

@@ -6,6 +6,7 @@ use crate::base::first;
 use crate::distances;
 use crate::distances::Reach;
 use crate::places;
+use crate::restarts;
 use crate::sequence;
 use crate::soundness::MOST;
 use answers::Refusal;
@@ -45,15 +46,17 @@ fn behind(s: Source, k: u64, mark: u8) -> Source
     counted(s, mark, base, highest, duplicates, added)
 }
 
-// An arrival after the first, by its distance d from the highest.
-fn later(s: Source, d: u64, mark: u8) -> Arrival
-    requires { ⌜ (hasCounted s ≡ true) × (arrivals s < 2 ^ 48) × (d < 65536) ⌝ }
-    ensures { λ r. ⌜ r ≡ later s d mark ⌝ }
+// An arrival after the first, by its distance from the highest.
+fn later(s: Source, wire: Wire, mark: u8) -> Arrival
+    requires { ⌜ (hasCounted s ≡ true) × (arrivals s < 2 ^ 48) ⌝ }
+    ensures { λ r. ⌜ r ≡ later s wire mark ⌝ }
 {
+    let highest = s.highest;
+    let d = sequence::distance(highest, wire);
     match distances::reach_of(d) {
         Reach::Ahead(up) => Arrival::Accepted(ahead(s, up, mark)),
         Reach::Behind(k) => Arrival::Accepted(behind(s, k, mark)),
-        Reach::Jump => Arrival::Refused(Refusal::Jump, s),
+        Reach::Jump => restarts::jumped(s, wire, mark),
     }
 }
 
@@ -69,6 +72,5 @@ pub fn step(s: Source, wire: Wire, mark: u8) -> Arrival
     if n == 0 {
         return Arrival::Accepted(first(s, wire, mark));
     }
-    let highest = s.highest;
-    later(s, sequence::distance(highest, wire), mark)
+    later(s, wire, mark)
 }

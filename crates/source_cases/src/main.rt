@@ -1,8 +1,9 @@
 // Arrivals and blocks of arrivals counted, read from standard input. Each line is written back; a call's answer follows it: the refusal's
-// number or 0, then highest, ECT(0), ECT(1), CE, not-ECT, lost and duplicates of the record that was handed back, and for a block that was
-// counted its jumps. A line is a letter with numbers, each behind one space:
+// number, 0 or `restart`, then highest, ECT(0), ECT(1), CE, not-ECT, lost, duplicates and what is remembered (0 for none, else number + 1) of the record
+// that was handed back, and for a block that was counted its jumps and restarts. A line is a letter with numbers, each behind one space:
 //   n                                                               the fresh record
-//   s base highest ect0 ect1 ce notect duplicates recent older      a record with these fields
+//   s base highest ect0 ect1 ce notect duplicates recent older remembered
+//                                                                   a record with these fields
 //   a number mark                                                   an arrival
 //   b width bytes                                                   a block, its bytes in hexadecimal
 // Any other line is a heading.
@@ -11,6 +12,7 @@ use libc::STDIN_FILENO;
 use source::Arrival;
 use source::BlockCount;
 use source::Lost;
+use source::Remembered;
 use source::Source;
 
 // The packets lost, "-" for a malformed record.
@@ -21,11 +23,18 @@ fn show_lost(lost: Lost) {
     }
 }
 
-// An answer's number and record, and the record.
-fn shown(number: u64, s: Source) -> Source {
+// 0 for none, else the number + 1.
+fn show_remembered(remembered: Remembered) {
+    match remembered {
+        Remembered::Nothing => show::number(0),
+        Remembered::Number(wire) => show::number(wire.0 as u64 + 1),
+    }
+}
+
+// An answer's record, and the record.
+fn shown(s: Source) -> Source {
     let highest = s.highest;
-    show::text(b" :");
-    show::number(number);
+    let remembered = s.remembered;
     show::signed(highest.0);
     show::number(s.ect0);
     show::number(s.ect1);
@@ -33,26 +42,39 @@ fn shown(number: u64, s: Source) -> Source {
     show::number(s.notect);
     show_lost(s.lost());
     show::number(s.duplicates);
+    show_remembered(remembered);
     s
+}
+
+// The same behind an answer's number.
+fn answered(number: u64, s: Source) -> Source {
+    show::text(b" :");
+    show::number(number);
+    shown(s)
 }
 
 // The answer to an arrival, and its record.
 fn arrived(answer: Arrival) -> Source {
     match answer {
-        Arrival::Accepted(s) => shown(0, s),
-        Arrival::Refused(refusal, s) => shown(refusal.number() as u64, s),
+        Arrival::Accepted(s) => answered(0, s),
+        Arrival::Restarted(s) => {
+            show::text(b" : restart");
+            shown(s)
+        }
+        Arrival::Refused(refusal, s) => answered(refusal.number() as u64, s),
     }
 }
 
 // The answer to a block, and its record.
 fn counted(answer: BlockCount) -> Source {
     match answer {
-        BlockCount::Counted(s, jumps) => {
-            let next = shown(0, s);
+        BlockCount::Counted(s, jumps, restarts) => {
+            let next = answered(0, s);
             show::number(jumps);
+            show::number(restarts);
             next
         }
-        BlockCount::Refused(refusal, s) => shown(refusal.number() as u64, s),
+        BlockCount::Refused(refusal, s) => answered(refusal.number() as u64, s),
     }
 }
 

@@ -79,8 +79,8 @@ minus-most false size h = omega (arith, length-u64 size h)
 abbrev pub frontOf : ℕ → ℕ → Source → List ℕ
 frontOf ssrc high s = ssrc ∷ high ∷ s .ect0 ∷ s .ect1 ∷ s .ce ∷ s .notect ∷ []
 
-abbrev pub backOf : Source → ℕ → List ℕ
-backOf s jumped = s .duplicates ∷ jumped ∷ []
+abbrev pub backOf : Totals → List ℕ
+backOf t = t .source .duplicates ∷ t .jumped ∷ t .restarts ∷ []
 
 commas-cons : (n : ℕ) (ns x : List ℕ) → behindCommas (n ∷ ns) ++ x ≡ 44 ∷ (decimal n ++ (behindCommas ns ++ x))
 unfolding behindCommas
@@ -92,6 +92,6 @@ commas-nil x = refl
 
 pub row-parts : (label : List ℕ) (ssrc : ℕ) (t : Totals) (high : ℕ) (below : Bool) (size : ℕ)
     → signed (t .source .highest .0) ≡ decimal high → signed (lost (t .source)) ≡ minus below size
-    → rowBytes label ssrc t ≡ whole label (frontOf ssrc high (t .source)) below size (backOf (t .source) (t .jumped))
+    → rowBytes label ssrc t ≡ whole label (frontOf ssrc high (t .source)) below size (backOf t)
 unfolding rowBytes line whole tail
 row-parts label ssrc t high below size e m = rw (e, m) (simp (commas-cons, commas-nil))

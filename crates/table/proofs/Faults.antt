@@ -12,7 +12,7 @@ use Rattle.answers.specs.declared.Refusal.the-variants.{Malformed, Limits}
 use Rattle.source.specs.declared.Source.{Source}
 use Rattle.source.specs.declared.Totals.{Totals}
 use Rattle.source.specs.Record.{sound}
-use Rattle.source.specs.Totals.{mostJumped}
+use Rattle.source.specs.Totals.{mostTold}
 use Rattle.source.proofs.Facts.{sound-highest}
 use Rattle.trace.specs.Contents.{labelOk}
 use Rattle.table.specs.Decimal.{decimal, signed}
@@ -27,30 +27,37 @@ module _ (label : List ℕ) (t : Totals) where
   unfolding rowFault
   fault-label e l = rw (e, l)
 
-  pub fault-jumped : sound (t .source) ≡ true → labelOk label ≡ true → mostJumped < t .jumped → rowFault label t ≡ some Limits
+  pub fault-jumped : sound (t .source) ≡ true → labelOk label ≡ true → mostTold < t .jumped → rowFault label t ≡ some Limits
   unfolding rowFault
-  fault-jumped e l h = rw (e, l, lt-leb (t .jumped) mostJumped h)
+  fault-jumped e l h = rw (e, l, lt-leb (t .jumped) mostTold h)
 
-  pub fault-none : sound (t .source) ≡ true → labelOk label ≡ true → t .jumped ≤ mostJumped → rowFault label t ≡ none
+  pub fault-restarts : sound (t .source) ≡ true → labelOk label ≡ true → t .jumped ≤ mostTold → mostTold < t .restarts → rowFault label t ≡ some Limits
   unfolding rowFault
-  fault-none e l h = rw (e, l, le-leb (t .jumped) mostJumped h)
+  fault-restarts e l j h = rw (e, l, le-leb (t .jumped) mostTold j, lt-leb (t .restarts) mostTold h)
+
+  pub fault-none : sound (t .source) ≡ true → labelOk label ≡ true → t .jumped ≤ mostTold → t .restarts ≤ mostTold → rowFault label t ≡ none
+  unfolding rowFault
+  fault-none e l j r = rw (e, l, le-leb (t .jumped) mostTold j, le-leb (t .restarts) mostTold r)
 
   -- what a row's values are that are not refused
   pub record Free : Type 0 where
     pub good : sound (t .source) ≡ true
     pub ok : labelOk label ≡ true
-    pub few : t .jumped ≤ mostJumped
+    pub jumped : t .jumped ≤ mostTold
+    pub restarts : t .restarts ≤ mostTold
 
   pub fault-free : rowFault label t ≡ none → Free
   unfolding rowFault
-  fault-free e = go (sound (t .source)) (labelOk label) (leb (t .jumped) mostJumped) refl refl refl e
+  fault-free e = go (sound (t .source)) (labelOk label) (leb (t .jumped) mostTold) (leb (t .restarts) mostTold) refl refl refl refl e
     where
-      go : (a b c : Bool) → sound (t .source) ≡ a → labelOk label ≡ b → leb (t .jumped) mostJumped ≡ c
-          → cond (not a) (some Malformed) (cond (not (b && c)) (some Limits) none) ≡ none → Free
-      go true true true g o f e = record { good = g; ok = o; few = leb-true (t .jumped) mostJumped f }
-      go true true false g o f e = let z : _≡_ {A = ℕ} 0 1 = cc in absurd (omega arith)
-      go true false c g o f e = let z : _≡_ {A = ℕ} 0 1 = cc in absurd (omega arith)
-      go false b c g o f e = let z : _≡_ {A = ℕ} 0 1 = cc in absurd (omega arith)
+      go : (a b c d : Bool) → sound (t .source) ≡ a → labelOk label ≡ b → leb (t .jumped) mostTold ≡ c → leb (t .restarts) mostTold ≡ d
+          → cond (not a) (some Malformed) (cond (not (b && (c && d))) (some Limits) none) ≡ none → Free
+      go true true true true g o j r e =
+          record { good = g; ok = o; jumped = leb-true (t .jumped) mostTold j; restarts = leb-true (t .restarts) mostTold r }
+      go true true true false g o j r e = let z : _≡_ {A = ℕ} 0 1 = cc in absurd (omega arith)
+      go true true false d g o j r e = let z : _≡_ {A = ℕ} 0 1 = cc in absurd (omega arith)
+      go true false c d g o j r e = let z : _≡_ {A = ℕ} 0 1 = cc in absurd (omega arith)
+      go false b c d g o j r e = let z : _≡_ {A = ℕ} 0 1 = cc in absurd (omega arith)
 
 -- the highest number of a sound record is not negative
 pub highest-decimal : (s : Source) → sound s ≡ true → signed (s .highest .0) ≡ decimal (natAbs (s .highest .0))

@@ -93,7 +93,7 @@ row-fits label ssrc t h e =
             decimal-most (s .ect1) (omega arith),
             (
               decimal-most (s .ce) (omega arith),
-              (decimal-most (s .notect) (omega arith), (n .lost, (decimal-most (s .duplicates) (omega (arith, n .duplicates)), (decimal-most (t .jumped) (omega (arith, free .few)), tt)))),
+              (decimal-most (s .notect) (omega arith), (n .lost, (decimal-most (s .duplicates) (omega (arith, n .duplicates)), (decimal-most (t .jumped) (omega (arith, free .jumped)), (decimal-most (t .restarts) (omega (arith, free .restarts)), tt))))),
             ),
           ),
         ),

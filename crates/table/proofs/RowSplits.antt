@@ -50,6 +50,7 @@ module _ (ssrc : ℕ) (t : Totals) where
         signed-field (lost (t .source)) .0 .bare,
         decimal-field (t .source .duplicates) .0 .bare,
         decimal-field (t .jumped) .0 .bare,
+        decimal-field (t .restarts) .0 .bare,
       )
 
   readable : (label : List ℕ) → plain label ≡ true → allPlain (label ∷ numbers ssrc t) ≡ true
@@ -66,11 +67,12 @@ module _ (ssrc : ℕ) (t : Totals) where
         signed-field (lost (t .source)) .0 .plain,
         decimal-field (t .source .duplicates) .0 .plain,
         decimal-field (t .jumped) .0 .plain,
+        decimal-field (t .restarts) .0 .plain,
       )
 
   says : (label : List ℕ) → Says label ssrc t (label ∷ numbers ssrc t)
   says label = record {
-    ten = refl;
+    eleven = refl;
     label = refl;
     ssrc = decimal-field ssrc .1;
     highest = signed-field (t .source .highest .0) .1;
@@ -81,6 +83,7 @@ module _ (ssrc : ℕ) (t : Totals) where
     lost = signed-field (lost (t .source)) .1;
     duplicates = decimal-field (t .source .duplicates) .1;
     jumped = decimal-field (t .jumped) .1;
+    restarts = decimal-field (t .restarts) .1;
   }
 
 pub row-splits : RowSplits

@@ -8,7 +8,7 @@ use Rattle.answers.specs.declared.Refusal.{Refusal}
 use Rattle.answers.specs.declared.Refusal.the-variants.{Malformed, Limits}
 use Rattle.source.specs.declared.Totals.{Totals}
 use Rattle.source.specs.Record.{sound, lost}
-use Rattle.source.specs.Totals.{mostJumped}
+use Rattle.source.specs.Totals.{mostTold}
 use Rattle.trace.specs.Contents.{labelOk}
 use Rattle.table.specs.Texts.{codes}
 use Rattle.table.specs.Decimal.{decimal, signed}
@@ -29,12 +29,13 @@ names =
     ∷ codes "lost"
     ∷ codes "dup"
     ∷ codes "jumped"
+    ∷ codes "restarts"
     ∷ []
 
 unfoldable pub headBytes : List ℕ
 headBytes = line labelName names
 
--- the texts of a row's nine numbers
+-- the texts of a row's ten numbers
 abbrev pub numbers : ℕ → Totals → List (List ℕ)
 numbers ssrc t =
     decimal ssrc
@@ -46,16 +47,17 @@ numbers ssrc t =
     ∷ signed (lost (t .source))
     ∷ decimal (t .source .duplicates)
     ∷ decimal (t .jumped)
+    ∷ decimal (t .restarts)
     ∷ []
 
 unfoldable pub rowBytes : List ℕ → ℕ → Totals → List ℕ
 rowBytes label ssrc t = line (asField label) (numbers ssrc t)
 
--- the refusals of a row's values: 9 a malformed record, 10 a label outside the trace rules or more than 2^48 jumps
+-- the refusals of a row's values: 9 a malformed record, 10 a label outside the trace rules or more than 2^48 jumps or restarts
 unfoldable pub rowFault : List ℕ → Totals → Option Refusal
 rowFault label t =
     cond (not (sound (t .source))) (some Malformed)
-    (cond (not (labelOk label && leb (t .jumped) mostJumped)) (some Limits)
+    (cond (not (labelOk label && (leb (t .jumped) mostTold && leb (t .restarts) mostTold))) (some Limits)
     none)
 
 -- `refused N block I`

@@ -43,13 +43,13 @@ SignedField = (z : ℤ) → IsNumber (signed z) × (signedIn (signed z) ≡ some
 
 -- ---- the table's lines
 
--- the head line splits into the names of the ten columns
+-- the head line splits into the names of the eleven columns
 abbrev pub HeadSplits : Type 0
 HeadSplits = (rest : List ℕ) → split (headBytes ++ rest) ≡ some (record { fields = labelName ∷ names; rest = rest })
 
--- ten fields that say the ten values of a row
+-- eleven fields that say the eleven values of a row
 pub record Says (text : List ℕ) (from : ℕ) (t : Totals) (fields : List (List ℕ)) : Type 0 where
-  pub ten : length fields ≡ 10
+  pub eleven : length fields ≡ 11
   pub label : getD fields 0 [] ≡ text
   pub ssrc : numberIn (getD fields 1 []) ≡ some from
   pub highest : signedIn (getD fields 2 []) ≡ some (t .source .highest .0)
@@ -60,6 +60,7 @@ pub record Says (text : List ℕ) (from : ℕ) (t : Totals) (fields : List (List
   pub lost : signedIn (getD fields 7 []) ≡ some (lostOf (t .source))
   pub duplicates : numberIn (getD fields 8 []) ≡ some (t .source .duplicates)
   pub jumped : numberIn (getD fields 9 []) ≡ some (t .jumped)
+  pub restarts : numberIn (getD fields 10 []) ≡ some (t .restarts)
 
 -- a row with any label that a trace can have splits into such fields, and what follows the row is left over
 abbrev pub RowSplits : Type 0
@@ -69,9 +70,9 @@ RowSplits =
     × (split (rowBytes label ssrc t ++ rest) ≡ some (record { fields = fields; rest = rest }))
     × Says label ssrc t fields
 
--- no row is longer: its label has at most 502 double quotes, its nine numbers at most 21 bytes each, a comma before each, and CR LF
+-- no row is longer: its label has at most 502 double quotes, its ten numbers at most 21 bytes each, a comma before each, and CR LF
 abbrev pub rowMost : ℕ
-rowMost = 1206
+rowMost = 1228
 
 abbrev pub RowFits : Type 0
 RowFits = (label : List ℕ) (ssrc : ℕ) (t : Totals) → ssrc < 2 ^ 32 → rowFault label t ≡ none → length (rowBytes label ssrc t) ≤ rowMost

@@ -20,19 +20,19 @@ mod refused;
 pub fn write_head(out: &mut [u8]) -> Written
     ensures { λ r. ⌜ Wrote none headBytes (now (out .entry)) r (now (out .exit)) ⌝ }
 {
-    if out.len() < 56 {
-        return Written::Room(56);
+    if out.len() < 65 {
+        return Written::Room(65);
     }
     put_bytes(
-        b"label,ssrc,highest,ect0,ect1,ce,notect,lost,dup,jumped\r\n",
+        b"label,ssrc,highest,ect0,ect1,ce,notect,lost,dup,jumped,restarts\r\n",
         out,
         0,
     );
-    Written::Length(56)
+    Written::Length(65)
 }
 
-// Writes a row at the front of out: the label, the SSRC, the record's counts and the jumps. Refusals: 9 malformed record, 10 a label outside
-// the trace rules or more than 2^48 jumps, 12 output too small.
+// Writes a row at the front of out: the label, the SSRC, the record's counts, the jumps and the restarts. Refusals: 9 malformed record, 10 a label
+// outside the trace rules or more than 2^48 jumps or restarts, 12 output too small.
 pub fn write_row(label: &[u8], ssrc: u32, t: Totals, out: &mut [u8]) -> Written
     ensures { λ r. ⌜ Wrote (rowFault (now (label .entry)) t) (rowBytes (now (label .entry)) ssrc t) (now (out .entry)) r (now (out .exit)) ⌝ }
 {
@@ -43,7 +43,10 @@ pub fn write_row(label: &[u8], ssrc: u32, t: Totals, out: &mut [u8]) -> Written
     if !is_label(label) {
         return Written::Refused(Refusal::Limits);
     }
-    if Totals::MOST_JUMPED < t.jumped {
+    if Totals::MOST < t.jumped {
+        return Written::Refused(Refusal::Limits);
+    }
+    if Totals::MOST < t.restarts {
         return Written::Refused(Refusal::Limits);
     }
     lines::row(label, ssrc, t, lost, out)

@@ -140,7 +140,7 @@ pub fn row(label: &[u8], ssrc: u32, t: Totals, lost: i64, out: &mut [u8]) -> Wri
     let highest = s.highest;
     let high = magnitude(highest.0);
     let front = [ssrc as u64, high, s.ect0, s.ect1, s.ce, s.notect];
-    let back = [s.duplicates, t.jumped];
+    let back = [s.duplicates, t.jumped, t.restarts];
     let size = magnitude(lost);
     line(label, &front, lost < 0, size, &back, out)
 }

@@ -2,10 +2,11 @@
 // on, stands what the output of `room` bytes begins with: `shown` bytes, dots where nothing was written. A line is a letter with numbers,
 // each behind one space:
 //   n                                                               the fresh record
-//   s base highest ect0 ect1 ce notect duplicates recent older      a record with these fields
+//   s base highest ect0 ect1 ce notect duplicates recent older remembered
+//                                                                   a record with these fields
 //   a number mark                                                   the record after an arrival
 //   h room shown                                                    the head line
-//   r room shown ssrc jumped label                                  the row of the record, its label in apostrophes or hexadecimal
+//   r room shown ssrc jumped restarts label                         the row of the record, its label in apostrophes or hexadecimal
 //   e room shown refusal block                                      the line of a refused block
 // Any other line is a heading.
 use answers::Written;
@@ -17,10 +18,11 @@ use source::Totals;
 // The row of a line.
 fn row(s: Source, line: &[u8], out: &mut [u8]) -> Written {
     let mut space = [0u8; 1024];
-    let label = cases::bytes(line, 5, &mut space);
+    let label = cases::bytes(line, 6, &mut space);
     let totals = Totals {
         source: s,
         jumped: cases::number(line, 4),
+        restarts: cases::number(line, 5),
     };
     table::write_row(label, cases::number32(line, 3), totals, out)
 }

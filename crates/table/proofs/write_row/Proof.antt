@@ -1,6 +1,7 @@
 -- `table::write_row` meets its contract. Assumes nothing.
 use borrow.Author.Needs.{needs}
-use mathlib.Core.Path.{refl, sym, _∙_}
+use mathlib.Core.Path.{_≡_, refl, sym, _∙_}
+use mathlib.Core.Bool.{true}
 use Prim.Native.Nat.{_-_}
 use denote.Ref.{now}
 use Rattle.answers.proofs.Stores.{wrote-refused, wrote-same}
@@ -8,8 +9,9 @@ use Rattle.answers.proofs.Conditions.{was-true, was-false}
 use Rattle.numbers.proofs.Signed.{seen-is}
 use Rattle.source.proofs.Losses.{Counted, lost-refused, lost-packets}
 use Rattle.trace.proofs.Decisions.{label-short}
+use Rattle.trace.specs.Contents.{labelOk}
 use Rattle.table.specs.Lines.{rowBytes}
-use Rattle.table.proofs.Faults.{fault-record, fault-label, fault-jumped, fault-none}
+use Rattle.table.proofs.Faults.{fault-record, fault-label, fault-jumped, fault-restarts, fault-none}
 use Rattle.table.proofs.write_row.Statement.{statement}
 use Rattle.table.proofs.write_row.Tie as tie
 
@@ -38,24 +40,37 @@ returns-2 c =
     let a = c .before .before .before .before .before .before .before .before .before .args in
     wrote-refused (rowBytes (now (a .label)) (a .ssrc) (a .t)) (now (a .out)) (fault-label (now (a .label)) (a .t) (known (c .before .before) .good) (was-false (c .before .is-label .ensures) (c .if1 .taken)))
 
+-- behind the test of the label
+label-ok : (c : tie.Else1) → labelOk (now (c .before .before .before .before .before .before .before .before .before .args .label)) ≡ true
+label-ok c = was-true (c .before .is-label .ensures) (c .if1 .left)
+
 returns-3 : tie.Need-returns-3
 returns-3 c =
     let a = c .before .before .before .before .before .before .before .before .before .before .before .args in
-    wrote-refused (rowBytes (now (a .label)) (a .ssrc) (a .t)) (now (a .out)) (fault-jumped (now (a .label)) (a .t) (known (c .before .before .before .before) .good) (was-true (c .before .before .before .is-label .ensures) (c .before .before .if1 .left)) (c .if2 .taken))
+    let e = c .before .before in
+    wrote-refused (rowBytes (now (a .label)) (a .ssrc) (a .t)) (now (a .out)) (fault-jumped (now (a .label)) (a .t) (known (e .before .before) .good) (label-ok e) (c .if2 .taken))
+
+returns-4 : tie.Need-returns-4
+returns-4 c =
+    let a = c .before .before .before .before .before .before .before .before .before .before .before .before .before .args in
+    let e = c .before .before .before .before in
+    wrote-refused (rowBytes (now (a .label)) (a .ssrc) (a .t)) (now (a .out)) (fault-restarts (now (a .label)) (a .t) (known (e .before .before) .good) (label-ok e) (c .before .before .if2 .left) (c .if3 .taken))
 
 row-requires : tie.Need-row-requires
 row-requires c κs =
-    let s = c .before .before .before .before .before .before .before .before .before .before .before .before in
-    let n = known (c .before .before .before .before .before) in
-    (label-short (now (s .args .label)) (was-true (c .before .before .before .before .is-label .ensures) (c .before .before .before .if1 .left)), n .good, seen-is (c .before .before .before .before .before .before .lost2 .given .0 .0) (search needs) ∙ n .is)
+    let s = c .before .before .before .before .before .before .before .before .before .before .before .before .before .before in
+    let e = c .before .before .before .before .before in
+    let n = known (e .before .before) in
+    (label-short (now (s .args .label)) (label-ok e), n .good, seen-is (e .before .before .before .lost2 .given .0 .0) (search needs) ∙ n .is)
 
 same-length : tie.Need-same-length
 same-length c = search needs
 
-returns-4 : tie.Need-returns-4
-returns-4 c =
-    let a = c .before .before .before .before .before .before .before .before .before .before .before .before .before .before .before .args in
-    let fault = fault-none (now (a .label)) (a .t) (known (c .before .before .before .before .before .before .before .before) .good) (was-true (c .before .before .before .before .before .before .before .is-label .ensures) (c .before .before .before .before .before .before .if1 .left)) (c .before .before .before .before .if2 .left) in
+returns-5 : tie.Need-returns-5
+returns-5 c =
+    let a = c .before .before .before .before .before .before .before .before .before .before .before .before .before .before .before .before .before .args in
+    let e = c .before .before .before .before .before .before .before .before in
+    let fault = fault-none (now (a .label)) (a .t) (known (e .before .before) .good) (label-ok e) (c .before .before .before .before .before .before .if2 .left) (c .before .before .before .before .if3 .left) in
     wrote-same (sym fault) refl (c .before .before .row .ensures)
 
 pub write-row-spec : {M : Type 1} → statement M
@@ -69,6 +84,7 @@ write-row-spec =
     is-label-requires
     returns-2
     returns-3
+    returns-4
     row-requires
     same-length
-    returns-4)
+    returns-5)

@@ -14,7 +14,7 @@ write-head-requires c κs = search needs
 
 length-requires : tie.Need-length-requires
 unfolding headBytes line
-length-requires c κs = omega (arith, wrote-size 56 (λ _. leb→le 56 56 tt) (c .before .before .write-head .ensures))
+length-requires c κs = omega (arith, wrote-size 65 (λ _. leb→le 65 65 tt) (c .before .before .write-head .ensures))
 
 same-length : tie.Need-same-length
 same-length c = search needs

@@ -1,75 +1,50 @@
 -- `lent::source_words::load` meets its contract. Assumes nothing.
 use borrow.Author.Needs.{needs}
-use mathlib.Core.Path.{ap, _∙_}
-use Rattle.numbers.specs.Since.{signed}
-use Rattle.numbers.proofs.Signed.{seen-is}
-use Rattle.lent.specs.SourceWords.{sourceOf}
+use mathlib.Core.Path.{sym, ap, ap₂, _∙_}
+use borrow.Author.Tests.{eq-eqb, ne-eqb, le-leb, lt-leb}
+use native.Mathlib.Omega.{arith}
+use denote.Ref.{now}
+use lib.ListN.{length, getD}
+use Rattle.source.specs.declared.Remembered.{Remembered}
+use Rattle.lent.specs.declared.source_words.Loaded.the-variants.{Held}
+use Rattle.lent.specs.SourceWords.{rememberedIn, sourceWith, loaded}
 use Rattle.lent.proofs.source_words.load.Statement.{statement}
 use Rattle.lent.proofs.source_words.load.Tie as tie
+
+returns : tie.Need-returns
+unfolding loaded
+returns c = rw (ne-eqb (length (now (c .before .before .args .words))) 10 (c .if1 .taken))
 
 word-at-requires : tie.Need-word-at-requires
 word-at-requires c κs = search needs
 
-number-requires : tie.Need-number-requires
-number-requires c κs = search needs
+returns-2 : tie.Need-returns-2
+unfolding loaded
+returns-2 c =
+    let words = now (c .before .before .before .before .args .words) in
+    rw (eq-eqb (length words) 10 (c .before .before .if1 .left), lt-leb (getD words 9 0) 65536 (omega (arith, c .before .word-at .ensures, c .if2 .taken)))
 
-word-at-requires-2 : tie.Need-word-at-requires-2
-word-at-requires-2 c κs = search needs
+remembered-in-requires : tie.Need-remembered-in-requires
+remembered-in-requires c κs = search needs
 
-number-requires-2 : tie.Need-number-requires-2
-number-requires-2 c κs = search needs
+source-with-requires : tie.Need-source-with-requires
+source-with-requires c κs = search needs
 
-word-at-requires-3 : tie.Need-word-at-requires-3
-word-at-requires-3 c κs = search needs
-
-word-at-requires-4 : tie.Need-word-at-requires-4
-word-at-requires-4 c κs = search needs
-
-word-at-requires-5 : tie.Need-word-at-requires-5
-word-at-requires-5 c κs = search needs
-
-word-at-requires-6 : tie.Need-word-at-requires-6
-word-at-requires-6 c κs = search needs
-
-word-at-requires-7 : tie.Need-word-at-requires-7
-word-at-requires-7 c κs = search needs
-
-word-at-requires-8 : tie.Need-word-at-requires-8
-word-at-requires-8 c κs = search needs
-
-word-at-requires-9 : tie.Need-word-at-requires-9
-word-at-requires-9 c κs = search needs
-
-returns : tie.Need-returns
-unfolding sourceOf
-returns c =
-    let base = c .before .before .before .before .before .before .before .before .before in
-    let highest = c .before .before .before .before .before .before .before in
-    λ i.
-    record {
-      base = record { 0 = (seen-is (base .number .result) (search needs) ∙ base .number .ensures ∙ ap (signed 64) (base .before .word-at .ensures)) i };
-      highest = record { 0 = (seen-is (highest .number2 .result) (search needs) ∙ highest .number2 .ensures ∙ ap (signed 64) (highest .before .word-at2 .ensures)) i };
-      notect = c .before .before .before .before .before .before .word-at3 .ensures i;
-      ect1 = c .before .before .before .before .before .word-at4 .ensures i;
-      ect0 = c .before .before .before .before .word-at5 .ensures i;
-      ce = c .before .before .before .word-at6 .ensures i;
-      duplicates = c .before .before .word-at7 .ensures i;
-      history = record { recent = c .before .word-at8 .ensures i; older = c .word-at9 .ensures i };
-    }
+returns-3 : tie.Need-returns-3
+unfolding loaded
+returns-3 c =
+    let words = now (c .before .before .before .before .before .before .args .words) in
+    let last = c .before .before .before .word-at .ensures in
+    rw (eq-eqb (length words) 10 (c .before .before .before .before .if1 .left), le-leb (getD words 9 0) 65536 (omega (arith, last, c .before .before .if2 .left)))
+    (ap Held (c .source-with .ensures ∙ ap (sourceWith words) (c .before .remembered-in .ensures ∙ ap rememberedIn last)))
 
 pub load-spec : {M : Type 1} → statement M
 load-spec =
     tie.close
     (tie.spec
+    returns
     word-at-requires
-    number-requires
-    word-at-requires-2
-    number-requires-2
-    word-at-requires-3
-    word-at-requires-4
-    word-at-requires-5
-    word-at-requires-6
-    word-at-requires-7
-    word-at-requires-8
-    word-at-requires-9
-    returns)
+    returns-2
+    remembered-in-requires
+    source-with-requires
+    returns-3)

@@ -1,7 +1,7 @@
 -- `lent::source_words::store` meets its contract. Assumes nothing.
 use borrow.Author.Needs.{needs}
 use mathlib.Core.Path.{ap, ap₂, _∙_}
-use mathlib.Core.List.{[], _∷_}
+use mathlib.Core.List.{List, [], _∷_}
 use Prim.Native.Nat.{ℕ, _^_}
 use denote.Ref.{now}
 use lib.Seq.{sets}
@@ -17,6 +17,9 @@ complement-requires c κs = search needs
 complement-requires-2 : tie.Need-complement-requires-2
 complement-requires-2 c κs = search needs
 
+word-of-requires : tie.Need-word-of-requires
+word-of-requires c κs = search needs
+
 slice-aggregate-put-all : tie.Need-slice-aggregate-put-all
 slice-aggregate-put-all c = search needs
 
@@ -29,12 +32,14 @@ same-length c = search needs
 returns : tie.Need-returns
 unfolding sourceWords
 returns c =
-    let a = c .before .before .before .before .before .before .before .before .before .before .before .before .before .args in
+    let a = c .before .before .before .before .before .before .before .before .before .before .before .before .before .before .args in
     let s = a .s in
-    let base = c .before .before .before .before .before .before .before .complement .ensures ∙ ap (modulo (2 ^ 64)) (seen-is (s .base .0) (search needs)) in
-    let highest = c .before .before .before .before .before .complement2 .ensures ∙ ap (modulo (2 ^ 64)) (seen-is (s .highest .0) (search needs)) in
-    let tail = s .notect ∷ s .ect1 ∷ s .ect0 ∷ s .ce ∷ s .duplicates ∷ s .history .recent ∷ s .history .older ∷ [] in
-    c .before .before .put-all .ensures ∙ ap₂ (λ (x y : ℕ). sets (now (a .words)) 0 (x ∷ y ∷ tail)) base highest
+    let base = c .before .before .before .before .before .before .before .before .complement .ensures ∙ ap (modulo (2 ^ 64)) (seen-is (s .base .0) (search needs)) in
+    let highest = c .before .before .before .before .before .before .complement2 .ensures ∙ ap (modulo (2 ^ 64)) (seen-is (s .highest .0) (search needs)) in
+    let tail : ℕ → List ℕ = λ z. s .notect ∷ s .ect1 ∷ s .ect0 ∷ s .ce ∷ s .duplicates ∷ s .history .recent ∷ s .history .older ∷ z ∷ [] in
+    c .before .before .put-all .ensures
+    ∙ ap₂ (λ (x y : ℕ). sets (now (a .words)) 0 (x ∷ y ∷ tail (c .before .before .before .before .before .word-of .result))) base highest
+    ∙ ap (λ (z : ℕ). sets (now (a .words)) 0 (modulo (2 ^ 64) (s .base .0) ∷ modulo (2 ^ 64) (s .highest .0) ∷ tail z)) (c .before .before .before .before .before .word-of .ensures)
 
 pub store-spec : {M : Type 1} → statement M
 store-spec =
@@ -42,6 +47,7 @@ store-spec =
     (tie.spec
     complement-requires
     complement-requires-2
+    word-of-requires
     slice-aggregate-put-all
     put-all-requires
     same-length

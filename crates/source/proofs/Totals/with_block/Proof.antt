@@ -14,13 +14,19 @@ enum-known-count c = search needs
 raised-requires : tie.Need-raised-requires
 raised-requires c κs = search needs
 
+raised-requires-2 : tie.Need-raised-requires-2
+raised-requires-2 c κs = search needs
+
 returns : tie.Need-returns
 returns c = search needs
 
 returns-2 : tie.Need-returns-2
 returns-2 c =
-    let is = c .before .before .count .given in
-    (λ i. record { source = is .0 .0; jumped = c .raised .ensures i }) ∙ sym (ap (withBlock (c .before .before .before .before .args .self)) (is .1))
+    let is = c .before .before .before .count .given in
+    (λ i. record { source = is .0 .0; jumped = c .before .raised .ensures i; restarts = c .raised2 .ensures i })
+    ∙ sym (ap (withBlock (c .before .before .before .before .before .args .self)) (is .1))
 
 pub with-block-spec : {M : Type 1} → statement M
-with-block-spec = tie.close (tie.spec enum-told enum-known-count raised-requires returns returns-2)
+with-block-spec =
+    tie.close
+    (tie.spec enum-told enum-known-count raised-requires raised-requires-2 returns returns-2)

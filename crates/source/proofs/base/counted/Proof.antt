@@ -1,5 +1,6 @@
 -- `source::base::counted` meets its contract. Assumes nothing.
 use borrow.Author.Needs.{needs}
+use Rattle.source.specs.declared.Remembered.the-variants.{Nothing}
 use Rattle.source.specs.Arrivals.{counted}
 use Rattle.source.proofs.base.counted.Statement.{statement}
 use Rattle.source.proofs.base.counted.Tie as tie
@@ -28,6 +29,7 @@ returns c =
       ce = c .raised4 .ensures i;
       duplicates = c .before .before .before .before .args .duplicates;
       history = c .before .before .before .before .args .history;
+      remembered = Nothing;
     }
 
 pub counted-spec : {M : Type 1} → statement M

@@ -1,115 +1,145 @@
 -- `source::block::count` meets its contract. Assumes nothing.
 use borrow.Author.Needs.{needs}
-use mathlib.Core.Path.{_≡_, refl, sym, subst, _∙_}
+use mathlib.Core.Path.{_≡_, refl, sym, ap, ap₂, subst, _∙_}
 use native.Mathlib.Omega.{arith}
-use Prim.Native.Nat.{ℕ, _-_}
+use Prim.Native.Nat.{ℕ, _+_, _-_, _≤_, _<_}
 use mathlib.Core.Bool.{true}
-use lib.ListN.{length, take, drop, length-drop}
-use lib.Seq.{take-all}
-use mathlib.Core.List.{List}
+use lib.ListN.{length}
 use denote.Ref.{now}
-use Rattle.answers.proofs.Conditions.{was-true, was-false}
+use Rattle.answers.specs.Conditions.{all}
 use Rattle.source.specs.declared.Source.{Source}
-use Rattle.source.specs.Record.{fresh}
-use Rattle.source.proofs.Facts.{sound-has-counted, fresh-none}
-use Rattle.source.proofs.Packets.{Limits, limits, front-whole, front-is}
-use Rattle.source.proofs.Opened.{Rest, opened}
+use Rattle.source.specs.declared.Arrival.{Arrival}
+use Rattle.source.specs.Record.{sound}
+use Rattle.source.specs.Arrivals.{arrival, after}
+use Rattle.source.specs.Blocks.{Packet, inLimits, jump, restart}
+use Rattle.source.proofs.Kept.{sound-stays}
+use Rattle.source.proofs.Packets.{packet, packet-is, room-left, limits, CountLeft, count-start, mark-here, room-here, jump-le, restart-le, count-next, count-end}
 use Rattle.source.proofs.block.count.Statement.{statement}
 use Rattle.source.proofs.block.count.Tie as tie
 
-limits-of : (c : tie.Else1) → Limits (c .before .before .before .args .width) (now (c .before .before .before .args .records))
-limits-of c = limits (c .before .before .before .args .width) (now (c .before .before .before .args .records)) (c .before .before .before .pre .1)
+abbrev Inv-loop : tie.InvT-loop
+Inv-loop records width next₀ jumps₀ restarts₀ at₀ next jumps restarts at = (4 ≤ width) × CountLeft width records next₀ at next jumps restarts
 
-is-fresh-here : (c : tie.Else1) → fresh (c .before .before .before .args .s) ≡ true
-is-fresh-here c = was-true (c .before .is-fresh .ensures) (c .if1 .left)
+abbrev μ-loop : tie.MeasureT-loop
+μ-loop records width next₀ jumps₀ restarts₀ at₀ next jumps restarts at = length records - at
 
--- what is left behind the record at the front
-rest : (c : tie.After-tallied-arg) → let a = c .before .before .before .before .before .before .before .before .before .args in
-    Rest (a .width) (now (a .records)) (take (length (now (a .records)) - a .width) (drop (a .width) (now (a .records)))) (a .s) (c .before .first .result)
-rest c =
-    let f = c .before .before .before .before .before .before in
-    let a = f .before .before .before .args in
-    let s = now (a .records) in
-    let l = limits-of f in
-    let join = c .before .before .before .join16 in
-    let is = front-is (a .width) s (l .wide) (join .ensures) refl in
-    let r = opened (a .width) s l (a .s) (f .before .before .before .pre .0) (is-fresh-here f) _ is (omega (arith, join .ok)) in
-    let all = take-all (length s - a .width) (drop (a .width) s) (rw length-drop (omega arith)) in
-    subst (λ (part : List ℕ). Rest (a .width) s part (a .s) (c .before .first .result)) (sym all)
-    (subst (λ (state : Source). Rest (a .width) s (drop (a .width) s) (a .s) state) (sym (c .before .first .ensures)) r)
-
-is-fresh-requires : tie.Need-is-fresh-requires
-is-fresh-requires c κs = search needs
-
-tallied-requires : tie.Need-tallied-requires
-tallied-requires c κs =
+room : (c : tie.In-loop Inv-loop μ-loop) → c .before .loop .at + c .before .before .before .args .width ≤ length (now (c .before .before .before .args .records))
+room c =
     let a = c .before .before .before .args in
-    let p = c .before .before .before .pre in
-    let l = limits (a .width) (now (a .records)) (p .1) in
-    (sound-has-counted (a .s) (p .0) (was-false (c .before .is-fresh .ensures) (c .if1 .taken)), l .wide, l .whole, l .few, l .fit)
+    room-left (a .width) (now (a .records)) (c .before .loop .at) (c .before .loop .inv .1 .left) (c .loop-test .taken)
 
-returns : tie.Need-returns
-returns c = search needs
+-- at most 61 of each before a turn
+few : (c : tie.In-loop Inv-loop μ-loop) → (c .before .loop .jumps ≤ 61) × (c .before .loop .restarts ≤ 61)
+few c =
+    let a = c .before .before .before .args in
+    let l = c .before .loop in
+    room-here (a .width) (now (a .records)) (a .s) (l .at) (l .next) (l .jumps) (l .restarts) (l .inv .1) (c .loop-test .taken)
 
-sub-join16 : tie.Need-sub-join16
-sub-join16 c = omega (arith, limits-of c .wide)
+loop-holds : tie.Need-loop-holds Inv-loop μ-loop
+loop-holds c =
+    let l = limits (c .before .args .width) (now (c .before .args .records)) (c .before .pre .1) in
+    (l .wide, count-start (c .before .args .width) (now (c .before .args .records)) (c .before .args .s) l (c .before .pre .0))
 
-shared-slice-read-join16 : tie.Need-shared-slice-read-join16
-shared-slice-read-join16 c = let l = limits-of (c .before) in omega (arith, l .wide, front-whole _ _ l)
+add-place : tie.Need-add-place Inv-loop μ-loop
+add-place c = omega (arith, room c)
 
-sub-join16-2 : tie.Need-sub-join16-2
-sub-join16-2 c = omega (arith, limits-of (c .before) .wide)
+sub-place : tie.Need-sub-place Inv-loop μ-loop
+sub-place c = omega arith
 
-shared-slice-read-join16-2 : tie.Need-shared-slice-read-join16-2
-shared-slice-read-join16-2 c = let l = limits-of (c .before .before) in omega (arith, l .wide, front-whole _ _ l)
+shared-slice-read-join16 : tie.Need-shared-slice-read-join16 Inv-loop μ-loop
+shared-slice-read-join16 c = omega (arith, room (c .before))
 
-join16-requires : tie.Need-join16-requires
+add-join16 : tie.Need-add-join16 Inv-loop μ-loop
+add-join16 c = omega (arith, room (c .before))
+
+shared-slice-read-join16-2 : tie.Need-shared-slice-read-join16-2 Inv-loop μ-loop
+shared-slice-read-join16-2 c = omega (arith, room (c .before .before))
+
+join16-requires : tie.Need-join16-requires Inv-loop μ-loop
 join16-requires c κs = search needs
 
-sub-mark : tie.Need-sub-mark
-sub-mark c = omega (arith, limits-of (c .before .before .before) .wide)
+add-mark : tie.Need-add-mark Inv-loop μ-loop
+add-mark c = omega (arith, room (c .before .before .before))
 
-shared-slice-read-mark : tie.Need-shared-slice-read-mark
-shared-slice-read-mark c = let l = limits-of (c .before .before .before .before) in omega (arith, l .wide, front-whole _ _ l)
+shared-slice-read-mark : tie.Need-shared-slice-read-mark Inv-loop μ-loop
+shared-slice-read-mark c = omega (arith, room (c .before .before .before .before))
 
-first-requires : tie.Need-first-requires
-first-requires c κs =
+step-requires : tie.Need-step-requires Inv-loop μ-loop
+step-requires c κs =
     let a = c .before .before .before .before .before .before .before .args in
-    let none = fresh-none (a .s) (is-fresh-here (c .before .before .before .before)) in
-    omega arith
+    let l = c .before .before .before .before .before .loop in
+    let third : l .at + a .width - 4 + 2 ≡ l .at + (a .width - 2) = omega arith in (
+      l .inv .1 .good,
+      rw third (mark-here (a .width) (now (a .records)) (a .s) (l .at) (l .next) (l .jumps) (l .restarts) (l .inv .1) (c .before .before .before .before .loop-test .taken)),
+    )
 
-sub-tallied : tie.Need-sub-tallied
-sub-tallied c = let l = limits-of (c .before .before .before .before .before) in omega (arith, front-whole _ _ l)
+after-requires : tie.Need-after-requires Inv-loop μ-loop
+after-requires c κs = search needs
 
-part-tallied-start : tie.Need-part-tallied-start
-part-tallied-start c = let l = limits-of (c .before .before .before .before .before) in omega (arith, front-whole _ _ l)
+jump-requires : tie.Need-jump-requires Inv-loop μ-loop
+jump-requires c κs = search needs
 
-part-tallied-end : tie.Need-part-tallied-end
-part-tallied-end c = search needs
+add-jumps : tie.Need-add-jumps Inv-loop μ-loop
+add-jumps c = omega (arith, few (c .before .before .before .before .before .before .before) .0, c .jump .ensures, jump-le (c .before .before .step .result))
 
-tallied-requires-2 : tie.Need-tallied-requires-2
-tallied-requires-2 c κs = let r = rest c in (r .has, limits-of (c .before .before .before .before .before .before) .wide, r .whole, r .few, r .fit)
+restart-requires : tie.Need-restart-requires Inv-loop μ-loop
+restart-requires c κs = search needs
 
-returns-2 : tie.Need-returns-2
-returns-2 c = c .tallied2 .ensures ∙ rest (c .before) .same
+add-restarts : tie.Need-add-restarts Inv-loop μ-loop
+add-restarts c = omega (arith, few (c .before .before .before .before .before .before .before .before) .1, c .restart .ensures, restart-le (c .before .before .before .step .result))
+
+add-at : tie.Need-add-at Inv-loop μ-loop
+add-at c = omega (arith, room (c .before .before .before .before .before .before .before .before))
+
+loop-less : tie.Need-loop-less Inv-loop μ-loop
+loop-less c = omega arith
+
+loop-again : tie.Need-loop-again Inv-loop μ-loop
+loop-again c =
+    let a = c .before .before .before .before .before .before .before .before .before .before .before .args in
+    let s = now (a .records) in
+    let l = c .before .before .before .before .before .before .before .before .before .loop in
+    let join = c .before .before .before .before .before .join16 in
+    let answer = c .before .before .before .step in
+    let same = packet-is (a .width) s (l .at) (l .inv .0) (join .ensures) refl in
+    let wire = subst (λ (p : Packet). p .wire .0 < 65536) same (omega (arith, join .ok)) in
+    let is : answer .result ≡ arrival (l .next) (packet (a .width) s (l .at) .wire) (packet (a .width) s (l .at) .mark) =
+    answer .ensures ∙ ap (λ (p : Packet). arrival (l .next) (p .wire) (p .mark)) same in
+    let good = ap (λ (b : Arrival). sound (after b)) is ∙ sound-stays (l .next) _ _ wire (l .inv .1 .good) in
+    let turn = count-next (a .width) s (a .s) (l .at) (l .next) (l .jumps) (l .restarts) (l .inv .1) (c .before .before .before .before .before .before .before .before .loop-test .taken) (answer .result) is good in (
+      l .inv .0,
+      subst (λ (t : Source). CountLeft (a .width) s (a .s) (l .at + a .width) t (l .jumps + c .before .jump .result) (l .restarts + c .restart .result)) (sym (c .before .before .after .ensures))
+          (rw (c .before .jump .ensures, c .restart .ensures) turn),
+    )
+
+returns : tie.Need-returns Inv-loop μ-loop
+returns c =
+    let a = c .before .before .before .args in
+    let l = c .before .loop in
+    count-end (a .width) (now (a .records)) (a .s) (l .at) (l .next) (l .jumps) (l .restarts) (l .inv .1) (omega arith) (c .loop-test .left)
 
 pub count-spec : {M : Type 1} → statement M
 count-spec =
     tie.close
     (tie.spec
-    is-fresh-requires
-    tallied-requires
-    returns
-    sub-join16
+    Inv-loop
+    μ-loop
+    loop-holds
+    add-place
+    sub-place
     shared-slice-read-join16
-    sub-join16-2
+    add-join16
     shared-slice-read-join16-2
     join16-requires
-    sub-mark
+    add-mark
     shared-slice-read-mark
-    first-requires
-    sub-tallied
-    part-tallied-start
-    part-tallied-end
-    tallied-requires-2
-    returns-2)
+    step-requires
+    after-requires
+    jump-requires
+    add-jumps
+    restart-requires
+    add-restarts
+    add-at
+    loop-less
+    loop-again
+    returns)

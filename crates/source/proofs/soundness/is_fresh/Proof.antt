@@ -1,6 +1,6 @@
 -- `source::soundness::is_fresh` meets its contract. Assumes nothing.
 use borrow.Author.Needs.{needs}
-use mathlib.Core.Path.{sym}
+use mathlib.Core.Path.{sym, _∙_}
 use native.Mathlib.Omega.{arith}
 use borrow.Author.Tests.{eq-eqb}
 use mathlib.Core.Bool.{and-true}
@@ -41,20 +41,27 @@ returns-8 : tie.Need-returns-8
 returns-8 c = not-fresh _ 7 (not-zero _ (c .if8 .taken))
 
 returns-9 : tie.Need-returns-9
+returns-9 c = not-fresh _ 8 (not-zero _ (c .if9 .taken))
+
+is-nothing-requires : tie.Need-is-nothing-requires
+is-nothing-requires c κs = search needs
+
+returns-10 : tie.Need-returns-10
 unfolding fresh
-returns-9 c =
-    let s = c .before .before .before .before .before .before .before .before .before .before .before .before .before .before .before .before .before .before .before .before .args .s in
+returns-10 c =
+    let s = c .before .before .before .before .before .before .before .before .before .before .before .before .before .before .before .before .before .before .before .before .before .before .args .s in
     simp (
-      was-true (c .before .before .before .before .before .before .before .before .before .before .before .before .before .before .before .before .is-zero .ensures) (c .before .before .before .before .before .before .before .before .before .before .before .before .before .before .before .if1 .left),
-      was-true (c .before .before .before .before .before .before .before .before .before .before .before .before .before .before .is-zero2 .ensures) (c .before .before .before .before .before .before .before .before .before .before .before .before .before .if2 .left),
+      was-true (c .before .before .before .before .before .before .before .before .before .before .before .before .before .before .before .before .before .before .is-zero .ensures) (c .before .before .before .before .before .before .before .before .before .before .before .before .before .before .before .before .before .if1 .left),
+      was-true (c .before .before .before .before .before .before .before .before .before .before .before .before .before .before .before .before .is-zero2 .ensures) (c .before .before .before .before .before .before .before .before .before .before .before .before .before .before .before .if2 .left),
       eq-eqb (s .notect) 0 (omega arith),
       eq-eqb (s .ect1) 0 (omega arith),
       eq-eqb (s .ect0) 0 (omega arith),
       eq-eqb (s .ce) 0 (omega arith),
       eq-eqb (s .duplicates) 0 (omega arith),
       eq-eqb (s .history .recent) 0 (omega arith),
+      eq-eqb (s .history .older) 0 (omega arith),
     )
-    (sym (and-true _))
+    (c .is-nothing .ensures ∙ sym (and-true _))
 
 pub is-fresh-spec : {M : Type 1} → statement M
 is-fresh-spec =
@@ -70,4 +77,6 @@ is-fresh-spec =
     returns-6
     returns-7
     returns-8
-    returns-9)
+    returns-9
+    is-nothing-requires
+    returns-10)

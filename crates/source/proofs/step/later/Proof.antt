@@ -1,23 +1,35 @@
 -- `source::step::later` meets its contract. Assumes nothing.
 use borrow.Author.Needs.{needs}
-use mathlib.Core.Path.{sym, ap, _∙_}
+use mathlib.Core.Path.{_≡_, refl, sym, ap, _∙_}
 use native.Mathlib.Omega.{arith}
-use Rattle.source.specs.Arrivals.{laterBy}
+use Rattle.source.specs.declared.distances.Reach.{Reach}
 use Rattle.source.specs.declared.Arrival.the-variants.{Accepted}
+use Rattle.source.specs.Arrivals.{distance, laterBy}
+use Rattle.source.specs.Distances.{reachOf}
+use Rattle.source.proofs.Facts.{facts, highest-fits}
+use Rattle.source.proofs.Kept.{distance-lt}
 use Rattle.source.proofs.Reached.{within}
 use Rattle.source.proofs.step.later.Statement.{statement}
 use Rattle.source.proofs.step.later.Tie as tie
 
+-- where the arrival stands
+reached : {r : Reach} (c : tie.After-reach-of) → c .reach-of .result ≡ r
+    → r ≡ reachOf (distance (c .before .before .before .args .s .highest) (c .before .before .before .args .wire))
+reached c e = sym e ∙ c .reach-of .ensures ∙ ap reachOf (c .before .distance .ensures)
+
+distance-requires : tie.Need-distance-requires
+distance-requires c κs = highest-fits (c .before .args .s) (facts (c .before .args .s) (c .before .pre .0)) .0
+
 reach-of-requires : tie.Need-reach-of-requires
-reach-of-requires c κs = search needs
+reach-of-requires c κs = distance-lt _ _ (c .distance .ensures)
 
 enum-known-up : tie.Need-enum-known-up
 enum-known-up c = search needs
 
 ahead-requires : tie.Need-ahead-requires
 ahead-requires c κs =
-    let p = c .before .before .before .before in
-    let w = within (p .args .d) (p .pre .2) (sym (c .before .up .given .1) ∙ c .before .before .before .reach-of .ensures) in
+    let p = c .before .before .before .before .before .before in
+    let w = within _ (distance-lt (p .args .s .highest) (p .args .wire) refl) (reached (c .before .before .before) (c .before .up .given .1)) in
     (p .pre .0, p .pre .1, w .0, omega (arith, w .1))
 
 enum-known-k : tie.Need-enum-known-k
@@ -25,37 +37,42 @@ enum-known-k c = search needs
 
 behind-requires : tie.Need-behind-requires
 behind-requires c κs =
-    let p = c .before .before .before .before in
-    (p .pre .0, p .pre .1, within (p .args .d) (p .pre .2) (sym (c .before .k .given .1) ∙ c .before .before .before .reach-of .ensures))
+    let p = c .before .before .before .before .before .before in
+    (p .pre .0, p .pre .1, within _ (distance-lt (p .args .s .highest) (p .args .wire) refl) (reached (c .before .before .before) (c .before .k .given .1)))
 
 enum-told : tie.Need-enum-told
 enum-told c = search needs
 
+jumped-requires : tie.Need-jumped-requires
+jumped-requires c κs = search needs
+
 returns : tie.Need-returns
 returns c =
-    let a = c .before .before .before .before .before .args in
-    ap Accepted (c .ahead .ensures) ∙ ap (laterBy (a .s) (a .mark)) (sym (c .before .before .up .given .1) ∙ c .before .before .before .before .reach-of .ensures)
+    let a = c .before .before .before .before .before .before .before .args in
+    ap Accepted (c .ahead .ensures) ∙ ap (laterBy (a .s) (a .wire) (a .mark)) (reached (c .before .before .before .before) (c .before .before .up .given .1))
 
 returns-2 : tie.Need-returns-2
 returns-2 c =
-    let a = c .before .before .before .before .before .args in
-    ap Accepted (c .behind .ensures) ∙ ap (laterBy (a .s) (a .mark)) (sym (c .before .before .k .given .1) ∙ c .before .before .before .before .reach-of .ensures)
+    let a = c .before .before .before .before .before .before .before .args in
+    ap Accepted (c .behind .ensures) ∙ ap (laterBy (a .s) (a .wire) (a .mark)) (reached (c .before .before .before .before) (c .before .before .k .given .1))
 
 returns-3 : tie.Need-returns-3
 returns-3 c =
-    let a = c .before .before .before .args in
-    ap (laterBy (a .s) (a .mark)) (sym (c .enum-told .given .1) ∙ c .before .before .reach-of .ensures)
+    let a = c .before .before .before .before .before .before .args in
+    c .jumped .ensures ∙ ap (laterBy (a .s) (a .wire) (a .mark)) (reached (c .before .before .before) (c .before .enum-told .given .1))
 
 pub later-spec : {M : Type 1} → statement M
 later-spec =
     tie.close
     (tie.spec
+    distance-requires
     reach-of-requires
     enum-known-up
     ahead-requires
     enum-known-k
     behind-requires
     enum-told
+    jumped-requires
     returns
     returns-2
     returns-3)

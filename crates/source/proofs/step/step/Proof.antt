@@ -2,12 +2,10 @@
 use borrow.Author.Needs.{needs}
 use mathlib.Core.Path.{sym, ap, _∙_}
 use native.Mathlib.Omega.{arith}
-use Prim.Native.Nat.{ℕ, _-_}
-use Rattle.source.specs.Arrivals.{later}
+use Prim.Native.Nat.{_-_}
 use Rattle.source.specs.declared.Arrival.the-variants.{Accepted}
 use Rattle.source.proofs.Answers.{arrival-full, arrival-first, arrival-later}
-use Rattle.source.proofs.Facts.{facts, highest-fits, sound-most, some-has-counted}
-use Rattle.source.proofs.Kept.{distance-lt}
+use Rattle.source.proofs.Facts.{sound-most, some-has-counted}
 use Rattle.source.proofs.step.step.Statement.{statement}
 use Rattle.source.proofs.step.step.Tie as tie
 
@@ -33,22 +31,15 @@ returns-2 c =
     let p = c .before .before .before .before .before .before in
     ap Accepted (c .first .ensures) ∙ sym (arrival-first (p .args .s) (p .args .wire) (p .args .mark) (p .pre .0) (p .pre .1) (c .before .if2 .taken))
 
-distance-requires : tie.Need-distance-requires
-distance-requires c κs =
-    let s = c .before .before .before .before .before .before .args .s in
-    highest-fits s (facts s (some-has-counted s (c .before .before .before .before .before .before .pre .0) (omega arith))) .0
-
 later-requires : tie.Need-later-requires
 later-requires c κs =
-    let p = c .before .before .before .before .before .before .before in
-    (some-has-counted (p .args .s) (p .pre .0) (omega arith), omega arith, distance-lt _ _ (c .distance .ensures))
+    let p = c .before .before .before .before .before in
+    (some-has-counted (p .args .s) (p .pre .0) (omega arith), omega arith)
 
 returns-3 : tie.Need-returns-3
 returns-3 c =
-    let p = c .before .before .before .before .before .before .before .before in
-    c .later .ensures
-    ∙ ap (λ (d : ℕ). later (p .args .s) d (p .args .mark)) (c .before .distance .ensures)
-    ∙ sym (arrival-later (p .args .s) (p .args .wire) (p .args .mark) (p .pre .0) (p .pre .1) (omega arith) (omega arith))
+    let p = c .before .before .before .before .before .before in
+    c .later .ensures ∙ sym (arrival-later (p .args .s) (p .args .wire) (p .args .mark) (p .pre .0) (p .pre .1) (omega arith) (omega arith))
 
 pub step-spec : {M : Type 1} → statement M
 step-spec =
@@ -60,6 +51,5 @@ step-spec =
     returns
     first-requires
     returns-2
-    distance-requires
     later-requires
     returns-3)
