@@ -117,11 +117,11 @@ fn counting() {
 fn reading() {
     let bytes = compound::sample(MEDIA);
     let ours = || {
-        let mut found = [0; 23];
-        let answer = library::read_compound(black_box(&bytes), MEDIA, &mut found);
+        let mut found = [0; 24];
+        let answer = library::read_compound(black_box(&bytes), MEDIA, black_box(0), &mut found);
         if answer == 0 { Ok(found) } else { Err(answer) }
     };
-    let other = || compound::read(black_box(&bytes), MEDIA);
+    let other = || compound::read(black_box(&bytes), MEDIA, black_box(false));
     assert_eq!(ours(), other(), "the compounds read differ");
     assert!(ours().is_ok_and(|found| found[0] + found[7] + found[16] == 3), "all three reports are found");
     let runs = vec![run_many(|_| ours()), run_many(|_| other())];

@@ -1,6 +1,6 @@
 //! The compound reader of document 01 in plain Rust.
 
-type Found = [u64; 23];
+type Found = [u64; 24];
 
 fn short(b: &[u8], at: usize) -> u64 {
     u64::from(u16::from_be_bytes([b[at], b[at + 1]]))
@@ -76,16 +76,16 @@ fn without_padding(packet: &[u8], last: bool) -> Result<&[u8], u8> {
     Ok(&packet[..packet.len() - count])
 }
 
-/// The 23 words about `media`, or a refusal.
+/// The 24 words about `media`, or a refusal; 3 is not given where `reduced` compounds are taken.
 #[inline(always)]
-pub fn read(bytes: &[u8], media: u32) -> Result<Found, u8> {
+pub fn read(bytes: &[u8], media: u32, reduced: bool) -> Result<Found, u8> {
     if bytes.is_empty() {
         return Err(1);
     }
     if bytes.len() > 65_507 {
         return Err(10);
     }
-    let (mut rest, mut found, media) = (bytes, [0; 23], u64::from(media));
+    let (mut rest, mut found, media) = (bytes, [0; 24], u64::from(media));
     while !rest.is_empty() {
         if rest.len() < 4 {
             return Err(1);
@@ -97,9 +97,11 @@ pub fn read(bytes: &[u8], media: u32) -> Result<Found, u8> {
         let whole = rest.get(..size).ok_or(4)?;
         let packet = without_padding(whole, size == rest.len())?;
         let (kind, count) = (packet[1], usize::from(packet[0] & 31));
-        if rest.len() == bytes.len() && kind != 200 && kind != 201 {
+        let report = kind == 200 || kind == 201;
+        if !reduced && rest.len() == bytes.len() && !report {
             return Err(3);
         }
+        found[23] |= u64::from(report);
         match (kind, count) {
             (200, n) => report_blocks(packet, 28, n, media, &mut found)?,
             (201, n) => report_blocks(packet, 8, n, media, &mut found)?,

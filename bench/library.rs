@@ -3,7 +3,7 @@
 extern "C" {
     pub fn flasknib_arrive(source: *mut u64, words: usize, wire: u16, mark: u8) -> u8;
     pub fn flasknib_count_block(source: *mut u64, words: usize, records: *const u8, length: usize, width: usize) -> i64;
-    pub fn flasknib_read_compound(bytes: *const u8, length: usize, media: u32, found: *mut u64, words: usize) -> u8;
+    pub fn flasknib_read_compound(bytes: *const u8, length: usize, media: u32, profile: u8, found: *mut u64, words: usize) -> u8;
     pub fn flasknib_breaker_start(
         k: u64,
         m: u64,
@@ -46,8 +46,8 @@ pub fn count_block(source: &mut Source, records: &[u8]) -> i64 {
     unsafe { flasknib_count_block(source.as_mut_ptr(), source.len(), records.as_ptr(), records.len(), 8) }
 }
 
-pub fn read_compound(bytes: &[u8], media: u32, found: &mut [u64; 23]) -> u8 {
-    unsafe { flasknib_read_compound(bytes.as_ptr(), bytes.len(), media, found.as_mut_ptr(), found.len()) }
+pub fn read_compound(bytes: &[u8], media: u32, profile: u8, found: &mut [u64; 24]) -> u8 {
+    unsafe { flasknib_read_compound(bytes.as_ptr(), bytes.len(), media, profile, found.as_mut_ptr(), found.len()) }
 }
 
 pub fn breaker_start(k: u64, m: u64, timeout: u64, time: u64) -> [u64; 75] {

@@ -82,16 +82,23 @@ int64_t flasknib_write_feedback(const uint64_t *source, size_t words, uint32_t s
 int64_t flasknib_write_summary(const uint64_t *source, size_t words, uint32_t media, uint8_t *out, size_t room);
 
 /* ---- compound RTCP ---------------------------------------------------------------------------------------------------------------
- * 23 words, the first of each kind of report about `media`:
+ * 24 words, the first of each kind of report about `media`, and a last one:
  *   0 whether there is a report block; 1 fraction lost, 2 cumulative lost (signed), 3 extended highest, 4 jitter, 5 LSR, 6 DLSR
  *   7 whether there is ECN feedback; 8 sender SSRC, 9 highest, 10 ECT(0), 11 ECT(1), 12 CE, 13 not-ECT, 14 lost, 15 duplicates
  *  16 whether there is an ECN summary entry; 17 ECT(0), 18 ECT(1), 19 CE, 20 not-ECT, 21 lost, 22 duplicates
+ *  23 whether an SR or an RR is in the compound, with or without a block about `media`
  * What is absent is 0, and so are its fields.
  */
-#define FLASKNIB_COMPOUND_WORDS 23
+#define FLASKNIB_COMPOUND_WORDS 24
 
-/* Reads a compound. Gives 0 and 23 words at the front of `found`, or refusal 1 to 6 or 10, or 12 where `found` has fewer words. */
-uint8_t flasknib_read_compound(const uint8_t *bytes, size_t length, uint32_t media, uint64_t *found, size_t words);
+/* Which compounds are taken. FLASKNIB_COMPOUND: those that begin with an SR or an RR (RFC 3550, section 6.1); any other is refused with 3.
+ * FLASKNIB_REDUCED_SIZE: reduced-size ones too (RFC 5506), which need not have an SR or an RR; 3 is not given. What the first takes has the same
+ * words under the second. A packet without an SR or an RR (word 23 is 0) must not enter the congestion rule (RFC 8083, section 5). */
+enum { FLASKNIB_COMPOUND = 0, FLASKNIB_REDUCED_SIZE = 1 };
+
+/* Reads a compound. Gives 0 and 24 words at the front of `found`, or refusal 10 for another profile than the two, 1 to 6 or 10, or 12 where
+ * `found` has fewer words. */
+uint8_t flasknib_read_compound(const uint8_t *bytes, size_t length, uint32_t media, uint8_t profile, uint64_t *found, size_t words);
 
 /* ---- the circuit breaker ---------------------------------------------------------------------------------------------------------
  * 75 words: k, m, timeout (ms), whether reductions are allowed; state (0 running, else the reason of the stop); time of the last report or

@@ -5,7 +5,7 @@ pub trait Calls {
     fn count_block(&self, source: &mut [u64], records: &[u8], width: usize) -> i64;
     fn write_feedback(&self, source: &[u64], sender: u32, media: u32, out: &mut [u8]) -> i64;
     fn write_summary(&self, source: &[u64], media: u32, out: &mut [u8]) -> i64;
-    fn read_compound(&self, bytes: &[u8], media: u32, found: &mut [u64]) -> u8;
+    fn read_compound(&self, bytes: &[u8], media: u32, profile: u8, found: &mut [u64]) -> u8;
     fn breaker_start(&self, settings: Settings, time: u64, breaker: &mut [u64]) -> u16;
     fn breaker_report(&self, breaker: &mut [u64], report: &model::breaker::Report) -> u16;
     fn breaker_tick(&self, breaker: &mut [u64], time: u64) -> u16;

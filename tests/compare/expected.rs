@@ -1,6 +1,7 @@
 //! The same calls answered by the model.
 use crate::calls::{Calls, Settings, GO, REDUCE, REFUSED, RESTART, RESTARTED, STOP};
 use model::breaker::{Answer, Breaker, Report};
+use model::compound::Profile;
 use model::refusal::{put, require, Refusal, Written, JUMP, LIMITS, ROOM};
 use model::source::{count_block, Counted, Source};
 use model::trace::{arrivals_block, label_block, Contents, Record};
@@ -86,8 +87,9 @@ impl Calls for Expected {
         length(put(Source::from_words(words).map(|source| report::summary(&source, media)), out))
     }
 
-    fn read_compound(&self, bytes: &[u8], media: u32, found: &mut [u64]) -> u8 {
-        put_words(compound::read(bytes, media).map(|reports| reports.to_words()), found)
+    fn read_compound(&self, bytes: &[u8], media: u32, profile: u8, found: &mut [u64]) -> u8 {
+        let read = Profile::from_number(profile).and_then(|profile| compound::read(bytes, media, profile));
+        put_words(read.map(|reports| reports.to_words()), found)
     }
 
     fn breaker_start(&self, settings: Settings, time: u64, words: &mut [u64]) -> u16 {

@@ -8,7 +8,7 @@ extern "C" {
     fn flasknib_count_block(source: *mut u64, words: usize, records: *const u8, length: usize, width: usize) -> i64;
     fn flasknib_write_feedback(source: *const u64, words: usize, sender: u32, media: u32, out: *mut u8, room: usize) -> i64;
     fn flasknib_write_summary(source: *const u64, words: usize, media: u32, out: *mut u8, room: usize) -> i64;
-    fn flasknib_read_compound(bytes: *const u8, length: usize, media: u32, found: *mut u64, words: usize) -> u8;
+    fn flasknib_read_compound(bytes: *const u8, length: usize, media: u32, profile: u8, found: *mut u64, words: usize) -> u8;
     fn flasknib_breaker_start(k: u64, m: u64, timeout: u64, reduce: u8, time: u64, breaker: *mut u64, words: usize) -> u16;
     fn flasknib_breaker_report(breaker: *mut u64, words: usize, time: u64, highest: u32, fraction: u64, rtt: u64, size: u64, rate: u64) -> u16;
     fn flasknib_breaker_tick(breaker: *mut u64, words: usize, time: u64) -> u16;
@@ -41,8 +41,8 @@ impl Calls for Library {
         unsafe { flasknib_write_summary(source.as_ptr(), source.len(), media, out.as_mut_ptr(), out.len()) }
     }
 
-    fn read_compound(&self, bytes: &[u8], media: u32, found: &mut [u64]) -> u8 {
-        unsafe { flasknib_read_compound(bytes.as_ptr(), bytes.len(), media, found.as_mut_ptr(), found.len()) }
+    fn read_compound(&self, bytes: &[u8], media: u32, profile: u8, found: &mut [u64]) -> u8 {
+        unsafe { flasknib_read_compound(bytes.as_ptr(), bytes.len(), media, profile, found.as_mut_ptr(), found.len()) }
     }
 
     fn breaker_start(&self, settings: Settings, time: u64, breaker: &mut [u64]) -> u16 {

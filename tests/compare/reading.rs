@@ -13,7 +13,7 @@ pub fn calls(compare: &Compare, draw: &Draw) -> usize {
         let (bytes, damaged) = compounds::any(draw);
         mutations += usize::from(damaged);
         let found: Vec<u64> = (0..draw.room(WORDS)).map(|_| draw.u64()).collect();
-        read(compare, &bytes, compounds::ssrc(draw), &found);
+        read(compare, &bytes, compounds::ssrc(draw), compounds::profile(draw), &found);
     }
     for _ in 0..5_000 {
         read_back(compare, draw);
@@ -22,10 +22,10 @@ pub fn calls(compare: &Compare, draw: &Draw) -> usize {
 }
 
 /// Gives the answer and the words of `found` after the call.
-fn read(compare: &Compare, bytes: &[u8], media: u32, found: &[u64]) -> (i64, Vec<u64>) {
+fn read(compare: &Compare, bytes: &[u8], media: u32, profile: u8, found: &[u64]) -> (i64, Vec<u64>) {
     let mut lent = (Lent::new(bytes), Lent::new(found));
     let answer = compare.call("flasknib_read_compound", &mut lent, |calls, (bytes, found)| {
-        i64::from(calls.read_compound(bytes.part(), media, found.part_mut()))
+        i64::from(calls.read_compound(bytes.part(), media, profile, found.part_mut()))
     });
     (answer, lent.1.part().to_vec())
 }
@@ -35,11 +35,12 @@ fn read_back(compare: &Compare, draw: &Draw) {
     let (sender, media) = (draw.u64() as u32, draw.u64() as u32);
     let feedback = reports::feedback(compare, &source, sender, media, &[0; 32]);
     let summary = reports::summary(compare, &source, media, &[0; 24]);
-    let (answer, found) = read(compare, &[&RR[..], &feedback, &XR, &summary].concat(), media, &[9; WORDS]);
+    let profile = draw.below(2) as u8;
+    let (answer, found) = read(compare, &[&RR[..], &feedback, &XR, &summary].concat(), media, profile, &[9; WORDS]);
     let counters = counters(&source);
-    let presence = (found[0], found[7], found[16]);
+    let presence = (found[0], found[7], found[16], found[23]);
     let heads = (found[8], found[9]) == (u64::from(sender), source[1] % (1 << 32));
-    let read = presence == (0, 1, 1) && heads && found[10..16] == counters && found[17..] == counters;
+    let read = presence == (0, 1, 1, 1) && heads && found[10..16] == counters && found[17..23] == counters;
     compare.hold(answer == 0 && read, &format!("the reports of {source:?} read back as {found:?}"));
 }
 

@@ -5,13 +5,22 @@ use crate::Draw;
 pub const RR: [u8; 8] = [0x80, 201, 0, 1, 0, 0, 0, 7];
 pub const XR: [u8; 8] = [0x80, 207, 0, 7, 0, 0, 0, 7];
 
+/// Both profiles, and now and then a number of none.
+pub fn profile(draw: &Draw) -> u8 {
+    match draw.below(40) {
+        0 => draw.of(&[2, 3, 128, 255]),
+        n => (n % 2) as u8,
+    }
+}
+
 /// Few SSRCs, so that reports often meet the one that is asked about.
 pub fn ssrc(draw: &Draw) -> u32 {
     draw.of(&[0, 1, 2, 9, 0x0102_0304, 0x0D00_0005, u32::MAX])
 }
 
+/// One in three is a reduced-size compound, which begins with any packet.
 pub fn sound(draw: &Draw) -> Vec<u8> {
-    let mut packets = vec![first(draw)];
+    let mut packets = vec![if draw.one_in(3) { packet(draw) } else { first(draw) }];
     for _ in 0..draw.below(5) {
         packets.push(packet(draw));
     }

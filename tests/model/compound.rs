@@ -1,8 +1,9 @@
-//! Document 01, "Packets": the compound reader. RFC 3550 section 6 has SR, RR and padding, RFC 3611 section 3 the XR blocks.
+//! Document 01, "Packets": the compound reader, and its second profile, of document 02, L4. RFC 3550 section 6 has SR, RR and padding, RFC 3611
+//! section 3 the XR blocks, RFC 5506 the reduced-size compounds.
 use crate::bytes::{u16_at, u32_at};
 use crate::refusal::*;
 
-pub const WORDS: usize = 23;
+pub const WORDS: usize = 24;
 pub const MOST_BYTES: usize = 65_507;
 
 /// The fields of the first report of each kind, in the order of the header's words.
@@ -11,6 +12,24 @@ pub struct Found {
     pub report_block: Option<[u64; 6]>,
     pub feedback: Option<[u64; 8]>,
     pub summary: Option<[u64; 6]>,
+    /// An SR or an RR is there, about whomever.
+    pub has_report_packet: bool,
+}
+
+#[derive(Clone, Copy, PartialEq)]
+pub enum Profile {
+    Compound,
+    ReducedSize,
+}
+
+impl Profile {
+    pub fn from_number(number: u8) -> Result<Profile, Refusal> {
+        match number {
+            0 => Ok(Profile::Compound),
+            1 => Ok(Profile::ReducedSize),
+            _ => Err(LIMITS),
+        }
+    }
 }
 
 impl Found {
@@ -26,11 +45,12 @@ impl Found {
         item(self.report_block.as_ref().map(|fields| &fields[..]), 6);
         item(self.feedback.as_ref().map(|fields| &fields[..]), 8);
         item(self.summary.as_ref().map(|fields| &fields[..]), 6);
+        words.push(u64::from(self.has_report_packet));
         words
     }
 }
 
-pub fn read(bytes: &[u8], media: u32) -> Result<Found, Refusal> {
+pub fn read(bytes: &[u8], media: u32, profile: Profile) -> Result<Found, Refusal> {
     require(!bytes.is_empty(), INCOMPLETE)?;
     require(bytes.len() <= MOST_BYTES, LIMITS)?;
     let mut found = Found::default();
@@ -39,7 +59,9 @@ pub fn read(bytes: &[u8], media: u32) -> Result<Found, Refusal> {
         let first = rest.len() == bytes.len();
         let (packet, after) = split_packet(rest)?;
         let packet = without_padding(packet, after.is_empty())?;
-        require(!first || matches!(packet[1], 200 | 201), FIRST_PACKET)?;
+        let is_report = matches!(packet[1], 200 | 201);
+        require(profile == Profile::ReducedSize || !first || is_report, FIRST_PACKET)?;
+        found.has_report_packet |= is_report;
         read_packet(packet, media, &mut found)?;
         rest = after;
     }

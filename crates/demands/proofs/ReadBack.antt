@@ -1,5 +1,6 @@
 -- Written reports read back. Assumes nothing.
 use mathlib.Core.Path.{_≡_, refl, sym, ap, _∙_}
+use mathlib.Core.Bool.{true}
 use mathlib.Core.List.{List, [], _∷_, _++_, flatMap}
 use Prim.Native.Nat.{ℕ, _+_, _^_, _<_}
 use native.Mathlib.Nat.{add-zero, mod-eq-of-lt}
@@ -17,6 +18,7 @@ use Rattle.report.specs.Reports.{countsBytes, feedbackOf, summaryOf}
 use Rattle.rtcp.specs.declared.MaybeReport.{MaybeReport}
 use Rattle.rtcp.specs.declared.MaybeFeedback.{MaybeFeedback}
 use Rattle.rtcp.specs.declared.MaybeSummary.{MaybeSummary}
+use Rattle.rtcp.specs.declared.Profile.{Profile}
 use Rattle.rtcp.specs.declared.Reading.{Reading}
 use Rattle.rtcp.specs.Header.{headerAt, padding}
 use Rattle.rtcp.specs.Packets.{isReport, isFeedback, blocksFrom, paddingRight, bodyRight, mayStand}
@@ -102,25 +104,29 @@ summaryBehind from media c =
     let b : List ℕ = emptyRr from ++ xrPacket from (summaryOf media c) in
     summaryIn (blockAt b 16) b 16 media
 
-feedback-scan : (from sender media highest : ℕ) (c : Counts)
-    → reading (emptyRr from ++ feedbackOf sender media highest c) media
+feedback-scan : (from sender media highest : ℕ) (c : Counts) (profile : Profile)
+    → reading (emptyRr from ++ feedbackOf sender media highest c) media profile
     ≡ Reading.Read (record {
       report = MaybeReport.Absent;
       feedback = firstFeedback (feedbackBehind from sender media highest c ∷ []);
       summary = MaybeSummary.Absent;
+      reporting = true;
     })
 unfolding reading flatMap beginsIn blocks headerAt padding paddingRight mayStand bodyRight isReport isFeedback blocksFrom reportIn entryFor feedbackIn word bytes emptyRr feedbackOf countsBytes
-feedback-scan from sender media highest c = refl
+feedback-scan from sender media highest c Profile.Compound = refl
+feedback-scan from sender media highest c Profile.ReducedSize = refl
 
-summary-scan : (from media : ℕ) (c : Counts)
-    → reading (emptyRr from ++ xrPacket from (summaryOf media c)) media
+summary-scan : (from media : ℕ) (c : Counts) (profile : Profile)
+    → reading (emptyRr from ++ xrPacket from (summaryOf media c)) media profile
     ≡ Reading.Read (record {
       report = MaybeReport.Absent;
       feedback = MaybeFeedback.Absent;
       summary = firstSummary (summaryBehind from media c ∷ []);
+      reporting = true;
     })
 unfolding reading flatMap beginsIn blocks headerAt padding paddingRight mayStand bodyRight isReport isFeedback blocksFrom reportIn entryFor feedbackIn summaryIn blockAt isSummary word bytes emptyRr xrPacket summaryOf countsBytes
-summary-scan from media c = refl
+summary-scan from media c Profile.Compound = refl
+summary-scan from media c Profile.ReducedSize = refl
 
 -- ---- what is found in them
 
@@ -148,17 +154,18 @@ module _ (from media : ℕ) (c : Counts) (f : Fits c) (m : media < 2 ^ 32) where
       rw (eq-eqb (word 4 b 20) media about) (ap MaybeSummary.Present (counts-back c f (head ++ bytes 4 media)))
 
 pub feedback-reads-back : FeedbackReadsBack
-feedback-reads-back s from sender media hs hm =
-    feedback-scan from sender media (highestOf s) (countsOf s)
-    ∙ ap (λ (f : MaybeFeedback). Reading.Read (record { report = MaybeReport.Absent; feedback = firstFeedback (f ∷ []); summary = MaybeSummary.Absent }))
+feedback-reads-back s from sender media profile hs hm =
+    feedback-scan from sender media (highestOf s) (countsOf s) profile
+    ∙ ap (λ (f : MaybeFeedback). Reading.Read (record { report = MaybeReport.Absent; feedback = firstFeedback (f ∷ []); summary = MaybeSummary.Absent; reporting = true }))
     (feedback-found from media (countsOf s) (counts-fit s) hm sender (highestOf s) hs (modulo-lt (2 ^ 32) (omega arith) (s .highest .0)))
 
 pub summary-reads-back : SummaryReadsBack
-summary-reads-back s from media hm =
-    summary-scan from media (countsOf s)
-    ∙ ap (λ (f : MaybeSummary). Reading.Read (record { report = MaybeReport.Absent; feedback = MaybeFeedback.Absent; summary = firstSummary (f ∷ []) }))
+summary-reads-back s from media profile hm =
+    summary-scan from media (countsOf s) profile
+    ∙ ap (λ (f : MaybeSummary). Reading.Read (record { report = MaybeReport.Absent; feedback = MaybeFeedback.Absent; summary = firstSummary (f ∷ []); reporting = true }))
     (summary-found from media (countsOf s) (counts-fit s) hm)
 
 pub nothing-made-up : NothingMadeUp
 unfolding reading flatMap beginsIn blocks headerAt padding paddingRight mayStand bodyRight isReport isFeedback blocksFrom reportIn entryFor feedbackIn word bytes emptyRr
-nothing-made-up from media = refl
+nothing-made-up from media Profile.Compound = refl
+nothing-made-up from media Profile.ReducedSize = refl

@@ -5,13 +5,15 @@ use mathlib.Core.Option.{none}
 use Prim.Native.Nat.{ℕ, _+_}
 use native.Mathlib.Omega.{arith}
 use lib.IntN.{pos}
-use lib.ListN.{length, replicate}
-use Rattle.answers.specs.declared.Refusal.the-variants.{Time}
+use lib.ListN.{length, take, replicate}
+use Rattle.answers.specs.declared.Refusal.the-variants.{PacketSize, Time}
 use Rattle.answers.proofs.Stores.{room-is-exact}
 use Rattle.numbers.proofs.Differences.{since-exact, signed-exact}
 use Rattle.format.specs.declared.Form.the-variants.{One}
 use Rattle.source.proofs.Kept.{sound-stays}
 use Rattle.report.specs.Reports.{feedbackBytes}
+use Rattle.rtcp.specs.declared.Profile.{Profile}
+use Rattle.rtcp.proofs.Profiles.{profiles-agree}
 use Rattle.trace.proofs.ReadBack.{label-reads-back, arrivals-read-back}
 use Rattle.trace.proofs.Accepted.{label-is-written, arrivals-are-written}
 use Rattle.trace.proofs.Theorems.{one-check}
@@ -29,6 +31,7 @@ use Rattle.convert.specs.Tables.{ecntable}
 use Rattle.convert.proofs.Steps.{row-room-is-exact}
 use Rattle.convert.proofs.Whole.{calls-print}
 use Rattle.demands.specs.Calls.{run}
+use Rattle.demands.specs.RoundTrip.{emptyRr}
 use Rattle.demands.specs.Witnesses.{wrapped, reordered, c1Packets, text, label, c1Block, block, whole, cut, begun, reported, notLater}
 use Rattle.demands.proofs.Demand.{demand3}
 use Rattle.demands.proofs.PrintedTable.{table-holds-count, same-last-row}
@@ -60,8 +63,10 @@ used =
     let typed = typed-call reported notLater (met .breaker-typed) (met .number-fits) in
     let keeps = refused-keeps reported notLater Time (met .refuses) in
     let stops = stays-stopped reported (tick 20001) Timeout (notLater ∷ []) (met .stops) in
-    let feedback = feedback-reads-back (run c1Packets) 5 9 1 (met .ssrcs .0) (met .ssrcs .1) in
-    let summary = summary-reads-back (run c1Packets) 5 1 (met .ssrcs .1) in
+    let feedback = feedback-reads-back (run c1Packets) 5 9 1 Profile.ReducedSize (met .ssrcs .0) (met .ssrcs .1) in
+    let summary = summary-reads-back (run c1Packets) 5 1 Profile.ReducedSize (met .ssrcs .1) in
+    let accepted = profiles-agree (emptyRr 5) 1 .accepted _ (met .rr-read) in
+    let refused = profiles-agree (take 6 (emptyRr 5)) 1 .refused PacketSize (λ e. let z : _≡_ {A = ℕ} 0 1 = cc in absurd (omega arith)) (met .rr-cut) in
     let fits = row-fits text 1 (record { source = run c1Packets; jumped = 3; restarts = 2 }) (met .ssrcs .1) (met .row-accepted) in
     let room = room-is-exact none (feedbackBytes 9 1 (run c1Packets)) (replicate 31 0) 32 (met .room) in
     let row-room = row-room-is-exact begun begun (callNext begun label c1Block) label (replicate 40 0) 41 (met .row-room) in

@@ -1,17 +1,17 @@
 -- The hypotheses are met. Assumes nothing.
 use mathlib.Core.Path.{_≡_, refl}
 use mathlib.Core.Bool.{Bool, true, false}
-use mathlib.Core.List.{List, [], _∷_}
+use mathlib.Core.List.{List, [], _∷_, flatMap}
 use mathlib.Core.Option.{none}
 use Prim.Native.Nat.{ℕ, zero, suc, _^_, _<_}
-use lib.ListN.{length, drop, replicate}
+use lib.ListN.{length, take, drop, replicate}
 use native.Mathlib.Omega.{arith}
 use borrow.Author.Tests.{ltb-true}
 use lib.Count.{ones, onesIn}
 use lib.Dec.{ltb, leb→le}
 use lib.Signed.{leZ-yes, ltZ-yes}
 use Rattle.answers.specs.Writers.{written}
-use Rattle.answers.specs.declared.Refusal.the-variants.{Time}
+use Rattle.answers.specs.declared.Refusal.the-variants.{PacketSize, Time}
 use Rattle.answers.specs.declared.Written.the-variants.{Room}
 use Rattle.answers.proofs.Conditions.{and-left, and-right}
 use Rattle.numbers.specs.BigEndian.{word, bytes}
@@ -24,6 +24,11 @@ use Rattle.source.specs.Distances.{reachOf}
 use Rattle.source.specs.Places.{pack, marks, place, places, moved, added}
 use Rattle.source.specs.Record.{sound, fresh, hasCounted, lost}
 use Rattle.report.specs.Reports.{countsBytes, feedbackOf, feedbackBytes}
+use Rattle.rtcp.specs.declared.Profile.{Profile}
+use Rattle.rtcp.specs.declared.Reading.{Reading}
+use Rattle.rtcp.specs.Header.{headerAt, padding}
+use Rattle.rtcp.specs.Packets.{paddingRight, mayStand}
+use Rattle.rtcp.specs.Compound.{beginsIn, blocks, reading}
 use Rattle.trace.specs.Checksum.{words, onesAdd, onesSum}
 use Rattle.trace.specs.Contents.{every, labelByte, labelOk, labelBody, countOk, goodRecords, arrivalsBody}
 use Rattle.trace.specs.Layout.{recordBytes, recordsBytes, recordAt, header, filled, checked, labelBlock, arrivalsBlock}
@@ -52,7 +57,9 @@ use Rattle.convert.specs.Runs.{startOf as runFrom, nextOf, soundRun, callNext, 
 use Rattle.convert.specs.Theorems.{taken, ends, EnoughBy}
 use Rattle.demands.specs.Calls.{run}
 use Rattle.demands.specs.PrintedTable.{Holds}
+use Rattle.demands.specs.RoundTrip.{emptyRr}
 use Rattle.demands.specs.Witnesses.{Met, c1Packets, text, label, c1Block, whole, cut, begun, reported, notLater}
+use Rattle.demands.proofs.ReadBack.{nothing-made-up}
 
 below : (limit : ℕ) (s : List ℕ) → 0 < limit → every (λ c. ltb c limit) s ≡ true → Below limit s
 unfolding every
@@ -96,6 +103,10 @@ room = refl
 row-accepted : rowFault text (record { source = run c1Packets; jumped = 3; restarts = 2 }) ≡ none
 unfolding rowFault labelOk labelByte every
 row-accepted = rw c1-sound
+
+rr-cut : reading (take 6 (emptyRr 5)) 1 Profile.Compound ≡ Reading.Refused PacketSize
+unfolding reading flatMap beginsIn blocks headerAt padding paddingRight mayStand word bytes emptyRr
+rr-cut = refl
 
 record Breaking : Type 0 where
   sound : Breakers.sound reported ≡ true
@@ -149,6 +160,8 @@ met = record {
   refuses = breaking .refuses;
   stops = breaking .stops;
   ssrcs = (omega arith, omega arith);
+  rr-read = nothing-made-up 5 1 Profile.Compound;
+  rr-cut = rr-cut;
   row-accepted = row-accepted;
   room = room;
   row-room = row-room;

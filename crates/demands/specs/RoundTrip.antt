@@ -1,5 +1,6 @@
 -- Demand 2, reports: what is written reads back to the same fields (document 01, "Packets": behind an 8-byte RR, the block in an XR packet).
 use mathlib.Core.Path.{_≡_}
+use mathlib.Core.Bool.{true}
 use mathlib.Core.List.{List, _++_}
 use Prim.Native.Nat.{ℕ, _+_, _*_, _/_, _^_, _<_}
 use lib.ListN.{length}
@@ -10,6 +11,7 @@ use Rattle.report.specs.Reports.{feedbackBytes, summaryBytes}
 use Rattle.rtcp.specs.declared.MaybeReport.{MaybeReport}
 use Rattle.rtcp.specs.declared.MaybeFeedback.{MaybeFeedback}
 use Rattle.rtcp.specs.declared.MaybeSummary.{MaybeSummary}
+use Rattle.rtcp.specs.declared.Profile.{Profile}
 use Rattle.rtcp.specs.declared.Reading.{Reading}
 use Rattle.rtcp.specs.Compound.{reading}
 
@@ -21,31 +23,34 @@ emptyRr ssrc = bytes 1 (2 * 64) ++ bytes 1 201 ++ bytes 2 1 ++ bytes 4 ssrc
 unfoldable pub xrPacket : ℕ → List ℕ → List ℕ
 xrPacket ssrc block = bytes 1 (2 * 64) ++ bytes 1 207 ++ bytes 2 (1 + length block / 4) ++ bytes 4 ssrc ++ block
 
--- for every record, whatever the SSRCs (32 bits each): the feedback packet alone is found, with the fields that it carries of the record
+-- for every record, whatever the SSRCs (32 bits each) and the profile: the feedback packet alone is found, with the fields that it carries of
+-- the record
 abbrev pub FeedbackReadsBack : Type 0
 FeedbackReadsBack =
-    (s : Source) (from sender media : ℕ) → sender < 2 ^ 32 → media < 2 ^ 32
-    → reading (emptyRr from ++ feedbackBytes sender media s) media
+    (s : Source) (from sender media : ℕ) (profile : Profile) → sender < 2 ^ 32 → media < 2 ^ 32
+    → reading (emptyRr from ++ feedbackBytes sender media s) media profile
     ≡ Reading.Read (record {
       report = MaybeReport.Absent;
       feedback = MaybeFeedback.Present (record { sender = sender; highest = highestOf s; counts = countsOf s });
       summary = MaybeSummary.Absent;
+      reporting = true;
     })
 
 -- and so is the summary block
 abbrev pub SummaryReadsBack : Type 0
 SummaryReadsBack =
-    (s : Source) (from media : ℕ) → media < 2 ^ 32
-    → reading (emptyRr from ++ xrPacket from (summaryBytes media s)) media
+    (s : Source) (from media : ℕ) (profile : Profile) → media < 2 ^ 32
+    → reading (emptyRr from ++ xrPacket from (summaryBytes media s)) media profile
     ≡ Reading.Read (record {
       report = MaybeReport.Absent;
       feedback = MaybeFeedback.Absent;
       summary = MaybeSummary.Present (countsOf s);
+      reporting = true;
     })
 
 -- no report is read that was not there: an RR alone gives none, whoever is asked about
 abbrev pub NothingMadeUp : Type 0
 NothingMadeUp =
-    (from media : ℕ)
-    → reading (emptyRr from) media
-    ≡ Reading.Read (record { report = MaybeReport.Absent; feedback = MaybeFeedback.Absent; summary = MaybeSummary.Absent })
+    (from media : ℕ) (profile : Profile)
+    → reading (emptyRr from) media profile
+    ≡ Reading.Read (record { report = MaybeReport.Absent; feedback = MaybeFeedback.Absent; summary = MaybeSummary.Absent; reporting = true })

@@ -5,10 +5,10 @@ use mathlib.Core.List.{List, [], _∷_, _++_, map}
 use mathlib.Core.Option.{none, some}
 use Prim.Native.Nat.{ℕ, _^_, _≤_, _<_}
 use lib.IntN.{ℤ, pos, negℤ, _-ℤ_}
-use lib.ListN.{length, drop, replicate}
+use lib.ListN.{length, take, drop, replicate}
 use lib.Signed.{_≤ℤ_, _<ℤ_}
 use Rattle.answers.specs.Writers.{written}
-use Rattle.answers.specs.declared.Refusal.the-variants.{Incomplete, Time}
+use Rattle.answers.specs.declared.Refusal.the-variants.{Incomplete, PacketSize, Time}
 use Rattle.answers.specs.declared.Written.the-variants.{Room}
 use Rattle.format.specs.Blocks.{blockBytes}
 use Rattle.format.specs.Forms.{shapeOf}
@@ -16,6 +16,12 @@ use Rattle.format.specs.declared.Form.the-variants.{One}
 use Rattle.source.specs.Record.{sound}
 use Rattle.source.specs.Totals.{freshTotals, mostTold}
 use Rattle.report.specs.Reports.{feedbackBytes}
+use Rattle.rtcp.specs.declared.MaybeReport.{MaybeReport}
+use Rattle.rtcp.specs.declared.MaybeFeedback.{MaybeFeedback}
+use Rattle.rtcp.specs.declared.MaybeSummary.{MaybeSummary}
+use Rattle.rtcp.specs.declared.Profile.{Profile}
+use Rattle.rtcp.specs.declared.Reading.{Reading}
+use Rattle.rtcp.specs.Compound.{reading}
 use Rattle.trace.specs.Contents.{labelOk}
 use Rattle.trace.specs.Layout.{labelBlock, arrivalsBlock}
 use Rattle.trace.specs.Reading.{rightCheck, blockOf}
@@ -42,6 +48,7 @@ use Rattle.convert.specs.Theorems.{EnoughBy}
 use Rattle.demands.specs.Calls.{TruePacket, wireOf, arrivals, run, Described}
 use Rattle.demands.specs.Count.{baseOf, SameArrivals}
 use Rattle.demands.specs.PrintedTable.{Holds}
+use Rattle.demands.specs.RoundTrip.{emptyRr}
 use Rattle.demands.specs.Examples.{c1, reportNumber}
 
 -- ---- lists of calls
@@ -142,6 +149,10 @@ pub record Met : Type 0 where
   pub stops : called reported (tick 20001) .answer ≡ Stop Timeout
   -- FeedbackReadsBack, SummaryReadsBack: the sender's SSRC and the media SSRC
   pub ssrcs : (9 < 2 ^ 32) × (1 < 2 ^ 32)
+  -- ProfilesAgree: an RR is read, and refused with 4 where its last bytes are cut off
+  pub rr-read : reading (emptyRr 5) 1 Profile.Compound
+      ≡ Reading.Read (record { report = MaybeReport.Absent; feedback = MaybeFeedback.Absent; summary = MaybeSummary.Absent; reporting = true })
+  pub rr-cut : reading (take 6 (emptyRr 5)) 1 Profile.Compound ≡ Reading.Refused PacketSize
   -- RowFits
   pub row-accepted : rowFault text (record { source = run c1Packets; jumped = 3; restarts = 2 }) ≡ none
   -- RoomIsExact, RowRoomIsExact: C1's feedback packet and its row, each with one byte too few

@@ -7,6 +7,7 @@ use native.Mathlib.Nat.{add-zero, mod-lt}
 use native.Mathlib.Omega.{arith}
 use borrow.Author.Tests.{leb-true, ltb-true, lt-ltb}
 use lib.Dec.{leb, ltb, eqb}
+use mir.Val.{boolByte}
 use lib.ListN.{length, length-drop, drop, getD}
 use lib.Seq.{drop-cons}
 use Rattle.answers.specs.Conditions.{all}
@@ -18,6 +19,11 @@ use Rattle.lent.specs.BreakerWords.{flag, stateNumber, stateOf, breakerW
 use Rattle.lent.proofs.Pairs.{length-intervals, intervals-back, words-back}
 
 -- ---- one word
+
+-- the cast of a bool to a number
+pub as-flag : (b : Bool) → boolByte b ≡ flag b
+as-flag true = refl
+as-flag false = refl
 
 flag-back : (b : Bool) → eqb (flag b) 1 ≡ b
 flag-back true = refl

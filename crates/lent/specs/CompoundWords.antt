@@ -1,4 +1,4 @@
--- What a compound says of one source (document 01, "Packets") as 23 words, in the order of include/flasknib.h.
+-- What a compound says of one source (document 01, "Packets"; document 02, L4) as 24 words, in the order of include/flasknib.h.
 use mathlib.Core.List.{List, [], _∷_, _++_}
 use Prim.Native.Nat.{ℕ, _^_}
 use lib.ListN.{replicate}
@@ -8,6 +8,7 @@ use Rattle.rtcp.specs.declared.MaybeReport.{MaybeReport}
 use Rattle.rtcp.specs.declared.MaybeFeedback.{MaybeFeedback}
 use Rattle.rtcp.specs.declared.MaybeSummary.{MaybeSummary}
 use Rattle.rtcp.specs.declared.Compound.{Compound}
+use Rattle.lent.specs.BreakerWords.{flag}
 
 abbrev pub countWords : Counts → List ℕ
 countWords c = c .ect0 ∷ c .ect1 ∷ c .ce ∷ c .notect ∷ c .lost ∷ c .duplicates ∷ []
@@ -25,5 +26,6 @@ unfoldable pub summaryWords : MaybeSummary → List ℕ
 summaryWords (MaybeSummary.Present counts) = 1 ∷ countWords counts
 summaryWords MaybeSummary.Absent = replicate 7 0
 
+-- the last word: whether an SR or an RR is in the compound
 unfoldable pub compoundWords : Compound → List ℕ
-compoundWords c = reportWords (c .report) ++ feedbackWords (c .feedback) ++ summaryWords (c .summary)
+compoundWords c = reportWords (c .report) ++ feedbackWords (c .feedback) ++ summaryWords (c .summary) ++ (flag (c .reporting) ∷ [])

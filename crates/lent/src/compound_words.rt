@@ -1,8 +1,9 @@
-// What a compound says of one source, as 23 words.
+// What a compound says of one source, as 24 words.
 ghost use mathlib.Core.Path.{_≡_};
 ghost use lib.Seq.{sets};
 ghost use Rattle.lent.specs.CompoundWords.{reportWords, feedbackWords, summaryWords, compoundWords};
 use crate::access::complement;
+use crate::access::put;
 use crate::access::put_all;
 use rtcp::Compound;
 use rtcp::MaybeFeedback;
@@ -10,7 +11,7 @@ use rtcp::MaybeReport;
 use rtcp::MaybeSummary;
 
 // The words of a compound.
-pub const WORDS: usize = 23;
+pub const WORDS: usize = 24;
 
 // The report block: that there is one, and its six fields.
 fn report_in(report: MaybeReport) -> [u64; 7]
@@ -84,4 +85,5 @@ pub fn store(c: Compound, words: &mut [u64])
     put_all(&report, words, 0);
     put_all(&feedback, words, 7);
     put_all(&summary, words, 16);
+    put(c.reporting as u64, words, 23);
 }

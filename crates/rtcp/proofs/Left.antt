@@ -1,7 +1,7 @@
 -- What is left of the reading, from a packet or an XR block on. Assumes nothing.
 use Prim.Native.Nat.{ℕ, _+_, _*_, _≤_, _<_}
 use mathlib.Core.Path.{_≡_, refl, sym, ap, _∙_}
-use mathlib.Core.Bool.{true, false}
+use mathlib.Core.Bool.{Bool, true, false, _||_}
 use mathlib.Core.List.{List, [], _∷_, _++_, map, flatMap}
 use native.Mathlib.Omega.{arith}
 use borrow.Author.Tests.{le-leb, lt-leb, eq-eqb, ne-eqb}
@@ -13,6 +13,7 @@ use Rattle.rtcp.specs.declared.MaybeReport.{MaybeReport}
 use Rattle.rtcp.specs.declared.MaybeFeedback.{MaybeFeedback}
 use Rattle.rtcp.specs.declared.MaybeSummary.{MaybeSummary}
 use Rattle.rtcp.specs.declared.Compound.{Compound}
+use Rattle.rtcp.specs.declared.Profile.{Profile}
 use Rattle.rtcp.specs.declared.Reading.{Reading}
 use Rattle.rtcp.specs.declared.Verdict.{Verdict}
 use Rattle.rtcp.specs.declared.header.Header.{Header}
@@ -22,7 +23,7 @@ use Rattle.rtcp.specs.Header.{size, headerAt}
 use Rattle.rtcp.specs.Packets.{Check, must, firstFault, isReport, isFeedback, bodyEnd, packetChecks, packetVerdict}
 use Rattle.rtcp.specs.ReportBlocks.{reportIn}
 use Rattle.rtcp.specs.EcnReports.{feedbackIn, blockAt, summaryIn}
-use Rattle.rtcp.specs.Compound.{begins, firstReport, firstFeedback, firstSummary, unlessFaulty, packets, blocks, blockCheck, checksOf, found}
+use Rattle.rtcp.specs.Compound.{begins, firstReport, firstFeedback, firstSummary, any, unlessFaulty, packets, blocks, blockCheck, checksOf, found}
 use Rattle.rtcp.proofs.Begins.{begins-next, begins-done}
 
 -- ---- the first stays
@@ -42,6 +43,10 @@ summary-first (MaybeSummary.Present c) y rest = refl
 summary-first MaybeSummary.Absent (MaybeSummary.Present c) rest = refl
 summary-first MaybeSummary.Absent MaybeSummary.Absent rest = refl
 
+any-first : (x y : Bool) (rest : List Bool) → any (x ∷ y ∷ rest) ≡ any ((x || y) ∷ rest)
+any-first true y rest = refl
+any-first false y rest = refl
+
 -- and where nothing is behind it, it is all
 pub report-last : (x : MaybeReport) (rest : List MaybeReport) → firstReport rest ≡ MaybeReport.Absent → firstReport (x ∷ rest) ≡ x
 report-last (MaybeReport.Present r) rest e = refl
@@ -54,6 +59,10 @@ feedback-last MaybeFeedback.Absent rest e = e
 pub summary-last : (x : MaybeSummary) (rest : List MaybeSummary) → firstSummary rest ≡ MaybeSummary.Absent → firstSummary (x ∷ rest) ≡ x
 summary-last (MaybeSummary.Present c) rest e = refl
 summary-last MaybeSummary.Absent rest e = e
+
+any-last : (x y : Bool) → y ≡ false → (x || y) ≡ x
+any-last true y e = refl
+any-last false y e = e
 
 -- ---- the tests in front are passed, or one is not
 
@@ -76,6 +85,7 @@ module _ (b : List ℕ) (media at : ℕ) (found : Compound) where
         report = firstReport (found .report ∷ reportIn h b at media ∷ []);
         feedback = firstFeedback (found .feedback ∷ feedbackIn h b at media ∷ []);
         summary = found .summary;
+        reporting = found .reporting || isReport h;
       }
 
   unfoldable pub withBlock : XrBlock → Compound
@@ -84,13 +94,18 @@ module _ (b : List ℕ) (media at : ℕ) (found : Compound) where
         report = found .report;
         feedback = found .feedback;
         summary = firstSummary (found .summary ∷ summaryIn x b at media ∷ []);
+        reporting = found .reporting;
       }
 
-  -- an XR packet has no report block and is no feedback
+  -- an XR packet is no SR, no RR and no feedback
   module _ (h : Header) (k : h .kind ≡ xr) where
+    not-report : isReport h ≡ false
+    unfolding isReport
+    not-report = rw k
+
     no-report : reportIn h b at media ≡ MaybeReport.Absent
-    unfolding reportIn isReport
-    no-report = rw k
+    unfolding reportIn
+    no-report = rw not-report
 
     no-feedback : feedbackIn h b at media ≡ MaybeFeedback.Absent
     unfolding feedbackIn isFeedback
@@ -103,9 +118,10 @@ module _ (b : List ℕ) (media at : ℕ) (found : Compound) where
           report = report-last (found .report) (reportIn h b at media ∷ []) (report-last _ [] refl ∙ no-report) i;
           feedback = feedback-last (found .feedback) (feedbackIn h b at media ∷ []) (feedback-last _ [] refl ∙ no-feedback) i;
           summary = found .summary;
+          reporting = any-last (found .reporting) (isReport h) not-report i;
         }
 
-module _ (b : List ℕ) (media : ℕ) where
+module _ (b : List ℕ) (media : ℕ) (profile : Profile) where
   -- ---- these tests, packets and blocks are left, and `found` was found before them
 
   abbrev pub behind : List ℕ → List ℕ → Compound → Compound
@@ -114,6 +130,7 @@ module _ (b : List ℕ) (media : ℕ) where
         report = firstReport (found .report ∷ map (λ at. reportIn (headerAt b at) b at media) packets);
         feedback = firstFeedback (found .feedback ∷ map (λ at. feedbackIn (headerAt b at) b at media) packets);
         summary = firstSummary (found .summary ∷ map (λ at. summaryIn (blockAt b at) b at media) blocks);
+        reporting = any (found .reporting ∷ map (λ at. isReport (headerAt b at)) packets);
       }
 
   unfoldable pub left : List Check → List ℕ → List ℕ → Compound → Reading
@@ -136,6 +153,7 @@ module _ (b : List ℕ) (media : ℕ) where
         report = report-first (found .report) (reportIn (headerAt b at) b at media) (map (λ p. reportIn (headerAt b p) b p media) ps) i;
         feedback = feedback-first (found .feedback) (feedbackIn (headerAt b at) b at media) (map (λ p. feedbackIn (headerAt b p) b p media) ps) i;
         summary = firstSummary (found .summary ∷ map (λ p. summaryIn (blockAt b p) b p media) bs);
+        reporting = any-first (found .reporting) (isReport (headerAt b at)) (map (λ p. isReport (headerAt b p)) ps) i;
       })
 
   left-block : (tests : List Check) (at : ℕ) (ps bs : List ℕ) (found : Compound) → left tests ps (at ∷ bs) found ≡ left tests ps bs (withBlock b media at found (blockAt b at))
@@ -147,12 +165,13 @@ module _ (b : List ℕ) (media : ℕ) where
         report = firstReport (found .report ∷ map (λ p. reportIn (headerAt b p) b p media) ps);
         feedback = firstFeedback (found .feedback ∷ map (λ p. feedbackIn (headerAt b p) b p media) ps);
         summary = summary-first (found .summary) (summaryIn (blockAt b at) b at media) (map (λ p. summaryIn (blockAt b p) b p media) bs) i;
+        reporting = any (found .reporting ∷ map (λ p. isReport (headerAt b p)) ps);
       })
 
   -- ---- from the packet at `at` on
 
   abbrev leftOf : List ℕ → Compound → Reading
-  leftOf ps found = left (flatMap (checksOf b) ps) ps (flatMap (blocks b) ps) found
+  leftOf ps found = left (flatMap (checksOf b profile) ps) ps (flatMap (blocks b) ps) found
 
   unfoldable pub fromPacket : ℕ → Compound → Reading
   fromPacket at found = leftOf (begins b at (length b)) found
@@ -160,7 +179,7 @@ module _ (b : List ℕ) (media : ℕ) where
   -- ---- from the XR block at `at` on, where its packet's body ends at `end` and the packet behind it begins at `next`
 
   abbrev leftIn : ℕ → List ℕ → List ℕ → Compound → Reading
-  leftIn end bs ps found = left (map (blockCheck b end) bs ++ flatMap (checksOf b) ps) ps (bs ++ flatMap (blocks b) ps) found
+  leftIn end bs ps found = left (map (blockCheck b end) bs ++ flatMap (checksOf b profile) ps) ps (bs ++ flatMap (blocks b) ps) found
 
   unfoldable pub fromBlock : ℕ → ℕ → ℕ → Compound → Reading
   fromBlock end next at found = leftIn end (begins b at end) (begins b next (length b)) found
@@ -176,6 +195,7 @@ module _ (b : List ℕ) (media : ℕ) where
           report = report-last (found .report) [] refl i;
           feedback = feedback-last (found .feedback) [] refl i;
           summary = summary-last (found .summary) [] refl i;
+          reporting = any-last (found .reporting) false refl i;
         }))
 
     module _ (here : at < length b) (h : Header) (read : h ≡ headerAt b at) where
@@ -183,19 +203,19 @@ module _ (b : List ℕ) (media : ℕ) where
       rest = begins b (at + h .size) (length b)
 
       at-packet : fromPacket at found
-          ≡ left (packetChecks (eqb at 0) h b at ++ (map (blockCheck b (bodyEnd h b at)) (blocks b at) ++ flatMap (checksOf b) rest)) (at ∷ rest) (blocks b at ++ flatMap (blocks b) rest) found
+          ≡ left (packetChecks profile h b at ++ (map (blockCheck b (bodyEnd h b at)) (blocks b at) ++ flatMap (checksOf b profile) rest)) (at ∷ rest) (blocks b at ++ flatMap (blocks b) rest) found
       unfolding fromPacket flatMap headerAt
       at-packet = rw read (ap (λ (ps : List ℕ). leftOf ps found) (begins-next b (length b) at here))
 
-      pub packet-faulty : (r : Refusal) → packetVerdict (eqb at 0) h b at ≡ Verdict.Faulty r → fromPacket at found ≡ Reading.Refused r
+      pub packet-faulty : (r : Refusal) → packetVerdict profile h b at ≡ Verdict.Faulty r → fromPacket at found ≡ Reading.Refused r
       unfolding packetVerdict
-      packet-faulty r e = at-packet ∙ left-faulty (packetChecks (eqb at 0) h b at) _ _ _ _ r e
+      packet-faulty r e = at-packet ∙ left-faulty (packetChecks profile h b at) _ _ _ _ r e
 
-      module _ (sound : packetVerdict (eqb at 0) h b at ≡ Verdict.Sound) where
+      module _ (sound : packetVerdict profile h b at ≡ Verdict.Sound) where
         packet-passed : fromPacket at found ≡ leftIn (bodyEnd h b at) (blocks b at) rest (withPacket b media at found h)
         unfolding packetVerdict
         packet-passed =
-            at-packet ∙ left-passed (packetChecks (eqb at 0) h b at) _ _ _ _ sound ∙ left-packet _ at rest _ found
+            at-packet ∙ left-passed (packetChecks profile h b at) _ _ _ _ sound ∙ left-packet _ at rest _ found
             ∙ ap (λ (g : Header). leftIn (bodyEnd h b at) (blocks b at) rest (withPacket b media at found g)) (sym read)
 
         pub packet-other : (h .kind ≡ xr → ⊥) → fromPacket at found ≡ fromPacket (at + h .size) (withPacket b media at found h)
@@ -236,8 +256,8 @@ module _ (b : List ℕ) (media : ℕ) where
   -- ---- the whole compound
 
   abbrev pub nothing : Compound
-  nothing = record { report = MaybeReport.Absent; feedback = MaybeFeedback.Absent; summary = MaybeSummary.Absent }
+  nothing = record { report = MaybeReport.Absent; feedback = MaybeFeedback.Absent; summary = MaybeSummary.Absent; reporting = false }
 
-  pub all-left : fromPacket 0 nothing ≡ unlessFaulty (firstFault (flatMap (checksOf b) (packets b))) (found b media)
+  pub all-left : fromPacket 0 nothing ≡ unlessFaulty (firstFault (flatMap (checksOf b profile) (packets b))) (found b media)
   unfolding fromPacket left
   all-left = refl

@@ -4,3 +4,4 @@ pub mod Places
 pub mod Narrow
 pub mod Begins
 pub mod Left
+pub mod Profiles

@@ -9,6 +9,7 @@ use lib.Dec.{leb, eqb}
 use lib.ListN.{length}
 use Rattle.answers.specs.Conditions.{all}
 use Rattle.answers.proofs.Conditions.{cond-ends, all-true, and-left}
+use Rattle.rtcp.specs.declared.Profile.{Profile}
 use Rattle.rtcp.specs.declared.Verdict.{Verdict}
 use Rattle.rtcp.specs.Layout.{rtpfb, xr, ecnFeedback, reportSize, feedbackSize}
 use Rattle.rtcp.specs.declared.header.Header.{Header}
@@ -52,11 +53,11 @@ module _ (h : Header) (b : List ℕ) (at : ℕ) where
 
   -- ---- the packet
 
-  module _ (first : Bool) (e : packetVerdict first h b at ≡ Verdict.Sound) where
+  module _ (profile : Profile) (e : packetVerdict profile h b at ≡ Verdict.Sound) where
     pub sound : Sound h b at
     unfolding packetVerdict
     sound =
-        let checks = packetChecks first h b at in
+        let checks = packetChecks profile h b at in
         let t = passed checks e in
         let room : 4 ≤ length b - at = leb-true 4 (length b - at) (all-true (tests checks) 0 t) in
         let whole : h .size ≤ length b - at = leb-true (h .size) (length b - at) (all-true (tests checks) 2 t) in

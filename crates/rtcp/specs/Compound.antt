@@ -1,7 +1,8 @@
--- The compound reader (document 01, "Packets" and the order of refusals). `b` is the compound, asked about the source `media`.
+-- The compound reader (document 01, "Packets" and the order of refusals; document 02, L4). `b` is the compound, asked about the source `media`
+-- under a profile.
 use Prim.Native.Nat.{ℕ, zero, suc, _+_, _-_}
 use mathlib.Core.Path.{_≡_}
-use mathlib.Core.Bool.{cond}
+use mathlib.Core.Bool.{Bool, false, cond, _||_}
 use mathlib.Core.List.{List, [], _∷_, _++_, map, flatMap}
 use lib.Dec.{ltb, leb, eqb}
 use lib.ListN.{length}
@@ -10,11 +11,12 @@ use Rattle.rtcp.specs.declared.MaybeReport.{MaybeReport}
 use Rattle.rtcp.specs.declared.MaybeFeedback.{MaybeFeedback}
 use Rattle.rtcp.specs.declared.MaybeSummary.{MaybeSummary}
 use Rattle.rtcp.specs.declared.Compound.{Compound}
+use Rattle.rtcp.specs.declared.Profile.{Profile}
 use Rattle.rtcp.specs.declared.Reading.{Reading}
 use Rattle.rtcp.specs.declared.Verdict.{Verdict}
 use Rattle.rtcp.specs.Layout.{xr, xrHead, compoundMost}
 use Rattle.rtcp.specs.Header.{size, headerAt}
-use Rattle.rtcp.specs.Packets.{Check, must, firstFault, bodyEnd, packetChecks}
+use Rattle.rtcp.specs.Packets.{Check, must, firstFault, isReport, bodyEnd, packetChecks}
 use Rattle.rtcp.specs.ReportBlocks.{reportIn}
 use Rattle.rtcp.specs.EcnReports.{feedbackIn, blockAt, summaryIn}
 
@@ -46,6 +48,11 @@ firstSummary [] = MaybeSummary.Absent
 firstSummary (MaybeSummary.Present c ∷ rest) = MaybeSummary.Present c
 firstSummary (MaybeSummary.Absent ∷ rest) = firstSummary rest
 
+-- whether one of them is so
+abbrev pub any : List Bool → Bool
+any [] = false
+any (t ∷ rest) = t || any rest
+
 -- what is refused gives nothing else
 abbrev pub unlessFaulty : Verdict → Compound → Reading
 unlessFaulty Verdict.Sound found = Reading.Read found
@@ -70,20 +77,21 @@ module _ (b : List ℕ) where
   abbrev pub blockCheck : ℕ → ℕ → Check
   blockCheck end at = must (leb (at + size b at) end) BlockSize
 
-  -- 1, 2, 4 (end), 5, 3, 4 (body), 6; only the packet at the front has to be an SR or an RR
-  abbrev pub checksOf : ℕ → List Check
-  checksOf at = packetChecks (eqb at 0) (headerAt b at) b at ++ map (blockCheck (bodyEnd (headerAt b at) b at)) (blocks at)
+  -- 1, 2, 4 (end), 5, 3, 4 (body), 6
+  abbrev pub checksOf : Profile → ℕ → List Check
+  checksOf profile at = packetChecks profile (headerAt b at) b at ++ map (blockCheck (bodyEnd (headerAt b at) b at)) (blocks at)
 
   module _ (media : ℕ) where
-    -- the first of each about `media`
+    -- the first of each about `media`, and whether an SR or an RR is there, about whomever
     abbrev pub found : Compound
     found =
         record {
           report = firstReport (map (λ at. reportIn (headerAt b at) b at media) packets);
           feedback = firstFeedback (map (λ at. feedbackIn (headerAt b at) b at media) packets);
           summary = firstSummary (map (λ at. summaryIn (blockAt b at) b at media) (flatMap blocks packets));
+          reporting = any (map (λ at. isReport (headerAt b at)) packets);
         }
 
     -- 1 if empty, 10, then packet by packet; the first fault ends it
-    unfoldable pub reading : Reading
-    reading = unlessFaulty (firstFault (sizeChecks ++ flatMap checksOf packets)) found
+    unfoldable pub reading : Profile → Reading
+    reading profile = unlessFaulty (firstFault (sizeChecks ++ flatMap (checksOf profile) packets)) found

@@ -5,3 +5,4 @@ pub mod Entries
 pub mod ReportBlocks
 pub mod EcnReports
 pub mod Compound
+pub mod Theorems

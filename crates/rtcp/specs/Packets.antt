@@ -9,6 +9,7 @@ use lib.ListN.{length}
 use Rattle.answers.specs.Conditions.{all}
 use Rattle.answers.specs.declared.Refusal.{Refusal}
 use Rattle.answers.specs.declared.Refusal.the-variants.{Incomplete, Version, FirstPacket, PacketSize, Padding}
+use Rattle.rtcp.specs.declared.Profile.{Profile}
 use Rattle.rtcp.specs.declared.Verdict.{Verdict}
 use Rattle.rtcp.specs.declared.header.Header.{Header}
 use Rattle.rtcp.specs.Layout.{sr, rr, rtpfb, xr, ecnFeedback, header, srHead, rrHead, xrHead, reportSize, feedbackSize}
@@ -46,9 +47,10 @@ module _ (h : Header) where
   unfoldable pub paddingRight : Bool → ℕ → Bool
   paddingRight last padding = cond (h .padded) (all (paddingRules last padding)) true
 
-  -- the first packet is an SR or an RR: `first` says whether this packet has to be
-  unfoldable pub mayStand : Bool → Bool
-  mayStand first = not first || isReport
+  -- by RFC 3550, section 6.1, the first packet, at 0, is an SR or an RR; by RFC 5506 any packet may stand anywhere
+  unfoldable pub mayStand : Profile → ℕ → Bool
+  mayStand Profile.Compound at = not (eqb at 0) || isReport
+  mayStand Profile.ReducedSize at = true
 
   -- the size without padding is what the body needs; other types and formats are passed over
   unfoldable pub bodyRight : ℕ → Bool
@@ -63,18 +65,18 @@ abbrev pub bodyEnd : Header → List ℕ → ℕ → ℕ
 bodyEnd h b at = at + h .size - padding h b at
 
 -- the faults in their order: 1, 2, 4 (end), 5, 3, 4 (body)
-abbrev pub packetChecks : Bool → Header → List ℕ → ℕ → List Check
-packetChecks first h b at =
+abbrev pub packetChecks : Profile → Header → List ℕ → ℕ → List Check
+packetChecks profile h b at =
     must (leb header (length b - at)) Incomplete
     ∷ must (eqb (h .version) 2) Version
     ∷ must (leb (h .size) (length b - at)) PacketSize
     ∷ must (paddingRight h (eqb (at + h .size) (length b)) (padding h b at)) Padding
-    ∷ must (mayStand h first) FirstPacket
+    ∷ must (mayStand h profile at) FirstPacket
     ∷ must (bodyRight h (h .size - padding h b at)) PacketSize
     ∷ []
 
-unfoldable pub packetVerdict : Bool → Header → List ℕ → ℕ → Verdict
-packetVerdict first h b at = firstFault (packetChecks first h b at)
+unfoldable pub packetVerdict : Profile → Header → List ℕ → ℕ → Verdict
+packetVerdict profile h b at = firstFault (packetChecks profile h b at)
 
 -- what a packet without a fault is: whole, with its padding and its body inside
 pub record Sound (h : Header) (b : List ℕ) (at : ℕ) : Type 0 where

@@ -1,4 +1,4 @@
-// Compound RTCP (RFC 3550, section 6.1), read for one media source: its report block, its ECN feedback and its ECN summary entry
+// Compound RTCP (RFC 3550, section 6.1; RFC 5506), read for one media source: its report block, its ECN feedback and its ECN summary entry
 // (RFC 6679, section 5).
 ghost use mathlib.Core.Path.{_≡_};
 ghost use mathlib.Core.List.{flatMap};
@@ -12,6 +12,7 @@ use crate::header::padding_at;
 use crate::layout::COMPOUND_MOST;
 use crate::layout::XR;
 use crate::layout::XR_HEAD;
+use crate::packet::or_report;
 use crate::packet::packet_verdict;
 use crate::reports::first_report;
 use answers::Refusal;
@@ -58,11 +59,20 @@ pub enum MaybeSummary {
     Absent,
 }
 
-// What a compound says of one media source: the first of each.
+// Which compounds are taken: those that begin with an SR or an RR (RFC 3550, section 6.1), or reduced-size ones too, which need not have one
+// (RFC 5506).
+pub enum Profile {
+    Compound,
+    ReducedSize,
+}
+
+// What a compound says of one media source: the first of each. `reporting` says whether an SR or an RR is in it, with or without a block about
+// the source.
 pub struct Compound {
     pub report: MaybeReport,
     pub feedback: MaybeFeedback,
     pub summary: MaybeSummary,
+    pub reporting: bool,
 }
 
 // What reading a compound gives: all of it, or why it is refused.
@@ -94,18 +104,19 @@ fn unless_faulty(verdict: Verdict, found: Compound) -> Reading
 }
 
 // What the packets in `bytes` say of the source `media`, or their first fault.
-fn read_packets(bytes: &[u8], media: u32) -> Reading
-    ensures { λ r. ⌜ r ≡ unlessFaulty (firstFault (flatMap (checksOf (now (bytes .entry))) (packets (now (bytes .entry))))) (found (now (bytes .entry)) media) ⌝ }
+fn read_packets(bytes: &[u8], media: u32, profile: Profile) -> Reading
+    ensures { λ r. ⌜ r ≡ unlessFaulty (firstFault (flatMap (checksOf (now (bytes .entry)) profile) (packets (now (bytes .entry))))) (found (now (bytes .entry)) media) ⌝ }
 {
     let total = bytes.len();
     let mut report = MaybeReport::Absent;
     let mut feedback = MaybeFeedback::Absent;
     let mut summary = MaybeSummary::Absent;
+    let mut reporting = false;
     let mut verdict = Verdict::Sound;
     let mut at = 0;
     'packets: while at < total {
         let header = header_at(bytes, at);
-        verdict = packet_verdict(bytes, at, header, at == 0);
+        verdict = packet_verdict(bytes, at, header, profile);
         if let Verdict::Faulty(_) = verdict {
             break 'packets;
         }
@@ -127,6 +138,7 @@ fn read_packets(bytes: &[u8], media: u32) -> Reading
         } else {
             report = first_report(report, bytes, at, header, media);
             feedback = first_feedback(feedback, bytes, at, header, media);
+            reporting = or_report(reporting, header);
         }
         at = next;
     }
@@ -134,13 +146,14 @@ fn read_packets(bytes: &[u8], media: u32) -> Reading
         report,
         feedback,
         summary,
+        reporting,
     };
     unless_faulty(verdict, found)
 }
 
 // What the compound in `bytes` says of the source `media`, or its first fault.
-pub fn read_compound(bytes: &[u8], media: u32) -> Reading
-    ensures { λ r. ⌜ r ≡ reading (now (bytes .entry)) media ⌝ }
+pub fn read_compound(bytes: &[u8], media: u32, profile: Profile) -> Reading
+    ensures { λ r. ⌜ r ≡ reading (now (bytes .entry)) media profile ⌝ }
 {
     if bytes.len() == 0 {
         return Reading::Refused(Refusal::Incomplete);
@@ -148,5 +161,5 @@ pub fn read_compound(bytes: &[u8], media: u32) -> Reading
     if COMPOUND_MOST < bytes.len() {
         return Reading::Refused(Refusal::Limits);
     }
-    read_packets(bytes, media)
+    read_packets(bytes, media, profile)
 }

@@ -1,8 +1,10 @@
 // The faults of a packet in document 01's order: 1, 2, 4 (end), 5, 3, 4 (body).
 ghost use mathlib.Core.Path.{_≡_};
+ghost use mathlib.Core.Bool.{_||_};
 ghost use Prim.Native.Nat.{_≤_};
 ghost use lib.ListN.{length};
 ghost use Rattle.rtcp.specs.Packets.{isReport, blocksFrom, isFeedback, paddingRight, mayStand, bodyRight, packetVerdict};
+use crate::Profile;
 use crate::Verdict;
 use crate::header::Header;
 use crate::header::padding_at;
@@ -28,6 +30,16 @@ pub fn is_report(header: Header) -> bool
         return true;
     }
     header.kind == RR
+}
+
+// Whether an SR or an RR stood before a packet, or the packet is one.
+pub fn or_report(before: bool, header: Header) -> bool
+    ensures { λ r. ⌜ r ≡ (before || isReport header) ⌝ }
+{
+    if before {
+        return true;
+    }
+    is_report(header)
 }
 
 // How many bytes of an SR or an RR stand before its report blocks.
@@ -74,11 +86,14 @@ fn padding_right(header: Header, last: bool, padding: usize) -> bool
     true
 }
 
-// Whether a packet may stand where it does: the first one is an SR or an RR.
-fn may_stand(header: Header, first: bool) -> bool
-    ensures { λ r. ⌜ r ≡ mayStand header first ⌝ }
+// Whether a packet may stand at `at`: the first one of a full compound is an SR or an RR.
+fn may_stand(header: Header, profile: Profile, at: usize) -> bool
+    ensures { λ r. ⌜ r ≡ mayStand header profile at ⌝ }
 {
-    if !first {
+    if let Profile::ReducedSize = profile {
+        return true;
+    }
+    if at != 0 {
         return true;
     }
     is_report(header)
@@ -101,10 +116,10 @@ fn body_right(header: Header, unpadded: usize) -> bool
     true
 }
 
-// The first fault of the packet at `at`; `first` says whether it must be an SR or an RR.
-pub fn packet_verdict(b: &[u8], at: usize, header: Header, first: bool) -> Verdict
+// The first fault of the packet at `at`.
+pub fn packet_verdict(b: &[u8], at: usize, header: Header, profile: Profile) -> Verdict
     requires { ⌜ (at ≤ length (now b)) × (1 ≤ header .size) ⌝ }
-    ensures { λ r. ⌜ r ≡ packetVerdict first header (now (b .entry)) at ⌝ }
+    ensures { λ r. ⌜ r ≡ packetVerdict profile header (now (b .entry)) at ⌝ }
 {
     let left = b.len() - at;
     if left < HEADER {
@@ -120,7 +135,7 @@ pub fn packet_verdict(b: &[u8], at: usize, header: Header, first: bool) -> Verdi
     if !padding_right(header, at + header.size == b.len(), padding) {
         return Verdict::Faulty(Refusal::Padding);
     }
-    if !may_stand(header, first) {
+    if !may_stand(header, profile, at) {
         return Verdict::Faulty(Refusal::FirstPacket);
     }
     if !body_right(header, header.size - padding) {

@@ -1,12 +1,14 @@
 // Compounds read, from standard input. Each line is written back; the reader's answer follows it. A line is a letter with numbers and
 // bytes, each number behind one space:
 //   r media zeros bytes      the compound of these bytes, in hexadecimal, and so many zeros behind them, asked about the SSRC `media`
+//   s media zeros bytes      the same, where reduced-size compounds are taken too
 // Any other line is a heading.
 use format::Counts;
 use libc::STDIN_FILENO;
 use rtcp::MaybeFeedback;
 use rtcp::MaybeReport;
 use rtcp::MaybeSummary;
+use rtcp::Profile;
 use rtcp::Reading;
 use rtcp::ReportBlock;
 use rtcp::read_compound;
@@ -64,6 +66,15 @@ fn show_summary(summary: MaybeSummary) {
     }
 }
 
+fn show_reporting(reporting: bool) {
+    show::text(b", SR or RR");
+    if reporting {
+        show::text(b" present");
+    } else {
+        show::text(b" absent");
+    }
+}
+
 // What reading gives.
 fn show_reading(reading: Reading) {
     match reading {
@@ -74,6 +85,7 @@ fn show_reading(reading: Reading) {
             show_report(report);
             show_feedback(feedback);
             show_summary(summary);
+            show_reporting(found.reporting);
         }
         Reading::Refused(refusal) => {
             show::text(b" :");
@@ -83,18 +95,20 @@ fn show_reading(reading: Reading) {
 }
 
 // The compound of a line.
-fn read(line: &[u8]) {
+fn read(line: &[u8], profile: Profile) {
     let media = cases::number32(line, 1);
     let zeros = cases::size(line, 2, 65536);
     let mut space = [0u8; 65536];
     let n = cases::bytes(line, 3, &mut space).len();
-    show_reading(read_compound(cases::front(&space, n + zeros), media));
+    show_reading(read_compound(cases::front(&space, n + zeros), media, profile));
 }
 
 // What a line does.
 fn done(line: &[u8]) {
-    if cases::letter(line) == b'r' {
-        read(line);
+    match cases::letter(line) {
+        b'r' => read(line, Profile::Compound),
+        b's' => read(line, Profile::ReducedSize),
+        _ => (),
     }
 }
 

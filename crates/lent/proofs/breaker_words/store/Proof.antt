@@ -1,13 +1,12 @@
 -- `lent::breaker_words::store` meets its contract. Assumes nothing.
 use borrow.Author.Needs.{needs}
-use mathlib.Core.Path.{_≡_, refl, ap, _∙_}
-use mathlib.Core.Bool.{Bool, true, false}
-use mir.Val.{boolByte}
+use mathlib.Core.Path.{_≡_, ap, _∙_}
 use mathlib.Core.List.{List, [], _∷_}
 use Prim.Native.Nat.{ℕ}
 use denote.Ref.{now}
 use lib.Seq.{sets}
-use Rattle.lent.specs.BreakerWords.{flag, intervalWords, breakerWords}
+use Rattle.lent.specs.BreakerWords.{intervalWords, breakerWords}
+use Rattle.lent.proofs.Restored.{as-flag}
 use Rattle.lent.proofs.breaker_words.store.Statement.{statement}
 use Rattle.lent.proofs.breaker_words.store.Tie as tie
 
@@ -37,11 +36,6 @@ store-intervals-requires c κs = search needs
 
 same-length : tie.Need-same-length
 same-length c = search needs
-
--- the cast of a bool to a number
-as-flag : (t : Bool) → boolByte t ≡ flag t
-as-flag true = refl
-as-flag false = refl
 
 returns : tie.Need-returns
 unfolding breakerWords

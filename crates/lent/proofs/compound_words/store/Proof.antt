@@ -2,8 +2,10 @@
 use borrow.Author.Needs.{needs}
 use mathlib.Core.Path.{ap, _∙_}
 use denote.Ref.{now}
+use lib.ListN.{set}
 use lib.Seq.{sets}
-use Rattle.lent.proofs.Parts.{three-runs}
+use Rattle.lent.proofs.Restored.{as-flag}
+use Rattle.lent.proofs.Parts.{four-runs}
 use Rattle.lent.proofs.compound_words.store.Statement.{statement}
 use Rattle.lent.proofs.compound_words.store.Tie as tie
 
@@ -37,13 +39,22 @@ put-all-requires-3 c κs = search needs
 same-length : tie.Need-same-length
 same-length c = search needs
 
+cast-put : tie.Need-cast-put
+cast-put c = search needs
+
+put-requires : tie.Need-put-requires
+put-requires c κs = search needs
+
 returns : tie.Need-returns
 returns c =
-    let a = c .before .before .before .before .before .before .before .before .before .before .before .before .before .before .before .before .before .before .before .args in
+    let p = c .before .before .before .before .before .before .before in
+    let q = p .before .before .before .before .before .before .before .before .before .before .before .before .before in
+    let a = q .before .before .before .before .args in
     let old = now (a .words) in
-    let first = c .before .before .before .before .before .before .before .before .before .before .before .before .put-all .ensures ∙ ap (sets old 0) (c .before .before .before .before .before .before .before .before .before .before .before .before .before .before .before .before .before .report-in .ensures) in
-    let second = c .before .before .before .before .before .before .before .put-all2 .ensures ∙ (λ i. sets (first i) 7 (c .before .before .before .before .before .before .before .before .before .before .before .before .before .before .before .before .feedback-in .ensures i)) in
-    c .before .before .put-all3 .ensures ∙ (λ i. sets (second i) 16 (c .before .before .before .before .before .before .before .before .before .before .before .before .before .before .before .summary-in .ensures i)) ∙ three-runs old (a .c)
+    let first = p .before .before .before .before .before .before .before .before .before .before .put-all .ensures ∙ ap (sets old 0) (q .before .before .report-in .ensures) in
+    let second = p .before .before .before .before .before .put-all2 .ensures ∙ (λ i. sets (first i) 7 (q .before .feedback-in .ensures i)) in
+    let third = p .put-all3 .ensures ∙ (λ i. sets (second i) 16 (q .summary-in .ensures i)) in
+    c .before .before .put .ensures ∙ (λ i. set (third i) 23 (as-flag (a .c .reporting) i)) ∙ four-runs old (a .c)
 
 pub store-spec : {M : Type 1} → statement M
 store-spec =
@@ -58,5 +69,7 @@ store-spec =
     put-all-requires-2
     slice-aggregate-put-all-3
     put-all-requires-3
+    cast-put
+    put-requires
     same-length
     returns)
