@@ -1,5 +1,6 @@
 /* Two intervals of 5,000 ms with a quarter of the packets lost, packets of 1,000 bytes and a round trip of 100 ms: at 244,948 bytes per
- * second the sender goes on, at 244,949 it stops for congestion (document 01, C9 and C10).
+ * second the sender goes on, at 244,949 it stops for congestion (document 01, C9 and C10). The same where no packet is lost and a quarter of
+ * them is marked with CE (document 02, L2).
  *
  *   rt staticlib capi
  *   cc -Iinclude examples/breaker.c target/staticlib/libcapi.a -o breaker
@@ -25,9 +26,22 @@ static uint16_t report(uint64_t *breaker, uint64_t time, uint32_t highest, uint6
     return flasknib_breaker_report(breaker, FLASKNIB_BREAKER_WORDS, time, highest, 64, 100, 1000, rate);
 }
 
+/* The same report with what came since the report before it: by the feedback of then the highest number was 2,000 and 250 packets were marked, by
+ * that of now it is 3,000 and 500 are marked; none is lost. */
+static uint16_t report_marked(uint64_t *breaker, uint64_t time, uint32_t highest, uint64_t rate)
+{
+    uint64_t counts[FLASKNIB_ECN_WORDS];
+    uint8_t refusal = flasknib_ecn_between(2000, 250, 0, highest, 500, 0, counts, FLASKNIB_ECN_WORDS);
+
+    if (refusal != 0)
+        return FLASKNIB_REFUSED + refusal;
+    printf("lost %d, marked %d, expected %d\n", (int)counts[0], (int)counts[1], (int)counts[2]);
+    return flasknib_breaker_report_ecn(breaker, FLASKNIB_BREAKER_WORDS, time, highest, (int64_t)counts[0], counts[1], counts[2], 100, 1000, rate);
+}
+
 int main(void)
 {
-    uint64_t breaker[FLASKNIB_BREAKER_WORDS], faster[FLASKNIB_BREAKER_WORDS];
+    uint64_t breaker[FLASKNIB_BREAKER_WORDS], faster[FLASKNIB_BREAKER_WORDS], marked[FLASKNIB_BREAKER_WORDS];
 
     /* k = 2 intervals, m = 3 reports with no new number, 15,000 ms, no reduction. */
     print_answer("start at 0", flasknib_breaker_start(2, 3, 15000, 0, 0, breaker, FLASKNIB_BREAKER_WORDS));
@@ -35,8 +49,11 @@ int main(void)
     print_answer("report at 10000", report(breaker, 10000, 2000, 244948));
 
     memcpy(faster, breaker, sizeof breaker);
+    memcpy(marked, breaker, sizeof breaker);
     print_answer("report at 15000, 244948 bytes/s", report(breaker, 15000, 3000, 244948));
     print_answer("report at 15000, 244949 bytes/s", report(faster, 15000, 3000, 244949));
+    print_answer("the same, marked and not lost", report_marked(marked, 15000, 3000, 244949));
+    print_answer("a highest number that went back", report_marked(marked, 15000, 1999, 244949));
 
     print_answer("tick at 29999", flasknib_breaker_tick(breaker, FLASKNIB_BREAKER_WORDS, 29999));
     print_answer("tick at 30000", flasknib_breaker_tick(breaker, FLASKNIB_BREAKER_WORDS, 30000));

@@ -100,6 +100,18 @@ enum { FLASKNIB_COMPOUND = 0, FLASKNIB_REDUCED_SIZE = 1 };
  * `found` has fewer words. */
 uint8_t flasknib_read_compound(const uint8_t *bytes, size_t length, uint32_t media, uint8_t profile, uint64_t *found, size_t words);
 
+/* 3 words of what came between two ECN reports: packets lost (signed), packets marked with CE, packets expected. */
+#define FLASKNIB_ECN_WORDS 3
+
+/* What came between two ECN reports of one receiver about one source, the earlier and the later one, each with the highest number, the packets
+ * marked with CE and the packets lost as the packets carry them: of ECN feedback words 9, 12 and 14 of the compound; of a summary entry words 19
+ * and 21, with the highest number of the report block beside it, word 3. Gives 0 and 3 words at the front of `counts`, as
+ * flasknib_breaker_report_ecn takes them, or refusal 10 where the highest number went back (a difference of 2^31 or more), or 12 where `counts`
+ * has fewer words. They are the true numbers where at most 65,535 packets were marked and -32,768 to 32,767 lost in between; not where the
+ * receiver began to count anew. */
+uint8_t flasknib_ecn_between(uint32_t earlier_highest, uint16_t earlier_ce, uint16_t earlier_lost, uint32_t later_highest, uint16_t later_ce,
+                             uint16_t later_lost, uint64_t *counts, size_t words);
+
 /* ---- the circuit breaker ---------------------------------------------------------------------------------------------------------
  * 75 words: k, m, timeout (ms), whether reductions are allowed; state (0 running, else the reason of the stop); time of the last report or
  * start, whether there was a report, its highest number, media run, whether a trial is under way, intervals in the window; then 32
@@ -115,9 +127,16 @@ enum { FLASKNIB_GO = 0, FLASKNIB_REDUCE = 1, FLASKNIB_STOP = 0x100, FLASKNIB_REF
 /* Starts a breaker: Go and the record, or refusal 10, or 12 where `breaker` has fewer than 75 words. `reduce` is 0 or 1, else refusal 10. */
 uint16_t flasknib_breaker_start(uint64_t k, uint64_t m, uint64_t timeout, uint8_t reduce, uint64_t time, uint64_t *breaker, size_t words);
 
-/* A report: refusals 9, 10, 11. A stopped breaker answers its stop. */
+/* A report with the fraction lost in 256ths, 0 to 255: refusals 9, 10, 11. A stopped breaker answers its stop. */
 uint16_t flasknib_breaker_report(uint64_t *breaker, size_t words, uint64_t time, uint32_t highest, uint64_t fraction, uint64_t rtt,
                                  uint64_t size, uint64_t rate);
+
+/* A report with ECN counts in the place of the fraction lost: of the `expected` packets of its interval, `lost` were lost (negative where some
+ * came that were counted as lost before) and `marked` were marked with CE. The fraction is 256 * min(lost + marked, expected) / expected rounded
+ * down, at most 255; a negative `lost` is 0 there, and where none were expected the fraction is 0. Refusals 9, 10, 11; 10 also where `marked` or
+ * `expected` is above 2^31, or `lost` outside -2^31 to 2^31. A stopped breaker answers its stop. */
+uint16_t flasknib_breaker_report_ecn(uint64_t *breaker, size_t words, uint64_t time, uint32_t highest, int64_t lost, uint64_t marked,
+                                     uint64_t expected, uint64_t rtt, uint64_t size, uint64_t rate);
 
 /* A tick: refusals 9, 10, 11. A stopped breaker answers its stop. */
 uint16_t flasknib_breaker_tick(uint64_t *breaker, size_t words, uint64_t time);

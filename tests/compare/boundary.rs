@@ -3,7 +3,7 @@ use crate::calls::{Settings, GO, REDUCE, STOP};
 use crate::circuit::{report, start};
 use crate::compare::Compare;
 use crate::lent::Lent;
-use draw::Draw;
+use draw::{breakers, Draw};
 use model::breaker::*;
 
 /// A link whose k intervals are known; the rate of the last report decides.
@@ -30,10 +30,10 @@ fn at_the_greatest_rate(compare: &Compare, draw: &Draw) {
     };
     let greatest = greatest_rate(&link);
     if greatest > 0 {
-        link.decides(compare, greatest, true);
+        link.decides(compare, draw, greatest, true);
     }
     if greatest < MOST_RATE {
-        link.decides(compare, greatest + 1, false);
+        link.decides(compare, draw, greatest + 1, false);
     }
 }
 
@@ -69,24 +69,25 @@ fn at_equality(compare: &Compare, draw: &Draw) {
     let rate = 80_000 * size / (rtt * j);
     for (rate, goes) in [(rate - 1, true), (rate, true), (rate + 1, false)] {
         if rate > 0 {
-            link.decides(compare, rate, goes);
+            link.decides(compare, draw, rate, goes);
         }
     }
 }
 
 impl Link {
-    /// k + 1 reports from a start, the last with `rate`: it goes, or it stops or reduces.
-    fn decides(&self, compare: &Compare, rate: u64, goes: bool) {
+    /// k + 1 reports from a start, each with its fraction or counts that give it, the last with `rate`: it goes, or it stops or reduces.
+    fn decides(&self, compare: &Compare, draw: &Draw, rate: u64, goes: bool) {
         for reduce in [0, 1] {
             let settings = Settings { k: self.intervals.len() as u64, m: 1, timeout: MOST_TIMEOUT, reduce };
             let mut breaker = Lent::new(&[0; WORDS]);
             start(compare, &mut breaker, settings, 0);
-            let mut last = Report { time: 1, number: 0, fraction: 255, rtt: self.rtt, size: self.size, rate: MOST_RATE };
+            let mut last = Report { time: 1, number: 0, loss: Loss::Fraction(255), rtt: self.rtt, size: self.size, rate: MOST_RATE };
             let mut answers = vec![report(compare, &mut breaker, &last)];
             for (place, &(length, fraction)) in self.intervals.iter().enumerate() {
                 let is_last = place + 1 == self.intervals.len();
                 let rate = if is_last { rate } else { MOST_RATE };
-                last = Report { time: last.time + length, number: last.number + 1, fraction, rate, ..last };
+                let loss = breakers::loss_of(draw, fraction);
+                last = Report { time: last.time + length, number: last.number + 1, loss, rate, ..last };
                 answers.push(report(compare, &mut breaker, &last));
             }
             let decision = answers.pop().unwrap();

@@ -6,7 +6,9 @@ pub trait Calls {
     fn write_feedback(&self, source: &[u64], sender: u32, media: u32, out: &mut [u8]) -> i64;
     fn write_summary(&self, source: &[u64], media: u32, out: &mut [u8]) -> i64;
     fn read_compound(&self, bytes: &[u8], media: u32, profile: u8, found: &mut [u64]) -> u8;
+    fn ecn_between(&self, earlier: &model::between::Carried, later: &model::between::Carried, counts: &mut [u64]) -> u8;
     fn breaker_start(&self, settings: Settings, time: u64, breaker: &mut [u64]) -> u16;
+    /// flasknib_breaker_report, or flasknib_breaker_report_ecn where the report comes with ECN counts.
     fn breaker_report(&self, breaker: &mut [u64], report: &model::breaker::Report) -> u16;
     fn breaker_tick(&self, breaker: &mut [u64], time: u64) -> u16;
     fn read_block(&self, block: &[u8], found: &mut [u64]) -> u8;
@@ -36,14 +38,16 @@ pub const REFUSED: u16 = 0x200;
 
 /// Every function with every answer it can give; a length counts as 0, a writer's 12 with any size as -12, and of a block's jumps and restarts
 /// whether there are any.
-pub const FUNCTIONS: [(&str, &[i64]); 13] = [
+pub const FUNCTIONS: [(&str, &[i64]); 15] = [
     ("flasknib_arrive", &[0, 7, 8, 9, 10, 128]),
     ("flasknib_count_block", &[0, 1, 256, 257, -9, -10]),
     ("flasknib_write_feedback", &[0, -9, -12]),
     ("flasknib_write_summary", &[0, -9, -12]),
     ("flasknib_read_compound", &[0, 1, 2, 3, 4, 5, 6, 10, 12]),
+    ("flasknib_ecn_between", &[0, 10, 12]),
     ("flasknib_breaker_start", &[0, 0x20A, 0x20C]),
     ("flasknib_breaker_report", &[0, 1, 0x101, 0x102, 0x103, 0x209, 0x20A, 0x20B]),
+    ("flasknib_breaker_report_ecn", &[0, 1, 0x101, 0x102, 0x103, 0x209, 0x20A, 0x20B]),
     ("flasknib_breaker_tick", &[0, 0x101, 0x102, 0x103, 0x209, 0x20A, 0x20B]),
     ("flasknib_read_block", &[0, 1, 12, 13, 14]),
     ("flasknib_write_label", &[0, -10, -12]),

@@ -1,4 +1,4 @@
-//! flasknib_breaker_start, flasknib_breaker_report and flasknib_breaker_tick: single calls on records of every kind, and whole runs.
+//! flasknib_breaker_start, both functions for a report and flasknib_breaker_tick: single calls on records of every kind, and whole runs.
 use crate::calls::Settings;
 use crate::compare::Compare;
 use crate::lent::Lent;
@@ -27,7 +27,11 @@ pub fn start(compare: &Compare, breaker: &mut Lent<u64>, settings: Settings, tim
 }
 
 pub fn report(compare: &Compare, breaker: &mut Lent<u64>, report: &Report) -> i64 {
-    compare.call("flasknib_breaker_report", breaker, |calls, breaker| i64::from(calls.breaker_report(breaker.part_mut(), report)))
+    let name = match report.loss {
+        Loss::Fraction(_) => "flasknib_breaker_report",
+        Loss::Counts { .. } => "flasknib_breaker_report_ecn",
+    };
+    compare.call(name, breaker, |calls, breaker| i64::from(calls.breaker_report(breaker.part_mut(), report)))
 }
 
 pub fn tick(compare: &Compare, breaker: &mut Lent<u64>, time: u64) -> i64 {
@@ -52,11 +56,11 @@ fn run(compare: &Compare, draw: &Draw) {
         let time = now.time + draw.within(1, (settings.timeout - 1).min(9_000));
         let last = now.number.unwrap_or(0) as u32;
         let number = if draw.one_in(4) { breakers::number(draw, last) } else { last.wrapping_add(9) };
-        let fraction = usual + draw.below(20);
+        let loss = breakers::loss_of(draw, usual + draw.below(20));
         match draw.below(10) {
             0 => drop(report(compare, &mut breaker, &breakers::report(draw, &now))),
             1 | 2 => drop(tick(compare, &mut breaker, breakers::time(draw, &now))),
-            _ => drop(report(compare, &mut breaker, &Report { time, number, fraction, rtt, size, rate })),
+            _ => drop(report(compare, &mut breaker, &Report { time, number, loss, rtt, size, rate })),
         }
     }
 }

@@ -1,5 +1,6 @@
 //! The same calls answered by the model.
 use crate::calls::{Calls, Settings, GO, REDUCE, REFUSED, RESTART, RESTARTED, STOP};
+use model::between::{between, Carried};
 use model::breaker::{Answer, Breaker, Report};
 use model::compound::Profile;
 use model::refusal::{put, require, Refusal, Written, JUMP, LIMITS, ROOM};
@@ -90,6 +91,10 @@ impl Calls for Expected {
     fn read_compound(&self, bytes: &[u8], media: u32, profile: u8, found: &mut [u64]) -> u8 {
         let read = Profile::from_number(profile).and_then(|profile| compound::read(bytes, media, profile));
         put_words(read.map(|reports| reports.to_words()), found)
+    }
+
+    fn ecn_between(&self, earlier: &Carried, later: &Carried, counts: &mut [u64]) -> u8 {
+        put_words(between(earlier, later), counts)
     }
 
     fn breaker_start(&self, settings: Settings, time: u64, words: &mut [u64]) -> u16 {

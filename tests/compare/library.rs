@@ -1,6 +1,7 @@
 //! The library: declarations that mirror include/flasknib.h, and safe calls over them.
 use crate::calls::{Calls, Settings};
-use model::breaker::Report;
+use model::between::Carried;
+use model::breaker::{Loss, Report};
 
 #[rustfmt::skip]
 extern "C" {
@@ -9,8 +10,12 @@ extern "C" {
     fn flasknib_write_feedback(source: *const u64, words: usize, sender: u32, media: u32, out: *mut u8, room: usize) -> i64;
     fn flasknib_write_summary(source: *const u64, words: usize, media: u32, out: *mut u8, room: usize) -> i64;
     fn flasknib_read_compound(bytes: *const u8, length: usize, media: u32, profile: u8, found: *mut u64, words: usize) -> u8;
+    fn flasknib_ecn_between(earlier_highest: u32, earlier_ce: u16, earlier_lost: u16, later_highest: u32, later_ce: u16, later_lost: u16,
+                            counts: *mut u64, words: usize) -> u8;
     fn flasknib_breaker_start(k: u64, m: u64, timeout: u64, reduce: u8, time: u64, breaker: *mut u64, words: usize) -> u16;
     fn flasknib_breaker_report(breaker: *mut u64, words: usize, time: u64, highest: u32, fraction: u64, rtt: u64, size: u64, rate: u64) -> u16;
+    fn flasknib_breaker_report_ecn(breaker: *mut u64, words: usize, time: u64, highest: u32, lost: i64, marked: u64, expected: u64, rtt: u64,
+                                   size: u64, rate: u64) -> u16;
     fn flasknib_breaker_tick(breaker: *mut u64, words: usize, time: u64) -> u16;
     fn flasknib_read_block(block: *const u8, length: usize, found: *mut u64, words: usize) -> u8;
     fn flasknib_write_label(label: *const u8, length: usize, ssrc: u32, out: *mut u8, room: usize) -> i64;
@@ -45,14 +50,26 @@ impl Calls for Library {
         unsafe { flasknib_read_compound(bytes.as_ptr(), bytes.len(), media, profile, found.as_mut_ptr(), found.len()) }
     }
 
+    fn ecn_between(&self, earlier: &Carried, later: &Carried, counts: &mut [u64]) -> u8 {
+        let &Carried { highest, ce, lost } = earlier;
+        let (at, words) = (counts.as_mut_ptr(), counts.len());
+        unsafe { flasknib_ecn_between(highest, ce, lost, later.highest, later.ce, later.lost, at, words) }
+    }
+
     fn breaker_start(&self, settings: Settings, time: u64, breaker: &mut [u64]) -> u16 {
         let Settings { k, m, timeout, reduce } = settings;
         unsafe { flasknib_breaker_start(k, m, timeout, reduce, time, breaker.as_mut_ptr(), breaker.len()) }
     }
 
     fn breaker_report(&self, breaker: &mut [u64], report: &Report) -> u16 {
-        let &Report { time, number, fraction, rtt, size, rate } = report;
-        unsafe { flasknib_breaker_report(breaker.as_mut_ptr(), breaker.len(), time, number, fraction, rtt, size, rate) }
+        let &Report { time, number, loss, rtt, size, rate } = report;
+        let (at, words) = (breaker.as_mut_ptr(), breaker.len());
+        match loss {
+            Loss::Fraction(fraction) => unsafe { flasknib_breaker_report(at, words, time, number, fraction, rtt, size, rate) },
+            Loss::Counts { lost, marked, expected } => unsafe {
+                flasknib_breaker_report_ecn(at, words, time, number, lost, marked, expected, rtt, size, rate)
+            },
+        }
     }
 
     fn breaker_tick(&self, breaker: &mut [u64], time: u64) -> u16 {

@@ -1,6 +1,7 @@
 //! compare [--only NAME,..] [--table FILE] [SEED]
 //! The library through its C interface against the model: each call's answer and all that it was lent. --only names functions of the
 //! header; the others are answered by the model alone. --table writes the number of calls and answers of each function.
+mod between;
 mod blocks;
 mod boundary;
 mod calls;
@@ -39,6 +40,7 @@ fn main() {
     counting::calls(compare, draw);
     reports::calls(compare, draw);
     let mutations = reading::calls(compare, draw);
+    let cuts = between::calls(compare, draw);
     circuit::calls(compare, draw);
     boundary::decisions(compare, draw);
     blocks::calls(compare, draw);
@@ -48,6 +50,6 @@ fn main() {
     let (calls, functions) = (compare.calls(), compare.functions());
     println!(
         "compare: {calls} calls of {functions} functions, {mutations} mutations of compounds, {lists} lists and {orders} other orders of them, \
-         seed {seed}: as the model"
+         {cuts} lists cut in two, seed {seed}: as the model"
     );
 }

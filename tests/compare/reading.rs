@@ -22,7 +22,7 @@ pub fn calls(compare: &Compare, draw: &Draw) -> usize {
 }
 
 /// Gives the answer and the words of `found` after the call.
-fn read(compare: &Compare, bytes: &[u8], media: u32, profile: u8, found: &[u64]) -> (i64, Vec<u64>) {
+pub fn read(compare: &Compare, bytes: &[u8], media: u32, profile: u8, found: &[u64]) -> (i64, Vec<u64>) {
     let mut lent = (Lent::new(bytes), Lent::new(found));
     let answer = compare.call("flasknib_read_compound", &mut lent, |calls, (bytes, found)| {
         i64::from(calls.read_compound(bytes.part(), media, profile, found.part_mut()))

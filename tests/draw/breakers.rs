@@ -72,11 +72,51 @@ pub fn report(draw: &Draw, breaker: &Breaker) -> Report {
     Report {
         time: time(draw, breaker),
         number: number(draw, last),
-        fraction: draw.astray(0, MOST_FRACTION),
+        loss: loss(draw),
         rtt: if draw.one_in(2) { draw.below(400) } else { draw.astray(0, MOST_RTT) },
         size: if draw.one_in(2) { draw.within(1, 1_500) } else { draw.astray(1, MOST_SIZE) },
         rate: if draw.one_in(2) { draw.below(2_000_000) } else { draw.astray(0, MOST_RATE) },
     }
+}
+
+pub fn loss(draw: &Draw) -> Loss {
+    if draw.one_in(2) {
+        Loss::Fraction(draw.astray(0, MOST_FRACTION))
+    } else {
+        counts(draw)
+    }
+}
+
+/// Few packets expected or many, and numbers lost and marked around as many, below 0, and at the limits.
+fn counts(draw: &Draw) -> Loss {
+    let expected = match draw.below(4) {
+        0 => draw.below(4),
+        1 => draw.astray(0, MOST_PACKETS),
+        _ => draw.below(3_000),
+    };
+    let marked = if draw.one_in(4) { draw.astray(0, MOST_PACKETS) } else { draw.below(expected.min(MOST_PACKETS) + 3) };
+    let rest = expected.wrapping_sub(marked) as i64;
+    let lost = match draw.below(6) {
+        0 => -(draw.below(3_000) as i64),
+        1 => draw.of(&[-1, 1]) * (MOST_PACKETS - 1 + draw.below(3)) as i64,
+        2 => draw.any_size() as i64,
+        3 => draw.below(expected.min(MOST_PACKETS) / 8 + 1) as i64,
+        _ => rest.wrapping_add(draw.below(3) as i64 - 1),
+    };
+    Loss::Counts { lost, marked, expected }
+}
+
+/// The fraction itself, or counts that give it: of 256 n packets some n times as many lost and marked, and fewer than n above that.
+pub fn loss_of(draw: &Draw, fraction: u64) -> Loss {
+    if draw.one_in(2) {
+        return Loss::Fraction(fraction);
+    }
+    let n = draw.edge(1, draw.of(&[4, MOST_PACKETS / 256]));
+    let gone = fraction * n + draw.edge(0, n - 1);
+    let lost = draw.edge(0, gone);
+    let marked = gone - lost;
+    let lost = if lost == 0 { -(draw.below(9) as i64) } else { lost as i64 };
+    Loss::Counts { lost, marked, expected: 256 * n }
 }
 
 /// Times around the last one, around the timeout, and between.

@@ -1,4 +1,4 @@
-//! Document 01, "The breaker": the record, judged and stepped.
+//! Document 01, "The breaker", with document 02, L2: the record, judged and stepped.
 use crate::refusal::*;
 
 pub const WORDS: usize = 75;
@@ -6,6 +6,7 @@ pub const MOST_INTERVALS: u64 = 32;
 pub const MOST_TIMEOUT: u64 = 600_000;
 pub const TIMES: u64 = 1 << 48;
 pub const MOST_FRACTION: u64 = 255;
+pub const MOST_PACKETS: u64 = 1 << 31;
 pub const MOST_RTT: u64 = 60_000;
 pub const MOST_SIZE: u64 = 65_535;
 pub const MOST_RATE: u64 = 125_000_000;
@@ -38,11 +39,41 @@ pub struct Breaker {
     pub window: Vec<(u64, u64)>,
 }
 
+/// The fraction lost, or the packets lost, marked and expected.
+#[derive(Clone, Copy, Debug)]
+pub enum Loss {
+    Fraction(u64),
+    Counts { lost: i64, marked: u64, expected: u64 },
+}
+
+impl Loss {
+    fn within_limits(self) -> bool {
+        match self {
+            Loss::Fraction(fraction) => fraction <= MOST_FRACTION,
+            Loss::Counts { lost, marked, expected } => {
+                (-(1 << 31)..=1 << 31).contains(&lost) && marked <= MOST_PACKETS && expected <= MOST_PACKETS
+            }
+        }
+    }
+
+    /// 256 min(L + C, E) / E rounded down, at most 255; a negative L is 0, and E = 0 gives 0.
+    pub fn fraction(self) -> u64 {
+        match self {
+            Loss::Fraction(fraction) => fraction,
+            Loss::Counts { expected: 0, .. } => 0,
+            Loss::Counts { lost, marked, expected } => {
+                let gone = (lost.max(0) as u64 + marked).min(expected);
+                (256 * gone / expected).min(255)
+            }
+        }
+    }
+}
+
 #[derive(Clone, Copy, Debug)]
 pub struct Report {
     pub time: u64,
     pub number: u32,
-    pub fraction: u64,
+    pub loss: Loss,
     pub rtt: u64,
     pub size: u64,
     pub rate: u64,
@@ -51,7 +82,7 @@ pub struct Report {
 impl Report {
     fn within_limits(&self) -> bool {
         self.time < TIMES
-            && self.fraction <= MOST_FRACTION
+            && self.loss.within_limits()
             && self.rtt <= MOST_RTT
             && (1..=MOST_SIZE).contains(&self.size)
             && self.rate <= MOST_RATE
@@ -130,7 +161,7 @@ impl Breaker {
             // The first report closes no interval, so nothing is tested, even on a record that comes with a full window.
             return Ok((next, Answer::Go));
         }
-        next.window.insert(0, (length, report.fraction));
+        next.window.insert(0, (length, report.loss.fraction()));
         next.window.truncate(self.k as usize);
         if next.window.len() as u64 != self.k {
             return Ok((next, Answer::Go));

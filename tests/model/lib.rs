@@ -1,5 +1,5 @@
-//! Document 01 with document 02's L3 and L5 in its simplest form, written from the documents and the RFCs alone. The tests hold the library
-//! and the program to it.
+//! Document 01, and 02 as far as it has landed, in their simplest form, written from the documents and the RFCs alone. The tests hold the library and the program to it.
+pub mod between;
 pub mod breaker;
 pub mod bytes;
 pub mod compound;

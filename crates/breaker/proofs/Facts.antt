@@ -16,11 +16,13 @@ use Rattle.breaker.specs.declared.Settings.{Settings}
 use Rattle.breaker.specs.declared.Interval.{Interval}
 use Rattle.breaker.specs.declared.Breaker.{Breaker}
 use Rattle.breaker.specs.declared.Report.{Report}
-use Rattle.breaker.specs.Limits.{within, settingsOk, timeOk, reportOk}
+use Rattle.breaker.specs.Limits.{within, settingsOk, timeOk, lossOk, reportOk}
+use Rattle.breaker.specs.FractionLost.{fractionOf}
 use Rattle.breaker.specs.Windows.{fractionOk, lengthOk, isZero, inUse, unused}
 use Rattle.breaker.specs.Private.{roomy, InTime}
 use Rattle.breaker.specs.Soundness.{runOk, conditions, sound}
 use Rattle.breaker.specs.Rules.{windowAfter}
+use Rattle.breaker.proofs.FractionLost.{fraction-in-range}
 use Rattle.breaker.proofs.Places.{front-first, used-roomy}
 
 module _ (low high x : ℕ) (h : within low high x ≡ true) where
@@ -89,15 +91,18 @@ module _ (b : Breaker) (h : sound b ≡ true) where
 -- ---- a report
 
 module _ (r : Report) (h : reportOk r ≡ true) where
-  piece : (i : ℕ) → getD (timeOk (r .time) ∷ leb (r .fraction) 255 ∷ leb (r .rtt) 60000 ∷ within 1 65535 (r .size) ∷ leb (r .rate) 125000000 ∷ []) i true ≡ true
+  piece : (i : ℕ) → getD (timeOk (r .time) ∷ lossOk (r .loss) ∷ leb (r .rtt) 60000 ∷ within 1 65535 (r .size) ∷ leb (r .rate) 125000000 ∷ []) i true ≡ true
   unfolding reportOk
-  piece i = all-true (timeOk (r .time) ∷ leb (r .fraction) 255 ∷ leb (r .rtt) 60000 ∷ within 1 65535 (r .size) ∷ leb (r .rate) 125000000 ∷ []) i h
+  piece i = all-true (timeOk (r .time) ∷ lossOk (r .loss) ∷ leb (r .rtt) 60000 ∷ within 1 65535 (r .size) ∷ leb (r .rate) 125000000 ∷ []) i h
 
   pub time-of : timeOk (r .time) ≡ true
   time-of = piece 0
 
-  pub fraction-of : leb (r .fraction) 255 ≡ true
-  fraction-of = piece 1
+  pub loss-of : lossOk (r .loss) ≡ true
+  loss-of = piece 1
+
+  pub fraction-of : leb (fractionOf (r .loss)) 255 ≡ true
+  fraction-of = le-leb _ _ (fraction-in-range (r .loss) loss-of)
 
   pub rtt-high : r .rtt ≤ 60000
   rtt-high = leb-true _ _ (piece 2)
@@ -112,7 +117,7 @@ module _ (r : Report) (h : reportOk r ≡ true) where
 
 module _ (b : Breaker) (r : Report) (h : InTime b r) where
   abbrev pub closed : Interval
-  closed = record { length = r .time - b .last; fraction = r .fraction }
+  closed = record { length = r .time - b .last; fraction = fractionOf (r .loss) }
 
   pub closed-length : lengthOk closed ≡ true
   closed-length =

@@ -1,5 +1,6 @@
 pub mod Answers
 pub mod Limits
+pub mod FractionLost
 pub mod Windows
 pub mod Soundness
 pub mod Condition

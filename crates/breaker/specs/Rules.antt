@@ -12,6 +12,7 @@ use Rattle.breaker.specs.declared.Breaker.{Breaker}
 use Rattle.breaker.specs.declared.Report.{Report}
 use Rattle.breaker.specs.declared.Step.{Step}
 use Rattle.breaker.specs.Answers.{goes, reduces, stops}
+use Rattle.breaker.specs.FractionLost.{fractionOf}
 use Rattle.breaker.specs.Windows.{emptyWindow, pushed, W, P}
 use Rattle.breaker.specs.Condition.{condition}
 
@@ -43,7 +44,7 @@ runAfter b r = cond (not (b .reported)) 0 (cond (notAhead (r .highest) (b .highe
 
 -- the window with the interval that this report closes, its length the time since the last report
 unfoldable pub windowAfter : Breaker → Report → Window
-windowAfter b r = pushed (b .settings .k) (record { length = r .time - b .last; fraction = r .fraction }) (b .window)
+windowAfter b r = pushed (b .settings .k) (record { length = r .time - b .last; fraction = fractionOf (r .loss) }) (b .window)
 
 abbrev pub lastIntervals : Breaker → Report → List Interval
 lastIntervals b r = take (b .settings .k) (windowAfter b r .intervals)

@@ -1,18 +1,28 @@
 -- What holds of every run of the breaker, and what the condition means.
 use mathlib.Core.Path.{_≡_}
 use mathlib.Core.Bool.{Bool, true}
-use mathlib.Core.List.{List, map}
-use Prim.Native.Nat.{ℕ, _*_, _^_, _<_}
-use lib.Dec.{ltb}
+use mathlib.Core.List.{List, [], _∷_, map}
+use Prim.Native.Nat.{ℕ, _*_, _^_, _≤_, _<_}
+use lib.Dec.{leb, ltb}
+use lib.IntN.{pos}
 use lib.ListN.{length}
+use lib.Signed.{_≤ℤ_}
 use Rattle.answers.specs.declared.Refusal.{Refusal}
 use Rattle.breaker.specs.declared.Reason.{Reason}
+use Rattle.breaker.specs.declared.Reason.the-variants.{Congestion}
 use Rattle.breaker.specs.declared.Settings.{Settings}
 use Rattle.breaker.specs.declared.Breaker.{Breaker}
+use Rattle.breaker.specs.declared.EcnCounts.{EcnCounts}
+use Rattle.breaker.specs.declared.Loss.{Loss}
+use Rattle.breaker.specs.declared.Loss.the-variants as loss
+use Rattle.breaker.specs.declared.Report.{Report}
+use Rattle.breaker.specs.declared.Answer.{Answer}
 use Rattle.breaker.specs.declared.Answer.the-variants.{Go, Stop, Refused}
+use Rattle.breaker.specs.Limits.{lossOk}
+use Rattle.breaker.specs.FractionLost.{fractionOf}
 use Rattle.breaker.specs.Soundness.{sound}
 use Rattle.breaker.specs.Condition.{condition}
-use Rattle.breaker.specs.Calls.{startOf}
+use Rattle.breaker.specs.Calls.{startOf, preset, reportOf}
 use Rattle.breaker.specs.Runs.{Call, report, tick, called, answersOf, after}
 use Rattle.breaker.specs.Throughput.{Fraction, whole, _times_, square, above, throughputSquared}
 
@@ -67,3 +77,52 @@ AboveTenTimes =
 -- comparing squares is comparing the numbers
 abbrev pub SquaresCompare : Type 0
 SquaresCompare = (x y : Fraction) → above (square x) (square y) ≡ above x y
+
+-- ---- the fraction lost (document 02, request L2)
+
+-- f is from 0 to 255
+abbrev pub FractionInRange : Type 0
+FractionInRange = (l : Loss) → lossOk l ≡ true → fractionOf l ≤ 255
+
+-- more packets lost, more marked or both, of as many expected, never give a smaller f
+abbrev pub MoreIsNoLess : Type 0
+MoreIsNoLess =
+    (c d : EcnCounts) → c .expected ≡ d .expected → c .lost ≤ℤ d .lost → c .marked ≤ d .marked
+    → fractionOf (loss.Counts c) ≤ fractionOf (loss.Counts d)
+
+-- a path that marks every packet and drops none gives 255
+abbrev pub AllMarked : Type 0
+AllMarked = (n : ℕ) → 0 < n → fractionOf (loss.Counts (record { lost = pos 0; marked = n; expected = n })) ≡ 255
+
+-- a report with another loss
+abbrev pub withLoss : Report → Loss → Report
+withLoss r l = record { time = r .time; highest = r .highest; loss = l; rtt = r .rtt; size = r .size; rate = r .rate }
+
+-- a report whose losses are in their limits answers, and leaves the breaker, as the same report with the plain f that they give
+abbrev pub JudgedByFraction : Type 0
+JudgedByFraction = (b : Breaker) (r : Report) → lossOk (r .loss) ≡ true → reportOf b r ≡ reportOf b (withLoss r (loss.Fraction (fractionOf (r .loss))))
+
+-- a report without ECN counts has the old f and its limit
+abbrev pub PlainFraction : Type 0
+PlainFraction = (f : ℕ) → (fractionOf (loss.Fraction f) ≡ f) × (lossOk (loss.Fraction f) ≡ leb f 255)
+
+-- reports of 1,000 packets each, none lost and so many marked
+abbrev pub markedReport : ℕ → ℕ → Call
+markedReport marked n =
+    report
+    (record {
+      time = n * 1000;
+      highest = n * 1000;
+      loss = loss.Counts (record { lost = pos 0; marked = marked; expected = 1000 });
+      rtt = 100;
+      size = 1000;
+      rate = 1000000;
+    })
+
+abbrev pub markedAnswers : ℕ → List Answer
+markedAnswers marked = answersOf (startOf preset 0 .breaker) (map (markedReport marked) (1 ∷ 2 ∷ 3 ∷ 4 ∷ []))
+
+-- a path that marks and never drops does not keep the breaker asleep
+pub record MarksStop : Type 0 where
+  pub unmarked : markedAnswers 0 ≡ Go ∷ Go ∷ Go ∷ Go ∷ []
+  pub marked : markedAnswers 1000 ≡ Go ∷ Go ∷ Go ∷ Stop Congestion ∷ []

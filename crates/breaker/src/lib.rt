@@ -1,4 +1,4 @@
-// The sender's circuit breaker (document 01, "The breaker"; RFC 8083, sections 4.1 to 4.3).
+// The sender's circuit breaker (document 01, "The breaker", and 02, request L2; RFC 8083, sections 4.1 to 4.3 and 5).
 ghost use mathlib.Core.Path.{_≡_};
 ghost use Rattle.breaker.specs.Answers.{reasonNumber, answers, stops};
 ghost use Rattle.breaker.specs.Rules.{stored};
@@ -8,6 +8,7 @@ use answers::Refusal;
 
 mod intervals;
 mod limits;
+mod losses;
 mod rules;
 mod soundness;
 
@@ -73,12 +74,26 @@ pub struct Breaker {
     pub window: Window,
 }
 
-// What a report says: its time in ms, the highest sequence number, the fraction lost in 256ths, the round trip in ms, the packet size in bytes,
-// and the sending rate in bytes per second.
+// What came of the packets of a report's interval: L lost (negative where some came that were counted as lost before), C marked with CE, of E
+// expected.
+pub struct EcnCounts {
+    pub lost: i64,
+    pub marked: u64,
+    pub expected: u64,
+}
+
+// What a report says of its interval's losses: the fraction lost in 256ths, or the ECN counts that give it.
+pub enum Loss {
+    Fraction(u64),
+    Counts(EcnCounts),
+}
+
+// What a report says: its time in ms, the highest sequence number, the losses, the round trip in ms, the packet size in bytes, and the
+// sending rate in bytes per second.
 pub struct Report {
     pub time: u64,
     pub highest: u32,
-    pub fraction: u64,
+    pub loss: Loss,
     pub rtt: u64,
     pub size: u64,
     pub rate: u64,
@@ -105,7 +120,7 @@ enum Opening {
 }
 
 impl Breaker {
-    // The limits. A time is below TIME_LIMIT, 2^48 ms; a stored length is from 1 to MAX_LENGTH.
+    // The limits. A time is below TIME_LIMIT, 2^48 ms; a stored length is from 1 to MAX_LENGTH; MAX_PACKETS, 2^31, is that of the ECN counts.
     pub const MAX_K: usize = 32;
 
     pub const MAX_M: u64 = 32;
@@ -115,6 +130,8 @@ impl Breaker {
     pub const TIME_LIMIT: u64 = 281_474_976_710_656;
 
     pub const MAX_FRACTION: u64 = 255;
+
+    pub const MAX_PACKETS: u64 = 2_147_483_648;
 
     pub const MAX_RTT: u64 = 60_000;
 

@@ -16,6 +16,7 @@ use crate::Report;
 use crate::Step;
 use crate::Window;
 use crate::intervals;
+use crate::losses;
 use numbers::since;
 use wide::Wide;
 
@@ -54,9 +55,10 @@ fn window_after(b: Breaker, r: Report) -> Window
 {
     let k = b.settings.k;
     let old = b.window;
+    let loss = r.loss;
     let x = Interval {
         length: r.time - b.last,
-        fraction: r.fraction,
+        fraction: losses::fraction_of(loss),
     };
     intervals::pushed(old, x, k)
 }

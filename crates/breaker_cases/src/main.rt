@@ -1,15 +1,18 @@
 // Calls on a breaker, read from standard input. Each line is written back; a call's answer and the record afterwards follow it. A line is a
 // letter with numbers, each behind one space:
-//   s k m timeout reduce time                   a start
-//   d time                                      a start with the preset settings
-//   r time highest fraction rtt size rate       a report
-//   t time                                      a tick
-//   f field value                               a change of one field by hand
-//   p place length fraction                     a change of one place of the window by hand
+//   s k m timeout reduce time                           a start
+//   d time                                              a start with the preset settings
+//   r time highest fraction rtt size rate               a report
+//   e time highest lost marked expected rtt size rate   a report with ECN counts
+//   t time                                              a tick
+//   f field value                                       a change of one field by hand
+//   p place length fraction                             a change of one place of the window by hand
 // Any other line is a heading.
 use breaker::Answer;
 use breaker::Breaker;
+use breaker::EcnCounts;
 use breaker::Interval;
+use breaker::Loss;
 use breaker::Report;
 use breaker::Settings;
 use breaker::State;
@@ -17,6 +20,7 @@ use breaker::Step;
 use breaker::Window;
 use cases::number;
 use cases::number32;
+use cases::signed;
 use libc::STDIN_FILENO;
 
 // 1 for true, 0 for false.
@@ -87,13 +91,36 @@ fn start_of(line: &[u8]) -> Step {
 
 // The report of a line.
 fn report_of(line: &[u8]) -> Report {
+    let loss = Loss::Fraction(number(line, 3));
     Report {
         time: number(line, 1),
         highest: number32(line, 2),
-        fraction: number(line, 3),
+        loss,
         rtt: number(line, 4),
         size: number(line, 5),
         rate: number(line, 6),
+    }
+}
+
+// The ECN counts of a line.
+fn counts_of(line: &[u8]) -> EcnCounts {
+    EcnCounts {
+        lost: signed(line, 3),
+        marked: number(line, 4),
+        expected: number(line, 5),
+    }
+}
+
+// The report with ECN counts of a line.
+fn ecn_report_of(line: &[u8]) -> Report {
+    let loss = Loss::Counts(counts_of(line));
+    Report {
+        time: number(line, 1),
+        highest: number32(line, 2),
+        loss,
+        rtt: number(line, 6),
+        size: number(line, 7),
+        rate: number(line, 8),
     }
 }
 
@@ -153,6 +180,7 @@ fn done(b: Breaker, line: &[u8]) -> Breaker {
     match cases::letter(line) {
         b'd' => shown(Breaker::start_preset(number(line, 1))),
         b's' => shown(start_of(line)),
+        b'e' => shown(b.report(ecn_report_of(line))),
         b'r' => shown(b.report(report_of(line))),
         b't' => shown(b.tick(number(line, 1))),
         b'f' => changed(b, number(line, 1), number(line, 2)),

@@ -5,6 +5,7 @@ use mathlib.Core.Bool.{Bool, true, false, _&&_, not, cond}
 use mathlib.Core.List.{List}
 use mathlib.Core.Option.{Option, none, some}
 use lib.Dec.{leb, eqb}
+use lib.IntN.{ℤ}
 use lib.ListN.{length}
 use Rattle.answers.specs.declared.Refusal.{Refusal}
 use Rattle.answers.specs.declared.Refusal.the-variants.{Malformed}
@@ -14,6 +15,8 @@ use Rattle.answers.specs.Conditions.{all}
 use Rattle.answers.specs.Refusals.{numberOf, roomNumber}
 use Rattle.breaker.specs.declared.Answer.{Answer}
 use Rattle.breaker.specs.declared.Answer.the-variants.{Go, Reduce, Stop, Refused}
+use Rattle.breaker.specs.declared.Loss.{Loss}
+use Rattle.breaker.specs.declared.Loss.the-variants.{Counts}
 use Rattle.breaker.specs.declared.Step.{Step}
 use Rattle.breaker.specs.Answers.{reasonNumber}
 use Rattle.breaker.specs.Calls.{unstarted, startOf}
@@ -68,7 +71,7 @@ PutsStart s old r out =
 abbrev pub StartsBreaker : ℕ → ℕ → ℕ → ℕ → ℕ → List ℕ → ℕ → List ℕ → Type 0
 StartsBreaker k m timeout reduce time old r out = PutsStart (starts k m timeout reduce time) old r out
 
--- ---- flasknib_breaker_report, flasknib_breaker_tick
+-- ---- flasknib_breaker_report, flasknib_breaker_report_ecn, flasknib_breaker_tick
 
 -- 75 words that are those of a record
 abbrev pub isRecord : List ℕ → Bool
@@ -100,9 +103,13 @@ TakesCall c old r out =
     (callLeft c old)
     r out
 
-abbrev pub TakesReport : List ℕ → ℕ → ℕ → ℕ → ℕ → ℕ → ℕ → ℕ → List ℕ → Type 0
-TakesReport old time highest fraction rtt size rate r out =
-    TakesCall (report (record { time = time; highest = highest; fraction = fraction; rtt = rtt; size = size; rate = rate })) old r out
+-- lost, marked and expected as flasknib_breaker_report_ecn is given them
+abbrev pub countsGiven : ℤ → ℕ → ℕ → Loss
+countsGiven lost marked expected = Counts (record { lost = lost; marked = marked; expected = expected })
+
+abbrev pub TakesReport : List ℕ → ℕ → ℕ → Loss → ℕ → ℕ → ℕ → ℕ → List ℕ → Type 0
+TakesReport old time highest loss rtt size rate r out =
+    TakesCall (report (record { time = time; highest = highest; loss = loss; rtt = rtt; size = size; rate = rate })) old r out
 
 abbrev pub TakesTick : List ℕ → ℕ → ℕ → List ℕ → Type 0
 TakesTick old time r out = TakesCall (tick time) old r out

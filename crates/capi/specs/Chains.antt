@@ -12,6 +12,7 @@ use Rattle.source.specs.Record.{freshRecord, sound, wireNumber}
 use Rattle.source.specs.Arrivals.{arrival, after}
 use Rattle.breaker.specs.declared.Settings.{Settings}
 use Rattle.breaker.specs.declared.Breaker.{Breaker}
+use Rattle.breaker.specs.declared.Loss.the-variants.{Fraction}
 use Rattle.breaker.specs.Calls.{startOf, preset}
 use Rattle.breaker.specs.Runs.{Call, report, tick, called, answersOf, after as afterCalls}
 use Rattle.breaker.specs.Theorems.{Typed, numberFits}
@@ -95,7 +96,7 @@ CalledFromStart = (s : Settings) (time : ℕ) (calls : List Call) → all (map n
 
 -- such a list, with a report in its middle that is not later than the last
 abbrev pub reportAt : ℕ → ℕ → Call
-reportAt time highest = report (record { time = time; highest = highest; fraction = 20; rtt = 100; size = 1000; rate = 5000 })
+reportAt time highest = report (record { time = time; highest = highest; loss = Fraction 20; rtt = 100; size = 1000; rate = 5000 })
 
 abbrev pub someCalls : List Call
 someCalls = reportAt 1000 7 ∷ reportAt 1000 8 ∷ reportAt 3000 9 ∷ tick 4000 ∷ []

@@ -1,4 +1,4 @@
--- What reading a compound leaves in the lent words (include/flasknib.h, "compound RTCP").
+-- What reading a compound, and the difference of two ECN reports, leave in the lent words (include/flasknib.h, "compound RTCP").
 use Prim.Native.Nat.{ℕ}
 use mathlib.Core.Bool.{not, cond}
 use mathlib.Core.List.{List, []}
@@ -9,7 +9,11 @@ use Rattle.answers.specs.declared.Refusal.the-variants.{Limits}
 use Rattle.rtcp.specs.declared.Profile.{Profile}
 use Rattle.rtcp.specs.declared.Reading.{Reading}
 use Rattle.rtcp.specs.Compound.{reading}
+use Rattle.format.specs.declared.Counts.{Counts}
+use Rattle.between.specs.declared.Between.{Between}
+use Rattle.between.specs.Differences.{signalsOf, expectingOf}
 use Rattle.lent.specs.CompoundWords.{compoundWords}
+use Rattle.lent.specs.EcnWords.{ecnWords}
 use Rattle.capi.specs.Codes.{refusalCode, Gives}
 
 -- 1 is the profile that takes reduced-size compounds too (RFC 5506), 0 the other (RFC 3550, section 6.1)
@@ -39,3 +43,31 @@ ReadsCompound bytes media profile old r found =
     (readingFault (readingBy profile bytes media))
     (readingWords (readingBy profile bytes media))
     old r found
+
+-- ---- flasknib_ecn_between
+
+-- the counters that tell of congestion; the others play no part
+abbrev pub countersGiven : ℕ → ℕ → Counts
+countersGiven ce lost = record { ect0 = 0; ect1 = 0; ce = ce; notect = 0; lost = lost; duplicates = 0 }
+
+-- the refusal, 10
+abbrev pub betweenFault : Between → Option Refusal
+betweenFault (Between.Refused refusal) = some refusal
+betweenFault (Between.Counts c) = none
+
+abbrev pub betweenWords : Between → List ℕ
+betweenWords (Between.Refused refusal) = []
+betweenWords (Between.Counts c) = ecnWords c
+
+-- what came between: 10, 12; or 0 and 3 words
+abbrev pub Tells : Between → List ℕ → ℕ → List ℕ → Type 0
+Tells b old r out =
+    Gives refusalCode
+    (betweenFault b)
+    (betweenWords b)
+    old r out
+
+-- of two reports, each with its highest number, packets marked with CE and packets lost
+abbrev pub TellsBetween : ℕ → ℕ → ℕ → ℕ → ℕ → ℕ → List ℕ → ℕ → List ℕ → Type 0
+TellsBetween highest ce lost highest₂ ce₂ lost₂ old r out =
+    Tells (expectingOf (signalsOf (countersGiven ce lost) (countersGiven ce₂ lost₂)) highest highest₂) old r out

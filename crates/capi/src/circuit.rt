@@ -2,11 +2,14 @@
 ghost use mathlib.Core.Path.{_≡_};
 ghost use lib.ListN.{length};
 ghost use Rattle.capi.specs.Codes.{Leaves};
-ghost use Rattle.capi.specs.BreakerCalls.{answerCode, isRefused, recordIn, leftBy, PutsStart, StartsBreaker, TakesReport, TakesTick};
+ghost use Rattle.breaker.specs.declared.Loss.the-variants.{Fraction};
+ghost use Rattle.capi.specs.BreakerCalls.{answerCode, isRefused, recordIn, leftBy, PutsStart, StartsBreaker, countsGiven, TakesReport, TakesTick};
 use answers::ROOM;
 use answers::Refusal;
 use breaker::Answer;
 use breaker::Breaker;
+use breaker::EcnCounts;
+use breaker::Loss;
 use breaker::Report;
 use breaker::Settings;
 use breaker::Step;
@@ -109,6 +112,34 @@ pub extern "C" fn flasknib_breaker_start(
 }
 
 // A report on the record in `breaker`: the answer, and the next record in its place.
+fn take_report(
+    breaker: &mut [u64],
+    time: u64,
+    highest: u32,
+    loss: Loss,
+    rtt: u64,
+    size: u64,
+    rate: u64,
+) -> u16
+    ensures { λ r. ⌜ TakesReport (now (breaker .entry)) time highest loss rtt size rate r (now (breaker .exit)) ⌝ }
+{
+    let given = record_in(breaker);
+    if !given.ok {
+        return code(Answer::Refused(Refusal::Malformed));
+    }
+    let b = given.breaker;
+    let report = Report {
+        time,
+        highest,
+        loss,
+        rtt,
+        size,
+        rate,
+    };
+    put_back(b.report(report), breaker)
+}
+
+// A report with the fraction lost.
 #[no_mangle]
 pub extern "C" fn flasknib_breaker_report(
     breaker: &mut [u64],
@@ -119,22 +150,34 @@ pub extern "C" fn flasknib_breaker_report(
     size: u64,
     rate: u64,
 ) -> u16
-    ensures { λ r. ⌜ TakesReport (now (breaker .entry)) time highest fraction rtt size rate r (now (breaker .exit)) ⌝ }
+    ensures { λ r. ⌜ TakesReport (now (breaker .entry)) time highest (Fraction fraction) rtt size rate r (now (breaker .exit)) ⌝ }
 {
-    let given = record_in(breaker);
-    if !given.ok {
-        return code(Answer::Refused(Refusal::Malformed));
-    }
-    let b = given.breaker;
-    let report = Report {
-        time,
-        highest,
-        fraction,
-        rtt,
-        size,
-        rate,
+    let loss = Loss::Fraction(fraction);
+    take_report(breaker, time, highest, loss, rtt, size, rate)
+}
+
+// A report with ECN counts in the place of the fraction lost.
+#[no_mangle]
+pub extern "C" fn flasknib_breaker_report_ecn(
+    breaker: &mut [u64],
+    time: u64,
+    highest: u32,
+    lost: i64,
+    marked: u64,
+    expected: u64,
+    rtt: u64,
+    size: u64,
+    rate: u64,
+) -> u16
+    ensures { λ r. ⌜ TakesReport (now (breaker .entry)) time highest (countsGiven lost marked expected) rtt size rate r (now (breaker .exit)) ⌝ }
+{
+    let counts = EcnCounts {
+        lost,
+        marked,
+        expected,
     };
-    put_back(b.report(report), breaker)
+    let loss = Loss::Counts(counts);
+    take_report(breaker, time, highest, loss, rtt, size, rate)
 }
 
 // A tick on the record in `breaker`: the answer, and the next record in its place.

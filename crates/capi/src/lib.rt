@@ -4,5 +4,6 @@ pub mod blocks;
 pub mod circuit;
 mod codes;
 pub mod compound;
+pub mod ecn;
 pub mod rows;
 pub mod sources;

@@ -10,6 +10,7 @@ pub mod PrintedTable
 pub mod ReadBack
 pub mod WorkedExamples
 pub mod Between
+pub mod BetweenReports
 pub mod Witnesses
 pub mod Uses
 pub mod WitnessesBetween

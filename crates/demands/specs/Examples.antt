@@ -14,6 +14,7 @@ use Rattle.report.specs.Reports.{feedbackBytes, summaryBytes}
 use Rattle.table.specs.Lines.{rowBytes}
 use Rattle.breaker.specs.declared.Answer.{Answer}
 use Rattle.breaker.specs.declared.Answer.the-variants.{Go, Stop}
+use Rattle.breaker.specs.declared.Loss.the-variants.{Fraction}
 use Rattle.breaker.specs.declared.Reason.the-variants.{Congestion}
 use Rattle.breaker.specs.Calls.{startOf}
 use Rattle.breaker.specs.Runs.{Call, report, answersOf}
@@ -62,7 +63,7 @@ countedOf (Refused refusal s) = counted (numberOf refusal) (values s)
 -- report n of a breaker, from 0
 abbrev pub reportNumber : ℕ → ℕ → ℕ → ℕ → ℕ → Call
 reportNumber n fraction rtt size rate =
-    report (record { time = 1 + n * 5000; highest = n; fraction = fraction; rtt = rtt; size = size; rate = rate })
+    report (record { time = 1 + n * 5000; highest = n; loss = Fraction fraction; rtt = rtt; size = size; rate = rate })
 
 abbrev pub reportsUpTo : ℕ → ℕ → ℕ → ℕ → ℕ → List Call → List Call
 reportsUpTo zero fraction rtt size rate later = reportNumber 0 fraction rtt size rate ∷ later

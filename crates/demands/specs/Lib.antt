@@ -6,5 +6,6 @@ pub mod Between
 pub mod Demand3
 pub mod PrintedTable
 pub mod Examples
+pub mod BetweenReports
 pub mod Witnesses
 pub mod WitnessesBetween

@@ -2,3 +2,4 @@ pub mod SourceWords
 pub mod CompoundWords
 pub mod BreakerWords
 pub mod Witnesses
+pub mod EcnWords

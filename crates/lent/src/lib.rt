@@ -3,4 +3,5 @@
 mod access;
 pub mod breaker_words;
 pub mod compound_words;
+pub mod ecn_words;
 pub mod source_words;

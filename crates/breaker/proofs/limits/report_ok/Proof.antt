@@ -12,17 +12,20 @@ returns : tie.Need-returns
 unfolding reportOk
 returns c = and-ends _ _ (le-ltb _ _ (c .if1 .taken))
 
+loss-ok-requires : tie.Need-loss-ok-requires
+loss-ok-requires c κs = search needs
+
 returns-2 : tie.Need-returns-2
 unfolding reportOk
 returns-2 c =
     and-goes _ _ _ (lt-ltb _ _ (c .before .before .if1 .left))
-    (and-ends _ _ (lt-leb _ _ (c .if2 .taken)))
+    (and-ends _ _ (was-false (c .before .loss-ok .ensures) (c .if2 .taken)))
 
 returns-3 : tie.Need-returns-3
 unfolding reportOk
 returns-3 c =
     and-goes _ _ _ (lt-ltb _ _ (c .before .before .before .before .if1 .left))
-    (and-goes _ _ _ (le-leb _ _ (c .before .before .if2 .left))
+    (and-goes _ _ _ (was-true (c .before .before .before .loss-ok .ensures) (c .before .before .if2 .left))
     (and-ends _ _ (lt-leb _ _ (c .if3 .taken))))
 
 is-within-requires : tie.Need-is-within-requires
@@ -32,7 +35,7 @@ returns-4 : tie.Need-returns-4
 unfolding reportOk
 returns-4 c =
     and-goes _ _ _ (lt-ltb _ _ (c .before .before .before .before .before .before .if1 .left))
-    (and-goes _ _ _ (le-leb _ _ (c .before .before .before .before .if2 .left))
+    (and-goes _ _ _ (was-true (c .before .before .before .before .before .loss-ok .ensures) (c .before .before .before .before .if2 .left))
     (and-goes _ _ _ (le-leb _ _ (c .before .before .if3 .left))
     (and-ends _ _ (was-false (c .before .is-within .ensures) (c .if4 .taken)))))
 
@@ -40,11 +43,12 @@ returns-5 : tie.Need-returns-5
 unfolding reportOk
 returns-5 c =
     and-goes _ _ _ (lt-ltb _ _ (c .before .before .before .before .before .before .before .if1 .left))
-    (and-goes _ _ _ (le-leb _ _ (c .before .before .before .before .before .if2 .left))
+    (and-goes _ _ _ (was-true (c .before .before .before .before .before .before .loss-ok .ensures) (c .before .before .before .before .before .if2 .left))
     (and-goes _ _ _ (le-leb _ _ (c .before .before .before .if3 .left))
     (and-goes _ _ _ (was-true (c .before .before .is-within .ensures) (c .before .if4 .left))
     (sym (and-true _)))))
 
 pub report-ok-spec : {M : Type 1} → statement M
 report-ok-spec =
-    tie.close (tie.spec returns returns-2 returns-3 is-within-requires returns-4 returns-5)
+    tie.close
+    (tie.spec returns loss-ok-requires returns-2 returns-3 is-within-requires returns-4 returns-5)

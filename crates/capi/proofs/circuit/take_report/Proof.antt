@@ -1,4 +1,4 @@
--- `capi::circuit::flasknib_breaker_report` meets its contract. Assumes nothing.
+-- `capi::circuit::take_report` meets its contract. Assumes nothing.
 use borrow.Author.Needs.{needs}
 use mathlib.Core.Path.{ap, _∙_}
 use denote.Ref.{now}
@@ -7,8 +7,8 @@ use Rattle.breaker.specs.Calls.{reportOf}
 use Rattle.breaker.specs.Runs.{called}
 use Rattle.lent.specs.declared.breaker_words.Loaded.{Loaded}
 use Rattle.capi.proofs.Steps.{record-sized, call-malformed, call-made}
-use Rattle.capi.proofs.circuit.flasknib_breaker_report.Statement.{statement}
-use Rattle.capi.proofs.circuit.flasknib_breaker_report.Tie as tie
+use Rattle.capi.proofs.circuit.take_report.Statement.{statement}
+use Rattle.capi.proofs.circuit.take_report.Tie as tie
 
 record-in-requires : tie.Need-record-in-requires
 record-in-requires c κs = search needs
@@ -42,11 +42,11 @@ returns-2 c =
     let a = c .before .before .before .before .before .before .before .before .before .before .before .args in
     let given = c .before .before .before .before .before .before .before .before .record-in .ensures in
     let fit = was-true (ap (λ (g : Loaded). g .ok) given) (c .before .before .before .before .before .before .if1 .left) in
-    let made = c .before .before .before .before .report .ensures ∙ ap (λ (g : Loaded). reportOf (g .breaker) (record { time = a .time; highest = a .highest; fraction = a .fraction; rtt = a .rtt; size = a .size; rate = a .rate })) given in
+    let made = c .before .before .before .before .report .ensures ∙ ap (λ (g : Loaded). reportOf (g .breaker) (record { time = a .time; highest = a .highest; loss = a .loss; rtt = a .rtt; size = a .size; rate = a .rate })) given in
     call-made _ (now (a .breaker)) fit made (c .before .before .put-back .ensures)
 
-pub flasknib-breaker-report-spec : {M : Type 1} → statement M
-flasknib-breaker-report-spec =
+pub take-report-spec : {M : Type 1} → statement M
+take-report-spec =
     tie.close
     (tie.spec
     record-in-requires

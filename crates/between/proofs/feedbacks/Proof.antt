@@ -1,0 +1,21 @@
+-- `between::feedbacks` meets its contract. Assumes nothing.
+use borrow.Author.Needs.{needs}
+use mathlib.Core.Path.{_∙_, ap}
+use Rattle.between.specs.declared.Signals.{Signals}
+use Rattle.between.specs.Differences.{expectingOf}
+use Rattle.between.proofs.feedbacks.Statement.{statement}
+use Rattle.between.proofs.feedbacks.Tie as tie
+
+counters-requires : tie.Need-counters-requires
+counters-requires c κs = search needs
+
+expecting-requires : tie.Need-expecting-requires
+expecting-requires c κs = search needs
+
+returns : tie.Need-returns
+returns c =
+    let a = c .before .before .before .before .args in
+    c .expecting .ensures ∙ ap (λ (s : Signals). expectingOf s (a .earlier .highest) (a .later .highest)) (c .before .counters .ensures)
+
+pub feedbacks-spec : {M : Type 1} → statement M
+feedbacks-spec = tie.close (tie.spec counters-requires expecting-requires returns)

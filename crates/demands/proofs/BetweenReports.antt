@@ -1,0 +1,55 @@
+-- What came between two of our own reports. Assumes nothing.
+use mathlib.Core.Path.{_≡_, refl, sym, _∙_, ap}
+use mathlib.Core.Bool.{Bool, false, cond}
+use lib.Count.{ones, onesIn}
+use lib.IntN.{ℤ, pos, negℤ, _+ℤ_, _-ℤ_, +ℤ-assoc, negℤ-+ℤ, +ℤ-negℤ-cancel, -ℤ-+ℤ-cancel}
+use lib.Signed.{leZ-yes, ltZ-yes}
+use Rattle.numbers.specs.Since.{since, signed}
+use Rattle.numbers.proofs.Integers.{exchange}
+use Rattle.source.specs.declared.Source.{Source}
+use Rattle.source.specs.Places.{pack, place, marks, places, moved, added}
+use Rattle.source.specs.Record.{distinct, fresh, hasCounted, sound, lost}
+use Rattle.source.specs.Distances.{reachOf}
+use Rattle.source.specs.Arrivals.{counted, first, ahead, behind, distance, arrival}
+use Rattle.report.specs.Carried.{highestOf, countsOf}
+use Rattle.between.specs.Differences.{signalsOf, expectingOf}
+use Rattle.between.proofs.Exact.{between-exact}
+use Rattle.demands.specs.BetweenReports.{truthOf, BetweenReports, expectedBy, ExpectedBetween, BetweenC1}
+
+pub between-reports : BetweenReports
+unfolding countsOf
+between-reports s t sender told ahead =
+    between-exact (truthOf s) (truthOf t) (countsOf s) (countsOf t) (highestOf s) (highestOf t)
+    (record { ce = refl; lost = refl })
+    (record { ce = refl; lost = refl })
+    refl refl told ahead
+
+-- the same number more on both sides
+shifted : (x y k : ℤ) → (x +ℤ k) -ℤ (y +ℤ k) ≡ x -ℤ y
+shifted x y k =
+    ap (λ (z : ℤ). x +ℤ k +ℤ z) (negℤ-+ℤ y k) ∙ sym (+ℤ-assoc (x +ℤ k) (negℤ y) (negℤ k))
+    ∙ ap (λ (z : ℤ). z -ℤ k) (exchange x k (negℤ y)) ∙ +ℤ-negℤ-cancel (x -ℤ y) k
+
+expected-is : (s : Source) → fresh s ≡ false → expectedBy s ≡ s .highest .0 -ℤ s .base .0 +ℤ pos 1
+unfolding lost
+expected-is s e =
+    let all = s .highest .0 -ℤ s .base .0 +ℤ pos 1 in
+    ap (λ (b : Bool). cond b (pos 0) (all -ℤ pos (distinct s)) +ℤ pos (distinct s)) e ∙ -ℤ-+ℤ-cancel all (pos (distinct s))
+
+pub expected-between : ExpectedBetween
+expected-between s t p q same =
+    let b = s .base .0 in
+    sym
+    ((λ i. (expected-is t q ∙ ap (λ (z : ℤ). t .highest .0 -ℤ z +ℤ pos 1) (sym (ap (λ e. e .0) same))) i -ℤ expected-is s p i)
+    ∙ shifted (t .highest .0 -ℤ b) (s .highest .0 -ℤ b) (pos 1)
+    ∙ shifted (t .highest .0) (s .highest .0) (negℤ b))
+
+pub between-c1 : BetweenC1
+unfolding ones onesIn since signed pack place marks places moved added fresh hasCounted sound lost reachOf counted first ahead behind distance arrival countsOf signalsOf expectingOf
+between-c1 =
+    record {
+      counted = (refl, refl, refl);
+      told = record { someMarked = leZ-yes tt; fewMarked = ltZ-yes tt; someLost = leZ-yes tt; fewLost = ltZ-yes tt };
+      ahead = record { some = leZ-yes tt; few = ltZ-yes tt };
+      counts = refl;
+    }
