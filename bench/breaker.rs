@@ -1,6 +1,7 @@
-//! The circuit breaker of document 01 in plain Rust, with the same check of its record before each report.
+//! The circuit breaker of document 01 and of document 02's L4 in plain Rust, with the same check of its record before each report.
 
 const MOST_TIME: u64 = 1 << 48;
+const MOST_LENGTH: u64 = 10_000_000;
 
 #[derive(Clone)]
 pub struct Report {
@@ -20,6 +21,7 @@ pub struct Breaker {
     reduce: bool,
     state: u16,
     time: u64,
+    heard: u64,
     reported: bool,
     highest: u32,
     run: u64,
@@ -37,6 +39,7 @@ impl Breaker {
             reduce: false,
             state: 0,
             time,
+            heard: time,
             reported: false,
             highest: 0,
             run: 0,
@@ -52,8 +55,9 @@ impl Breaker {
         settings
             && counts
             && self.time < MOST_TIME
+            && self.heard < MOST_TIME
             && (self.reported || self.highest == 0)
-            && self.window[..self.count].iter().all(|&(long, f)| (1..600_000).contains(&long) && f <= 255)
+            && self.window[..self.count].iter().all(|&(long, f)| (1..=MOST_LENGTH).contains(&long) && f <= 255)
             && self.window[self.count..].iter().all(|&place| place == (0, 0))
     }
 
@@ -71,7 +75,7 @@ impl Breaker {
     }
 
     fn store(&mut self, r: &Report, run: u64) {
-        (self.time, self.highest, self.reported, self.run) = (r.time, r.highest, true, run);
+        (self.time, self.heard, self.highest, self.reported, self.run) = (r.time, r.time, r.highest, true, run);
     }
 
     /// Go 0, Reduce 1, 0x100 + the reason of a stop, or 0x200 + a refusal.
@@ -87,7 +91,7 @@ impl Breaker {
         if r.time >= MOST_TIME || r.fraction > 255 || r.rtt > 60_000 || !size || r.rate > 125_000_000 {
             return 0x20a;
         }
-        if r.time <= self.time {
+        if r.time <= self.time || r.time < self.heard {
             return 0x20b;
         }
         self.ruled(r)
@@ -100,8 +104,7 @@ impl Breaker {
             self.store(r, 0);
             return 0;
         }
-        let long = r.time - self.time;
-        if long >= self.timeout {
+        if r.time - self.heard >= self.timeout {
             return self.stop(1);
         }
         let ahead = r.highest.wrapping_sub(self.highest);
@@ -112,7 +115,7 @@ impl Breaker {
         let before = (self.count, self.window);
         if self.reported {
             self.window.copy_within(0..self.k - 1, 1);
-            self.window[0] = (long, r.fraction);
+            self.window[0] = ((r.time - self.time).min(MOST_LENGTH), r.fraction);
             self.count = (self.count + 1).min(self.k);
         }
         let tested = self.reported && self.count == self.k;

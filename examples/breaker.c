@@ -1,6 +1,7 @@
 /* Two intervals of 5,000 ms with a quarter of the packets lost, packets of 1,000 bytes and a round trip of 100 ms: at 244,948 bytes per
  * second the sender goes on, at 244,949 it stops for congestion (document 01, C9 and C10). The same where no packet is lost and a quarter of
- * them is marked with CE (document 02, L2).
+ * them is marked with CE (document 02, L2). A packet that is no report moves the time from which the timeout is measured, and a report earlier
+ * than it is refused (L4).
  *
  *   rt staticlib capi
  *   cc -Iinclude examples/breaker.c target/staticlib/libcapi.a -o breaker
@@ -55,8 +56,10 @@ int main(void)
     print_answer("the same, marked and not lost", report_marked(marked, 15000, 3000, 244949));
     print_answer("a highest number that went back", report_marked(marked, 15000, 1999, 244949));
 
-    print_answer("tick at 29999", flasknib_breaker_tick(breaker, FLASKNIB_BREAKER_WORDS, 29999));
-    print_answer("tick at 30000", flasknib_breaker_tick(breaker, FLASKNIB_BREAKER_WORDS, 30000));
+    print_answer("heard at 29000", flasknib_breaker_heard(breaker, FLASKNIB_BREAKER_WORDS, 29000));
+    print_answer("report at 28999", report(breaker, 28999, 4000, 244948));
+    print_answer("tick at 43999", flasknib_breaker_tick(breaker, FLASKNIB_BREAKER_WORDS, 43999));
+    print_answer("tick at 44000", flasknib_breaker_tick(breaker, FLASKNIB_BREAKER_WORDS, 44000));
     print_answer("tick after the stop", flasknib_breaker_tick(faster, FLASKNIB_BREAKER_WORDS, 30000));
 
     faster[4] = 4;

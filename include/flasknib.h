@@ -23,7 +23,8 @@ enum {
     FLASKNIB_FULL = 8,          /* 2^48 arrivals are counted */
     FLASKNIB_MALFORMED = 9,     /* a record is malformed */
     FLASKNIB_LIMITS = 10,       /* a number, a label, records or a compound's size outside the limits */
-    FLASKNIB_TIME = 11,         /* a report not later than the last, or a tick before it */
+    FLASKNIB_TIME = 11,         /* a report not later than the last report or start, or earlier than a heard packet; a tick or a heard
+                                 * packet earlier than these */
     FLASKNIB_ROOM = 12,         /* the output is too small; where bytes are written, the answer has their number, the size */
     FLASKNIB_CHECKSUM = 13,     /* a block's checksum */
     FLASKNIB_CONTENTS = 14      /* a block's contents */
@@ -113,18 +114,23 @@ uint8_t flasknib_ecn_between(uint32_t earlier_highest, uint16_t earlier_ce, uint
                              uint16_t later_lost, uint64_t *counts, size_t words);
 
 /* ---- the circuit breaker ---------------------------------------------------------------------------------------------------------
- * 75 words: k, m, timeout (ms), whether reductions are allowed; state (0 running, else the reason of the stop); time of the last report or
- * start, whether there was a report, its highest number, media run, whether a trial is under way, intervals in the window; then 32
- * intervals, newest first, of length (ms) and fraction lost each. Other values of a yes-or-no word than 0 and 1, another state than 0 to 3,
- * and a highest number of 2^32 or more are malformed (9).
+ * 76 words: k, m, timeout (ms), whether reductions are allowed; state (0 running, else the reason of the stop); time of the last report or
+ * start, time of the last report, heard packet or start, from which the timeout is measured; whether there was a report, its highest number,
+ * media run, whether a trial is under way, intervals in the window; then 32 intervals, newest first, of length (ms, 1 to 10,000,000; a longer
+ * interval is stored as that) and fraction lost each. Other values of a yes-or-no word than 0 and 1, another state than 0 to 3, and a highest
+ * number of 2^32 or more are malformed (9).
+ *
+ * Which call is for which packet: one with an SR or an RR and a report block about us (words 23 and 0 of the compound are 1) is a report, any
+ * other is heard. A packet without an SR or an RR never enters the congestion rule, nor may its ECN feedback feed the counts of
+ * flasknib_breaker_report_ecn (RFC 8083, section 5).
  */
-#define FLASKNIB_BREAKER_WORDS 75
+#define FLASKNIB_BREAKER_WORDS 76
 
 /* What a breaker call answers: FLASKNIB_GO, FLASKNIB_REDUCE, FLASKNIB_STOP + reason (1 timeout, 2 media, 3 congestion), or
  * FLASKNIB_REFUSED + refusal. */
 enum { FLASKNIB_GO = 0, FLASKNIB_REDUCE = 1, FLASKNIB_STOP = 0x100, FLASKNIB_REFUSED = 0x200 };
 
-/* Starts a breaker: Go and the record, or refusal 10, or 12 where `breaker` has fewer than 75 words. `reduce` is 0 or 1, else refusal 10. */
+/* Starts a breaker: Go and the record, or refusal 10, or 12 where `breaker` has fewer than 76 words. `reduce` is 0 or 1, else refusal 10. */
 uint16_t flasknib_breaker_start(uint64_t k, uint64_t m, uint64_t timeout, uint8_t reduce, uint64_t time, uint64_t *breaker, size_t words);
 
 /* A report with the fraction lost in 256ths, 0 to 255: refusals 9, 10, 11. A stopped breaker answers its stop. */
@@ -140,6 +146,10 @@ uint16_t flasknib_breaker_report_ecn(uint64_t *breaker, size_t words, uint64_t t
 
 /* A tick: refusals 9, 10, 11. A stopped breaker answers its stop. */
 uint16_t flasknib_breaker_tick(uint64_t *breaker, size_t words, uint64_t time);
+
+/* A packet that is no report was heard: a Go moves the time from which the timeout is measured to `time`, and nothing else. Refusals 9, 10, 11. A
+ * stopped breaker answers its stop. */
+uint16_t flasknib_breaker_heard(uint64_t *breaker, size_t words, uint64_t time);
 
 /* ---- trace blocks and table rows -------------------------------------------------------------------------------------------------*/
 

@@ -21,7 +21,7 @@ def given(k, length, fraction, size, rtt, rate):
 EXAMPLES = {
     "C9": given(2, 5000, 64, 1000, 100, 244948),
     "C10": given(2, 5000, 64, 1000, 100, 244949),
-    "limits": given(32, 599999, 255, 65535, 60000, 125000000),
+    "limits": given(32, 10000000, 255, 65535, 60000, 125000000),
 }
 CHAPTERS = {"C10, worked through": ["C9", "C10"], "At the limits, worked through": ["limits"]}
 FORMULAS = [
@@ -52,11 +52,9 @@ def read(path):
 
 
 def constants():
-    """The breaker's constants, and under `roomy` the longest length for which its proof has room."""
+    """The breaker's constants."""
     code = "".join(read(BREAKER / "src" / name) for name in ("lib.rt", "rules.rt"))
-    found = re.findall(r"const (\w+): \w+ = ([\d_]+);", code)
-    found += re.findall(r"(roomy) x = leb \(x \.length\) (\d+)", read(BREAKER / "specs" / "Private.antt"))
-    return {name: int(value.replace("_", "")) for name, value in found}
+    return {name: int(value.replace("_", "")) for name, value in re.findall(r"const (\w+): \w+ = ([\d_]+);", code)}
 
 
 # ---- what is right
@@ -103,15 +101,12 @@ def example_rows(names, scale):
 def expected(limits):
     """The numbers of each row of each chapter."""
     scale = limits["SCALE"]
-    most, longer = (
-        given(limits["MAX_K"], length, *(limits[f"MAX_{name}"] for name in ("FRACTION", "SIZE", "RTT", "RATE")))
-        for length in (limits["MAX_LENGTH"], limits["roomy"])
-    )
-    near, far = sides(most, scale), sides(longer, scale)
-    factors = {f"{factor} of {side}": [near[side][factor], far[side][factor]] for side in near for factor in "ab"}
+    most = given(limits["MAX_K"], *(limits[f"MAX_{name}"] for name in ("LENGTH", "FRACTION", "SIZE", "RTT", "RATE")))
+    both = sides(most, scale)
+    factors = {f"{factor} of {side}": [both[side][factor]] for side in both for factor in "ab"}
     if max(max(row) for row in factors.values()) >= WORD:
         fail("the limits", "a factor does not fit 64 bits")
-    values = {side: near[side]["value"] for side in near} | {"one word": WORD - 1}
+    values = {side: both[side]["value"] for side in both} | {"one word": WORD - 1}
     least = {"r.rate": 1, "r.rtt": 0, "r.size": 1, "k": 1, "length": 1, "fraction": 0, "sums.w": 1, "sums.p": 0}
     chapters = {
         "The rule": {name: [low, most[name.split(".")[-1]]] for name, low in least.items()} | {"SCALE": [scale, scale]},

@@ -1,12 +1,12 @@
 //! The decision at its boundary: the greatest rate that goes, and one above it; equality where it exists.
 use crate::calls::{Settings, GO, REDUCE, STOP};
-use crate::circuit::{report, start};
+use crate::circuit::{heard, report, start};
 use crate::compare::Compare;
 use crate::lent::Lent;
 use draw::{breakers, Draw};
 use model::breaker::*;
 
-/// A link whose k intervals are known; the rate of the last report decides.
+/// A link whose k intervals are known, with packets heard in them; the rate of the last report decides.
 struct Link {
     intervals: Vec<(u64, u64)>,
     rtt: u64,
@@ -22,7 +22,7 @@ pub fn decisions(compare: &Compare, draw: &Draw) {
 
 fn at_the_greatest_rate(compare: &Compare, draw: &Draw) {
     let k = draw.edge(1, 32);
-    let longest = draw.of(&[10, 6_000, 599_999]);
+    let longest = draw.of(&[10, 6_000, 599_999, 11_000_000]);
     let link = Link {
         intervals: (0..k).map(|_| (draw.edge(1, longest), draw.edge(0, 255))).collect(),
         rtt: draw.edge(1, draw.of(&[300, MOST_RTT])),
@@ -42,7 +42,7 @@ fn greatest_rate(link: &Link) -> u64 {
     let (mut goes, mut stops) = (0, MOST_RATE + 1);
     while stops - goes > 1 {
         let rate = (goes + stops) / 2;
-        if congested(&link.intervals, link.rtt, link.size, rate) {
+        if congested(&link.stored(), link.rtt, link.size, rate) {
             stops = rate
         } else {
             goes = rate
@@ -55,7 +55,8 @@ fn greatest_rate(link: &Link) -> u64 {
 fn at_equality(compare: &Compare, draw: &Draw) {
     let (j, pairs) = (draw.within(1, 6), draw.within(1, 16));
     let intervals = (0..pairs).flat_map(|_| {
-        let (length, off) = (draw.edge(1, 599_999), draw.below(6 * j * j + 1).min(255 - 6 * j * j));
+        let length = draw.edge(1, draw.of(&[599_999, 599_999, 599_999, 10_000_001]));
+        let off = draw.below(6 * j * j + 1).min(255 - 6 * j * j);
         [(length, 6 * j * j + off), (length, 6 * j * j - off)]
     });
     let intervals = intervals.collect();
@@ -75,6 +76,20 @@ fn at_equality(compare: &Compare, draw: &Draw) {
 }
 
 impl Link {
+    /// A longer interval is stored as 10,000,000 ms.
+    fn stored(&self) -> Vec<(u64, u64)> {
+        self.intervals.iter().map(|&(length, fraction)| (length.min(MOST_LENGTH), fraction)).collect()
+    }
+
+    /// Packets heard from one report to the next, as few as keep the link alive or some more: they change no answer of a report.
+    fn hears(&self, compare: &Compare, draw: &Draw, breaker: &mut Lent<u64>, last: u64, next: u64) {
+        let mut held = last;
+        while next - held >= MOST_TIMEOUT || draw.one_in(8) {
+            held += draw.edge(0, (next - held).min(MOST_TIMEOUT - 1));
+            compare.hold(heard(compare, breaker, held) == 0, "a packet heard in time goes");
+        }
+    }
+
     /// k + 1 reports from a start, each with its fraction or counts that give it, the last with `rate`: it goes, or it stops or reduces.
     fn decides(&self, compare: &Compare, draw: &Draw, rate: u64, goes: bool) {
         for reduce in [0, 1] {
@@ -87,6 +102,7 @@ impl Link {
                 let is_last = place + 1 == self.intervals.len();
                 let rate = if is_last { rate } else { MOST_RATE };
                 let loss = breakers::loss_of(draw, fraction);
+                self.hears(compare, draw, &mut breaker, last.time, last.time + length);
                 last = Report { time: last.time + length, number: last.number + 1, loss, rate, ..last };
                 answers.push(report(compare, &mut breaker, &last));
             }

@@ -11,6 +11,7 @@ pub trait Calls {
     /// flasknib_breaker_report, or flasknib_breaker_report_ecn where the report comes with ECN counts.
     fn breaker_report(&self, breaker: &mut [u64], report: &model::breaker::Report) -> u16;
     fn breaker_tick(&self, breaker: &mut [u64], time: u64) -> u16;
+    fn breaker_heard(&self, breaker: &mut [u64], time: u64) -> u16;
     fn read_block(&self, block: &[u8], found: &mut [u64]) -> u8;
     fn write_label(&self, label: &[u8], ssrc: u32, out: &mut [u8]) -> i64;
     fn write_arrivals(&self, times: &[u32], numbers: &[u16], marks: &[u8], ssrc: u32, out: &mut [u8]) -> i64;
@@ -38,7 +39,7 @@ pub const REFUSED: u16 = 0x200;
 
 /// Every function with every answer it can give; a length counts as 0, a writer's 12 with any size as -12, and of a block's jumps and restarts
 /// whether there are any.
-pub const FUNCTIONS: [(&str, &[i64]); 15] = [
+pub const FUNCTIONS: [(&str, &[i64]); 16] = [
     ("flasknib_arrive", &[0, 7, 8, 9, 10, 128]),
     ("flasknib_count_block", &[0, 1, 256, 257, -9, -10]),
     ("flasknib_write_feedback", &[0, -9, -12]),
@@ -49,6 +50,7 @@ pub const FUNCTIONS: [(&str, &[i64]); 15] = [
     ("flasknib_breaker_report", &[0, 1, 0x101, 0x102, 0x103, 0x209, 0x20A, 0x20B]),
     ("flasknib_breaker_report_ecn", &[0, 1, 0x101, 0x102, 0x103, 0x209, 0x20A, 0x20B]),
     ("flasknib_breaker_tick", &[0, 0x101, 0x102, 0x103, 0x209, 0x20A, 0x20B]),
+    ("flasknib_breaker_heard", &[0, 0x101, 0x102, 0x103, 0x209, 0x20A, 0x20B]),
     ("flasknib_read_block", &[0, 1, 12, 13, 14]),
     ("flasknib_write_label", &[0, -10, -12]),
     ("flasknib_write_arrivals", &[0, -10, -12]),

@@ -1,4 +1,4 @@
-//! flasknib_breaker_start, both functions for a report and flasknib_breaker_tick: single calls on records of every kind, and whole runs.
+//! flasknib_breaker_start, both functions for a report, flasknib_breaker_tick and flasknib_breaker_heard: single calls on records of every kind, and whole runs.
 use crate::calls::Settings;
 use crate::compare::Compare;
 use crate::lent::Lent;
@@ -16,6 +16,7 @@ pub fn calls(compare: &Compare, draw: &Draw) {
         let near = Breaker::from_words(&words).unwrap_or_else(|_| breakers::sound(draw));
         report(compare, &mut Lent::new(&words), &breakers::report(draw, &near));
         tick(compare, &mut Lent::new(&words), breakers::time(draw, &near));
+        heard(compare, &mut Lent::new(&words), breakers::time(draw, &near));
     }
     for _ in 0..4_000 {
         run(compare, draw);
@@ -38,12 +39,16 @@ pub fn tick(compare: &Compare, breaker: &mut Lent<u64>, time: u64) -> i64 {
     compare.call("flasknib_breaker_tick", breaker, |calls, breaker| i64::from(calls.breaker_tick(breaker.part_mut(), time)))
 }
 
+pub fn heard(compare: &Compare, breaker: &mut Lent<u64>, time: u64) -> i64 {
+    compare.call("flasknib_breaker_heard", breaker, |calls, breaker| i64::from(calls.breaker_heard(breaker.part_mut(), time)))
+}
+
 fn any_settings(draw: &Draw) -> Settings {
     let reduce = if draw.one_in(20) { draw.edge(2, 255) } else { draw.below(2) } as u8;
     Settings { k: draw.astray(1, 32), m: draw.astray(1, 32), timeout: draw.astray(1, MOST_TIMEOUT), reduce }
 }
 
-/// Reports and ticks from a start; most rates are around the greatest that goes, most numbers ahead.
+/// Reports, ticks and heard packets from a start; most rates are around the greatest that goes, most numbers ahead.
 fn run(compare: &Compare, draw: &Draw) {
     let settings = Settings { k: draw.within(1, 5), m: draw.within(1, 4), timeout: draw.within(2, 20_000), reduce: draw.below(2) as u8 };
     let mut breaker = Lent::new(&[0; WORDS]);
@@ -53,13 +58,15 @@ fn run(compare: &Compare, draw: &Draw) {
     for _ in 0..draw.within(5, 80) {
         let now = Breaker::from_words(breaker.part()).unwrap();
         let rate = if draw.one_in(12) { 0 } else { (greatest * draw.within(4, 18) / 16).clamp(1, MOST_RATE) };
-        let time = now.time + draw.within(1, (settings.timeout - 1).min(9_000));
+        let time = now.time.max(now.heard) + draw.within(1, (settings.timeout - 1).min(9_000));
         let last = now.number.unwrap_or(0) as u32;
         let number = if draw.one_in(4) { breakers::number(draw, last) } else { last.wrapping_add(9) };
         let loss = breakers::loss_of(draw, usual + draw.below(20));
-        match draw.below(10) {
+        match draw.below(12) {
             0 => drop(report(compare, &mut breaker, &breakers::report(draw, &now))),
             1 | 2 => drop(tick(compare, &mut breaker, breakers::time(draw, &now))),
+            3 => drop(heard(compare, &mut breaker, breakers::time(draw, &now))),
+            4 => drop(heard(compare, &mut breaker, time)),
             _ => drop(report(compare, &mut breaker, &Report { time, number, loss, rtt, size, rate })),
         }
     }

@@ -114,6 +114,10 @@ impl Calls for Expected {
         step(words, |breaker| breaker.tick(time))
     }
 
+    fn breaker_heard(&self, words: &mut [u64], time: u64) -> u16 {
+        step(words, |breaker| breaker.heard(time))
+    }
+
     fn read_block(&self, block: &[u8], found: &mut [u64]) -> u8 {
         let words = trace::read(block).map(|(ssrc, contents)| {
             let (kind, count) = match contents {

@@ -17,6 +17,7 @@ extern "C" {
     fn flasknib_breaker_report_ecn(breaker: *mut u64, words: usize, time: u64, highest: u32, lost: i64, marked: u64, expected: u64, rtt: u64,
                                    size: u64, rate: u64) -> u16;
     fn flasknib_breaker_tick(breaker: *mut u64, words: usize, time: u64) -> u16;
+    fn flasknib_breaker_heard(breaker: *mut u64, words: usize, time: u64) -> u16;
     fn flasknib_read_block(block: *const u8, length: usize, found: *mut u64, words: usize) -> u8;
     fn flasknib_write_label(label: *const u8, length: usize, ssrc: u32, out: *mut u8, room: usize) -> i64;
     fn flasknib_write_arrivals(times: *const u32, n_times: usize, numbers: *const u16, n_numbers: usize, marks: *const u8, n_marks: usize,
@@ -74,6 +75,10 @@ impl Calls for Library {
 
     fn breaker_tick(&self, breaker: &mut [u64], time: u64) -> u16 {
         unsafe { flasknib_breaker_tick(breaker.as_mut_ptr(), breaker.len(), time) }
+    }
+
+    fn breaker_heard(&self, breaker: &mut [u64], time: u64) -> u16 {
+        unsafe { flasknib_breaker_heard(breaker.as_mut_ptr(), breaker.len(), time) }
     }
 
     fn read_block(&self, block: &[u8], found: &mut [u64]) -> u8 {

@@ -5,7 +5,7 @@ use crate::compare::Compare;
 use crate::counting::arrive;
 use crate::lent::Lent;
 use crate::reports::{feedback, summary};
-use model::breaker::{Loss, Report};
+use model::breaker::{self, Loss, Report};
 use model::source::WORDS;
 
 pub fn examples(compare: &Compare) {
@@ -41,7 +41,7 @@ fn after(compare: &Compare, arrivals: &[(u16, u8)]) -> Vec<u64> {
 }
 
 fn decision(compare: &Compare, lengths: [u64; 2], fraction: u64, rtt: u64, rate: u64) -> i64 {
-    let mut breaker = Lent::new(&[0; 75]);
+    let mut breaker = Lent::new(&[0; breaker::WORDS]);
     start(compare, &mut breaker, Settings { k: 2, m: 3, timeout: 15_000, reduce: 0 }, 0);
     let mut last = Report { time: 1_000, number: 1, loss: Loss::Fraction(fraction), rtt, size: 1_000, rate };
     report(compare, &mut breaker, &last);

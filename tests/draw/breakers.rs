@@ -7,20 +7,35 @@ pub fn sound(draw: &Draw) -> Breaker {
     let number = (!draw.one_in(8)).then(|| draw.edge(0, u64::from(u32::MAX)));
     let m = draw.edge(1, 32);
     let stopped = if draw.one_in(6) { draw.within(1, 3) } else { 0 };
-    let longest = draw.of(&[3, 6_000, 599_999]);
+    let longest = draw.of(&[3, 6_000, 599_999, MOST_LENGTH]);
+    let timeout = draw.edge(1, MOST_TIMEOUT);
+    let time = if draw.one_in(2) { draw.below(1_000_000) } else { draw.edge(0, TIMES - 1) };
     let count = if draw.one_in(2) { k - draw.below(2) } else { draw.within(0, k) };
     Breaker {
         k,
         m,
-        timeout: draw.edge(1, MOST_TIMEOUT),
+        timeout,
         reduce: draw.one_in(2),
         stopped,
-        time: if draw.one_in(2) { draw.below(1_000_000) } else { draw.edge(0, TIMES - 1) },
+        time,
+        heard: heard(draw, time),
         number,
         run: if draw.one_in(2) { m - 1 } else { draw.below(m) },
         trial: draw.one_in(3),
         window: (0..count).map(|_| (draw.edge(1, longest), draw.edge(0, MOST_FRACTION))).collect(),
     }
+}
+
+/// Mostly the last report or shortly after it; now and then long after, or before.
+fn heard(draw: &Draw, time: u64) -> u64 {
+    let held = match draw.below(8) {
+        0 => draw.edge(0, TIMES - 1),
+        1 => time.saturating_sub(draw.below(3)),
+        2 => time + MOST_LENGTH - 2 + draw.below(5),
+        3 | 4 => time + draw.below(4_000),
+        _ => time,
+    };
+    held.min(TIMES - 1)
 }
 
 /// Any record: now and then damaged, or of another number of words.
@@ -30,14 +45,14 @@ pub fn any(draw: &Draw) -> Vec<u64> {
     match draw.below(10) {
         0 => damage(draw, &mut words),
         1 => pass_a_limit(draw, &mut words),
-        2 if draw.one_in(4) => words.resize(draw.index(80), 0),
+        2 if draw.one_in(4) => words.resize(draw.index(81), 0),
         _ => {}
     }
     words
 }
 
 fn damage(draw: &Draw, words: &mut [u64]) {
-    let place = if draw.one_in(2) { draw.index(11) } else { draw.index(words.len()) };
+    let place = if draw.one_in(2) { draw.index(12) } else { draw.index(words.len()) };
     words[place] = match draw.below(4) {
         0 => words[place].wrapping_add(1),
         1 => words[place].wrapping_sub(1),
@@ -49,20 +64,20 @@ fn damage(draw: &Draw, words: &mut [u64]) {
 /// One condition of a sound record, passed by as little as can be, or held with nothing to spare.
 fn pass_a_limit(draw: &Draw, words: &mut [u64]) {
     let more = draw.below(2);
-    let count = words[10] as usize;
+    let count = words[11] as usize;
     match draw.below(12) {
         0 => words[0] = 32 + more,
         1 => words[1] = 32 + more,
         2 => words[2] = MOST_TIMEOUT + more,
-        3 => words[draw.of(&[3, 6, 9])] = 1 + more,
+        3 => words[draw.of(&[3, 7, 10])] = 1 + more,
         4 => words[4] = 3 + more,
-        5 => words[5] = TIMES - 1 + more,
-        6 => words[7] = u64::from(u32::MAX) + more,
-        7 => words[8] = words[1] - 1 + more,
-        8 => words[10] = words[0] + more,
-        9 => words[11] = 599_999 * more + draw.below(2),
-        10 => words[12] = 255 + more,
-        _ => words[11 + 2 * count.min(31) + draw.index(2)] = more,
+        5 => words[draw.of(&[5, 6])] = TIMES - 1 + more,
+        6 => words[8] = u64::from(u32::MAX) + more,
+        7 => words[9] = words[1] - 1 + more,
+        8 => words[11] = words[0] + more,
+        9 => words[12] = MOST_LENGTH * more + draw.below(2),
+        10 => words[13] = 255 + more,
+        _ => words[12 + 2 * count.min(31) + draw.index(2)] = more,
     }
 }
 
@@ -119,15 +134,16 @@ pub fn loss_of(draw: &Draw, fraction: u64) -> Loss {
     Loss::Counts { lost, marked, expected: 256 * n }
 }
 
-/// Times around the last one, around the timeout, and between.
+/// Times around the last report and the time held, around the timeout, and between.
 pub fn time(draw: &Draw, breaker: &Breaker) -> u64 {
+    let held = breaker.heard;
     match draw.below(20) {
         0 => draw.any_size(),
         1 => draw.astray(0, TIMES - 1),
-        2 => breaker.time.saturating_sub(draw.below(3)),
-        3 => breaker.time.wrapping_add(breaker.timeout).wrapping_sub(draw.below(3)),
-        4 => breaker.time.wrapping_add(draw.below(3)),
-        _ => breaker.time.wrapping_add(draw.within(1, breaker.timeout.saturating_sub(1).clamp(1, 10_000))),
+        2 => draw.of(&[breaker.time, held]).saturating_sub(draw.below(3)),
+        3 => draw.of(&[breaker.time, held, held]).wrapping_add(breaker.timeout).wrapping_sub(draw.below(3)),
+        4 => draw.of(&[breaker.time, held]).wrapping_add(draw.below(3)),
+        _ => breaker.time.max(held).wrapping_add(draw.within(1, breaker.timeout.saturating_sub(1).clamp(1, 10_000))),
     }
 }
 

@@ -1,7 +1,7 @@
-//! Document 01, "The breaker", with document 02, L2: the record, judged and stepped.
+//! Document 01, "The breaker", with document 02, L2 and L4: the record, judged and stepped.
 use crate::refusal::*;
 
-pub const WORDS: usize = 75;
+pub const WORDS: usize = 76;
 pub const MOST_INTERVALS: u64 = 32;
 pub const MOST_TIMEOUT: u64 = 600_000;
 pub const TIMES: u64 = 1 << 48;
@@ -10,6 +10,7 @@ pub const MOST_PACKETS: u64 = 1 << 31;
 pub const MOST_RTT: u64 = 60_000;
 pub const MOST_SIZE: u64 = 65_535;
 pub const MOST_RATE: u64 = 125_000_000;
+pub const MOST_LENGTH: u64 = 10_000_000;
 
 #[derive(Clone, Copy, Debug, PartialEq)]
 pub enum Answer {
@@ -30,7 +31,10 @@ pub struct Breaker {
     pub reduce: bool,
     /// 0 while running, else the reason of the stop.
     pub stopped: u64,
+    /// Of the last report or the start.
     pub time: u64,
+    /// The time from which the timeout is measured.
+    pub heard: u64,
     /// The highest number of the last report, if there was one.
     pub number: Option<u64>,
     pub run: u64,
@@ -99,7 +103,7 @@ pub fn congested(window: &[(u64, u64)], rtt: u64, size: u64, rate: u64) -> bool 
 
 /// Does not compile if a product passes 128 bits.
 pub const LARGEST_PRODUCTS: [u128; 2] = {
-    let w = 32 * 599_999_u128;
+    let w = 32 * MOST_LENGTH as u128;
     let (rate, rtt, size) = (MOST_RATE as u128, MOST_RTT as u128, MOST_SIZE as u128);
     [rate * rate * rtt * rtt * (255 * w), 38_400_000_000 * size * size * w]
 };
@@ -107,7 +111,8 @@ pub const LARGEST_PRODUCTS: [u128; 2] = {
 impl Breaker {
     pub fn start(k: u64, m: u64, timeout: u64, reduce: u8, time: u64) -> Result<Breaker, Refusal> {
         require(settings_within_limits(k, m, timeout) && reduce <= 1 && time < TIMES, LIMITS)?;
-        Ok(Breaker { k, m, timeout, reduce: reduce == 1, stopped: 0, time, number: None, run: 0, trial: false, window: Vec::new() })
+        let reduce = reduce == 1;
+        Ok(Breaker { k, m, timeout, reduce, stopped: 0, time, heard: time, number: None, run: 0, trial: false, window: Vec::new() })
     }
 
     /// The record is sound. Stopped, 10, 11, then the rules in order.
@@ -116,24 +121,41 @@ impl Breaker {
             return Ok(Answer::Stop(self.stopped));
         }
         require(report.within_limits(), LIMITS)?;
-        require(report.time > self.time, TIME)?;
+        require(report.time > self.time && report.time >= self.heard, TIME)?;
         let next = if report.rate == 0 { Ok((self.idle(), Answer::Go)) } else { self.judged(report) };
         Ok(match next {
             Err(reason) => self.stop(reason),
             Ok((next, answer)) => {
-                *self = Breaker { time: report.time, number: Some(u64::from(report.number)), ..next };
+                *self = Breaker { time: report.time, heard: report.time, number: Some(u64::from(report.number)), ..next };
                 answer
             }
         })
     }
 
     pub fn tick(&mut self, time: u64) -> Result<Answer, Refusal> {
+        self.timed(time, self.heard)
+    }
+
+    /// A packet that is no report: the timeout is measured from it.
+    pub fn heard(&mut self, time: u64) -> Result<Answer, Refusal> {
+        self.timed(time, time)
+    }
+
+    fn timed(&mut self, time: u64, held: u64) -> Result<Answer, Refusal> {
         if self.stopped != 0 {
             return Ok(Answer::Stop(self.stopped));
         }
         require(time < TIMES, LIMITS)?;
-        require(time >= self.time, TIME)?;
-        Ok(if time - self.time >= self.timeout { self.stop(TIMEOUT) } else { Answer::Go })
+        require(time >= self.time && time >= self.heard, TIME)?;
+        if self.late(time) {
+            return Ok(self.stop(TIMEOUT));
+        }
+        self.heard = held;
+        Ok(Answer::Go)
+    }
+
+    fn late(&self, time: u64) -> bool {
+        time - self.heard >= self.timeout
     }
 
     fn stop(&mut self, reason: u64) -> Answer {
@@ -148,8 +170,7 @@ impl Breaker {
 
     /// Timeout, media, congestion: the next record and the answer, or the reason of a stop.
     fn judged(&self, report: &Report) -> Result<(Breaker, Answer), u64> {
-        let length = report.time - self.time;
-        if length >= self.timeout {
+        if self.late(report.time) {
             return Err(TIMEOUT);
         }
         let mut next = self.clone();
@@ -161,7 +182,7 @@ impl Breaker {
             // The first report closes no interval, so nothing is tested, even on a record that comes with a full window.
             return Ok((next, Answer::Go));
         }
-        next.window.insert(0, (length, report.loss.fraction()));
+        next.window.insert(0, ((report.time - self.time).min(MOST_LENGTH), report.loss.fraction()));
         next.window.truncate(self.k as usize);
         if next.window.len() as u64 != self.k {
             return Ok((next, Answer::Go));
@@ -192,21 +213,22 @@ impl Breaker {
             reduce: words[3] == 1,
             stopped: words[4],
             time: words[5],
-            number: (words[6] == 1).then_some(words[7]),
-            run: words[8],
-            trial: words[9] == 1,
-            window: words[11..].chunks(2).take(words[10] as usize).map(|interval| (interval[0], interval[1])).collect(),
+            heard: words[6],
+            number: (words[7] == 1).then_some(words[8]),
+            run: words[9],
+            trial: words[10] == 1,
+            window: words[12..].chunks(2).take(words[11] as usize).map(|interval| (interval[0], interval[1])).collect(),
         })
     }
 
     pub fn to_words(&self) -> [u64; WORDS] {
         let mut words = [0; WORDS];
         words[..5].copy_from_slice(&[self.k, self.m, self.timeout, u64::from(self.reduce), self.stopped]);
-        words[5..8].copy_from_slice(&[self.time, u64::from(self.number.is_some()), self.number.unwrap_or(0)]);
-        words[8..11].copy_from_slice(&[self.run, u64::from(self.trial), self.window.len() as u64]);
+        words[5..9].copy_from_slice(&[self.time, self.heard, u64::from(self.number.is_some()), self.number.unwrap_or(0)]);
+        words[9..12].copy_from_slice(&[self.run, u64::from(self.trial), self.window.len() as u64]);
         for (place, &(length, fraction)) in self.window.iter().enumerate() {
-            words[11 + 2 * place] = length;
-            words[12 + 2 * place] = fraction;
+            words[12 + 2 * place] = length;
+            words[13 + 2 * place] = fraction;
         }
         words
     }
@@ -218,16 +240,17 @@ fn settings_within_limits(k: u64, m: u64, timeout: u64) -> bool {
 
 /// The run of a stopped record is not judged; the number before the first report is an unused place.
 fn sound(words: &[u64]) -> bool {
-    let [k, m, timeout, reduce, stopped, time, reported, number, run, trial, count] = words[..11].try_into().unwrap();
+    let [k, m, timeout, reduce, stopped, time, heard, reported, number, run, trial, count] = words[..12].try_into().unwrap();
     settings_within_limits(k, m, timeout)
         && [reduce, reported, trial].iter().all(|&flag| flag <= 1)
         && stopped <= 3
         && time < TIMES
+        && heard < TIMES
         && number < if reported == 1 { 1 << 32 } else { 1 }
         && (stopped != 0 || run < m)
         && count <= k
-        && words[11..].chunks(2).enumerate().all(|(place, interval)| match (place as u64) < count {
-            true => (1..=599_999).contains(&interval[0]) && interval[1] <= MOST_FRACTION,
+        && words[12..].chunks(2).enumerate().all(|(place, interval)| match (place as u64) < count {
+            true => (1..=MOST_LENGTH).contains(&interval[0]) && interval[1] <= MOST_FRACTION,
             false => interval == [0, 0],
         })
 }

@@ -3,7 +3,7 @@
 use mathlib.Core.Path.{_≡_, refl}
 use mathlib.Core.Bool.{Bool, true, false, not, _&&_}
 use Prim.Native.Nat.{ℕ, _-_, _<_}
-use borrow.Author.Tests.{leb-false, ltb-true, not-false}
+use borrow.Author.Tests.{leb-false, ltb-true, ltb-false, not-false}
 use lib.Dec.{leb, ltb, eqb}
 use Rattle.answers.specs.declared.Refusal.the-variants.{Malformed, Limits, Time}
 use Rattle.breaker.specs.declared.Reason.{Reason}
@@ -20,14 +20,14 @@ use Rattle.breaker.specs.Answers.{answers, stops}
 use Rattle.breaker.specs.Limits.{timeOk, reportOk}
 use Rattle.breaker.specs.Windows.{emptyWindow}
 use Rattle.breaker.specs.Soundness.{sound}
-use Rattle.breaker.specs.Rules.{stored, late, runAfter, windowAfter, holds, ruled}
+use Rattle.breaker.specs.Rules.{stored, late, runAfter, windowAfter, holds, ruledBy, ruled}
 use Rattle.breaker.specs.Private.{Accepted}
-use Rattle.breaker.specs.Calls.{unlessStopped, reportOf, tickOf}
-use Rattle.breaker.specs.Runs.{Call, report, tick}
+use Rattle.breaker.specs.Calls.{unlessStopped, reportOf, early, timed, tickOf, holding, heardOf}
+use Rattle.breaker.specs.Runs.{Call, report, tick, heard}
 use Rattle.breaker.specs.Theorems.{Typed, numberFits}
 use Rattle.breaker.proofs.Chains.{by-test}
 use Rattle.breaker.proofs.Facts.{settings-of, m-low}
-use Rattle.breaker.proofs.Kept.{Whole, Fit, empty-fit, same-fit, after-fit, stored-sound, stop-sound}
+use Rattle.breaker.proofs.Kept.{Whole, Fit, empty-fit, same-fit, after-fit, stored-sound, stop-sound, held-sound}
 
 -- a sound record with all its places
 pub record Held (b : Breaker) : Type 0 where
@@ -84,18 +84,33 @@ module _ (b : Breaker) where
 
   -- ---- the calls
 
-  pub tick-fine : (time : ℕ) → Fine (tick time) (tickOf b time)
-  unfolding tickOf
-  tick-fine time =
-      by-test (Fine (tick time)) (not (sound b)) _ _ (λ _. same-fine (Refused Malformed) refl)
+  timed-fine : {c : Call} (time : ℕ) (next : Breaker) → (sound b ≡ true → timeOk time ≡ true → Fine c (answers Go next)) → Fine c (timed b time next)
+  unfolding timed
+  timed-fine {c} time next go =
+      by-test (Fine c) (not (sound b)) _ _ (λ _. same-fine (Refused Malformed) refl)
       (λ q. let h = not-false (sound b) q in
       by-state (b .state) _ refl h
-      (λ _. by-test (Fine (tick time)) (not (timeOk time)) _ _ (λ _. same-fine (Refused Limits) refl)
-      (λ _. by-test (Fine (tick time)) (ltb time (b .last)) _ _ (λ _. same-fine (Refused Time) refl)
-      (λ _. by-test (Fine (tick time)) (late b time) _ _ (λ _. stop-fine Timeout h) (λ _. same-fine Go tt)))))
+      (λ _. by-test (Fine c) (not (timeOk time)) _ _ (λ _. same-fine (Refused Limits) refl)
+      (λ t. by-test (Fine c) (early b time) _ _ (λ _. same-fine (Refused Time) refl)
+      (λ _. by-test (Fine c) (late b time) _ _ (λ _. stop-fine Timeout h) (λ _. go h (not-false (timeOk time) t))))))
+
+  pub tick-fine : (time : ℕ) → Fine (tick time) (tickOf b time)
+  unfolding tickOf
+  tick-fine time = timed-fine time b (λ _ _. same-fine Go tt)
+
+  pub heard-fine : (time : ℕ) → Fine (heard time) (heardOf b time)
+  unfolding heardOf
+  heard-fine time =
+      timed-fine time (holding b time)
+      (λ h t.
+      record {
+        kept = λ k. record { isSound = held-sound b time h t; places = k .places };
+        typed = λ _ y. record { number = y .number; places = y .places };
+        beside = tt;
+      })
 
   ruled-fine : (r : Report) → Accepted b r → Fine (report r) (ruled b r)
-  unfolding ruled
+  unfolding ruled ruledBy
   ruled-fine r a =
       let h = a .isSound in
       let limits = a .inLimits in
@@ -104,12 +119,12 @@ module _ (b : Breaker) where
       let w = windowAfter b r in
       by-test (Fine (report r)) (eqb (r .rate) 0) _ _ (λ _. stored-fine Go (λ _. tt) r 0 (b .trial) emptyWindow h limits (m-low (b .settings) (settings-of b h)) (λ _. empty-fit k))
       (λ _. by-test (Fine (report r)) (late b (r .time)) _ _ (λ _. stop-fine Timeout h)
-      (λ t. by-test (Fine (report r)) (leb (b .settings .m) run) _ _ (λ _. stop-fine Media h)
+      (λ _. by-test (Fine (report r)) (leb (b .settings .m) run) _ _ (λ _. stop-fine Media h)
       (λ m. let below = leb-false _ _ m in
       by-test (Fine (report r)) (not (b .reported)) _ _ (λ _. stored-fine Go (λ _. tt) r run (b .trial) (b .window) h limits below (same-fit b h))
-      (λ _. let fit = after-fit b r (record { accepted = a; inTime = leb-false _ _ t }) in
+      (λ _. let fit = after-fit b r a in
       by-test (Fine (report r)) (ltb (w .used) k) _ _ (λ _. stored-fine Go (λ _. tt) r run (b .trial) w h limits below fit)
-      (λ _. by-test (Fine (report r)) (not (holds b r)) _ _ (λ _. stored-fine Go (λ _. tt) r run false w h limits below fit)
+      (λ _. by-test (Fine (report r)) (not (holds k w r)) _ _ (λ _. stored-fine Go (λ _. tt) r run false w h limits below fit)
       (λ _. by-test (Fine (report r)) (b .settings .reduce && not (b .trial)) _ _ (λ _. stored-fine Reduce (λ _. tt) r run true emptyWindow h limits below (λ _. empty-fit k))
       (λ _. stop-fine Congestion h)))))))
 
@@ -121,4 +136,5 @@ module _ (b : Breaker) where
       by-state (b .state) _ refl h
       (λ s. by-test (Fine (report r)) (not (reportOk r)) _ _ (λ _. same-fine (Refused Limits) refl)
       (λ l. by-test (Fine (report r)) (leb (r .time) (b .last)) _ _ (λ _. same-fine (Refused Time) refl)
-      (λ t. ruled-fine r (record { isSound = h; running = s; inLimits = not-false (reportOk r) l; later = leb-false _ _ t })))))
+      (λ t. by-test (Fine (report r)) (ltb (r .time) (b .heard)) _ _ (λ _. same-fine (Refused Time) refl)
+      (λ u. ruled-fine r (record { isSound = h; running = s; inLimits = not-false (reportOk r) l; later = leb-false _ _ t; notBefore = ltb-false _ _ u }))))))

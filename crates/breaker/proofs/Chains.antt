@@ -1,6 +1,6 @@
 -- How the chain of a call's answers is decided at the stop, and a list of conditions by two of them. Assumes nothing.
 use mathlib.Core.Path.{_≡_, refl, sym, _∙_, ap, subst⁻¹}
-use mathlib.Core.Bool.{Bool, true, false, _&&_, not, cond}
+use mathlib.Core.Bool.{Bool, true, false, _&&_, _||_, not, cond, true≢false}
 use mathlib.Core.List.{List}
 use Prim.Native.Nat.{ℕ}
 use lib.ListN.{getD}
@@ -32,6 +32,11 @@ module _ (b : Breaker) (next : Step) where
 
   pub open-goes : {z : Step} → (sound b ≡ true) × (b .state ≡ Running) → z ≡ next → z ≡ opened b next
   open-goes {z} o e = cond-goes _ _ _ _ (ap not (o .0)) (subst⁻¹ (λ (s : State). z ≡ unlessStopped s b next) (o .1) e)
+
+-- neither of two conditions holds
+pub or-right : (a b : Bool) → (a || b) ≡ false → b ≡ false
+or-right true b e = absurd (true≢false e)
+or-right false b e = e
 
 -- one of two conditions fails
 pub either-false : (bs : List Bool) (i j : ℕ) → (getD bs i true && getD bs j true) ≡ false → false ≡ all bs

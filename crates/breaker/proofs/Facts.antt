@@ -2,7 +2,7 @@
 use mathlib.Core.Path.{_≡_, sym, _∙_, ap}
 use mathlib.Core.Bool.{true, _&&_}
 use mathlib.Core.List.{[], _∷_, map}
-use Prim.Native.Nat.{ℕ, suc, _+_, _-_, _≤_, _<_}
+use Prim.Native.Nat.{ℕ, suc, _+_, _-_, _≤_, _<_, min}
 use native.Mathlib.Nat.{le-refl}
 use native.Mathlib.Omega.{arith}
 use borrow.Author.Tests.{leb-true, ltb-true, le-leb}
@@ -19,9 +19,9 @@ use Rattle.breaker.specs.declared.Report.{Report}
 use Rattle.breaker.specs.Limits.{within, settingsOk, timeOk, lossOk, reportOk}
 use Rattle.breaker.specs.FractionLost.{fractionOf}
 use Rattle.breaker.specs.Windows.{fractionOk, lengthOk, isZero, inUse, unused}
-use Rattle.breaker.specs.Private.{roomy, InTime}
-use Rattle.breaker.specs.Soundness.{runOk, conditions, sound}
-use Rattle.breaker.specs.Rules.{windowAfter}
+use Rattle.breaker.specs.Private.{roomy, Accepted}
+use Rattle.breaker.specs.Soundness.{runOk, numberOk, conditions, sound}
+use Rattle.breaker.specs.Rules.{closed, windowAfter}
 use Rattle.breaker.proofs.FractionLost.{fraction-in-range}
 use Rattle.breaker.proofs.Places.{front-first, used-roomy}
 
@@ -77,13 +77,21 @@ module _ (b : Breaker) (h : sound b ≡ true) where
   unfolding sound
   last-of = all-true (conditions b) 4 h
 
+  pub heard-of : timeOk (b .heard) ≡ true
+  unfolding sound
+  heard-of = all-true (conditions b) 5 h
+
   pub lengths-of : all (map lengthOk (inUse (b .window))) ≡ true
   unfolding sound
-  lengths-of = all-true (conditions b) 5 h
+  lengths-of = all-true (conditions b) 6 h
 
   pub unused-of : all (map isZero (unused (b .window))) ≡ true
   unfolding sound
-  unused-of = all-true (conditions b) 6 h
+  unused-of = all-true (conditions b) 7 h
+
+  pub number-of : numberOk (b .reported) (b .highest) ≡ true
+  unfolding sound
+  number-of = all-true (conditions b) 8 h
 
   pub run-below : b .state ≡ Running → b .run < b .settings .m
   run-below e = ltb-true _ _ (ap (λ (s : State). runOk s (b .run) (b .settings .m)) (sym e) ∙ run-of)
@@ -113,17 +121,14 @@ module _ (r : Report) (h : reportOk r ≡ true) where
   pub rate-high : r .rate ≤ 125000000
   rate-high = leb-true _ _ (piece 4)
 
--- ---- the interval that an accepted report closes before the timeout
+-- ---- the interval that an accepted report closes
 
-module _ (b : Breaker) (r : Report) (h : InTime b r) where
-  abbrev pub closed : Interval
-  closed = record { length = r .time - b .last; fraction = fractionOf (r .loss) }
-
-  pub closed-length : lengthOk closed ≡ true
+module _ (b : Breaker) (r : Report) (h : Accepted b r) where
+  pub closed-length : lengthOk (closed b r) ≡ true
   closed-length =
-      let l : 1 ≤ r .time - b .last = omega (arith, h .accepted .later) in
-      let m : r .time - b .last ≤ 599999 = omega (arith, h .inTime, timeout-high (b .settings) (settings-of b (h .accepted .isSound))) in
-      λ i. le-leb 1 (r .time - b .last) l i && le-leb (r .time - b .last) 599999 m i
+      let l : 1 ≤ min (r .time - b .last) 10000000 = omega (arith, h .later) in
+      let m : min (r .time - b .last) 10000000 ≤ 10000000 = omega arith in
+      λ i. le-leb 1 (closed b r .length) l i && le-leb (closed b r .length) 10000000 m i
 
   -- with k intervals in the window, the last k have room
   pub after-roomy : length (b .window .intervals) ≡ 32 → b .settings .k ≤ b .window .used + 1
@@ -131,8 +136,9 @@ module _ (b : Breaker) (r : Report) (h : InTime b r) where
   unfolding windowAfter
   after-roomy e u =
       let k = b .settings .k in
-      let ok = h .accepted .isSound in
+      let ok = h .isSound in
+      let x = closed b r in
       let h₂ : k ≤ suc (length (b .window .intervals)) = omega (arith, k-high (b .settings) (settings-of b ok)) in
       used-roomy (take k (windowAfter b r .intervals))
-      (front-first fractionOk k k (b .window .used) closed (b .window .intervals) (le-refl k) h₂ u (fraction-of r (h .accepted .inLimits)) (fractions-of b ok))
-      (front-first lengthOk k k (b .window .used) closed (b .window .intervals) (le-refl k) h₂ u closed-length (lengths-of b ok))
+      (front-first fractionOk k k (b .window .used) x (b .window .intervals) (le-refl k) h₂ u (fraction-of r (h .inLimits)) (fractions-of b ok))
+      (front-first lengthOk k k (b .window .used) x (b .window .intervals) (le-refl k) h₂ u closed-length (lengths-of b ok))

@@ -17,13 +17,14 @@ use Rattle.breaker.specs.declared.Interval.{Interval}
 use Rattle.breaker.specs.declared.Breaker.{Breaker}
 use Rattle.breaker.specs.declared.Report.{Report}
 use Rattle.breaker.specs.Answers.{stops}
-use Rattle.breaker.specs.Limits.{reportOk}
+use Rattle.breaker.specs.Limits.{timeOk, reportOk}
+use Rattle.breaker.specs.Calls.{holding}
 use Rattle.breaker.specs.Windows.{zeroInterval, emptyWindow, fractionOk, lengthOk, isZero, inUse, unused}
 use Rattle.breaker.specs.Soundness.{runOk, conditions, sound}
-use Rattle.breaker.specs.Rules.{stored, windowAfter}
-use Rattle.breaker.specs.Private.{InTime}
+use Rattle.breaker.specs.Rules.{stored, closed, windowAfter}
+use Rattle.breaker.specs.Private.{Accepted}
 use Rattle.breaker.proofs.Places.{front-first, front-rest}
-use Rattle.breaker.proofs.Facts.{k-high, settings-of, used-of, fractions-of, last-of, lengths-of, unused-of, time-of, fraction-of, closed, closed-length}
+use Rattle.breaker.proofs.Facts.{k-high, settings-of, run-of, used-of, fractions-of, last-of, heard-of, lengths-of, unused-of, number-of, time-of, fraction-of, closed-length}
 
 -- the array has all its places
 abbrev pub Whole : Window → Type 0
@@ -44,20 +45,20 @@ empty-fit k = record { used = zero-le; fractions = refl; lengths = refl; rest = 
 pub same-fit : (b : Breaker) → sound b ≡ true → Whole (b .window) → Fit (b .settings .k) (b .window)
 same-fit b h e = record { used = used-of b h; fractions = fractions-of b h; lengths = lengths-of b h; rest = unused-of b h; places = e }
 
-pub after-fit : (b : Breaker) (r : Report) → InTime b r → Whole (b .window) → Fit (b .settings .k) (windowAfter b r)
+pub after-fit : (b : Breaker) (r : Report) → Accepted b r → Whole (b .window) → Fit (b .settings .k) (windowAfter b r)
 unfolding windowAfter
 after-fit b r h e =
     let k = b .settings .k in
     let u = b .window .used in
     let xs = b .window .intervals in
-    let x = closed b r h in
-    let ok = h .accepted .isSound in
+    let x = closed b r in
+    let ok = h .isSound in
     let k₂ : k ≤ 32 = k-high (b .settings) (settings-of b ok) in
     let l : k ≤ suc (length xs) = omega arith in
     let front : length (take k (x ∷ xs)) ≡ k = length-take-le k (x ∷ xs) l in
     record {
       used = omega arith;
-      fractions = front-first fractionOk (min k (u + 1)) k u x xs (omega arith) l (omega arith) (fraction-of r (h .accepted .inLimits)) (fractions-of b ok);
+      fractions = front-first fractionOk (min k (u + 1)) k u x xs (omega arith) l (omega arith) (fraction-of r (h .inLimits)) (fractions-of b ok);
       lengths = front-first lengthOk (min k (u + 1)) k u x xs (omega arith) l (omega arith) (closed-length b r h) (lengths-of b ok);
       rest = front-rest isZero k u x xs l refl (unused-of b ok);
       places = omega (arith, length-append (take k (x ∷ xs)) (replicate (32 - k) zeroInterval), length-replicate {A = Interval} (32 - k) zeroInterval);
@@ -78,9 +79,10 @@ stored-sound b r run trial w h limits below fit =
     && (le-leb (w .used) (b .settings .k) (fit .used) i
     && (fit .fractions i
     && (time-of r limits i
+    && (time-of r limits i
     && (fit .lengths i
     && (fit .rest i
-    && (true && true)))))))
+    && (true && true))))))))
 
 pub stop-sound : (b : Breaker) (reason : Reason) → sound b ≡ true → sound (stops reason b .breaker) ≡ true
 unfolding sound
@@ -90,6 +92,20 @@ stop-sound b reason h =
     && (all-true (conditions b) 2 h i
     && (fractions-of b h i
     && (last-of b h i
+    && (heard-of b h i
     && (lengths-of b h i
     && (unused-of b h i
-    && (all-true (conditions b) 7 h i && true)))))))
+    && (number-of b h i && true))))))))
+
+pub held-sound : (b : Breaker) (time : ℕ) → sound b ≡ true → timeOk time ≡ true → sound (holding b time) ≡ true
+unfolding sound
+held-sound b time h t =
+    λ i. settings-of b h i
+    && (run-of b h i
+    && (all-true (conditions b) 2 h i
+    && (fractions-of b h i
+    && (last-of b h i
+    && (t i
+    && (lengths-of b h i
+    && (unused-of b h i
+    && (number-of b h i && true))))))))

@@ -7,5 +7,7 @@ pub mod Chains
 pub mod Kept
 pub mod Calls
 pub mod Runs
+pub mod HeardPackets
+pub mod AsBefore
 pub mod Judged
 pub mod Equation

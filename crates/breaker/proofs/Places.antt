@@ -47,7 +47,7 @@ sum-next f i n xs h k = ap (sumOf f) (next-place i n xs h k)
 
 -- ---- the limits of one place, and of all
 
--- the places in use: the least interval has length 1, the greatest length 599,999 and fraction 255
+-- the places in use: the least interval has length 1, the greatest length 10,000,000 and fraction 255
 shuffled : (a b d e f : Bool) → ((a && (b && (d && true))) && (e && f)) ≡ ((d && e) && ((a && b) && f))
 shuffled true true true e f = refl
 shuffled true true false e f = refl
@@ -62,13 +62,13 @@ abbrev pub least : Interval
 least = record { length = 1; fraction = 0 }
 
 abbrev pub most : Interval
-most = record { length = 599999; fraction = 255 }
+most = record { length = 10000000; fraction = 255 }
 
 pub used-limits : (xs : List Interval) → all (map (between least most) xs) ≡ (all (map fractionOk xs) && all (map lengthOk xs))
 used-limits [] = refl
 used-limits (x ∷ xs) =
     let a = leb 1 (x .length) in
-    let b = leb (x .length) 599999 in
+    let b = leb (x .length) 10000000 in
     let d = leb (x .fraction) 255 in
     ap (λ (t : Bool). (a && (b && (t && (d && true)))) && all (map (between least most) xs)) (leb·zero (x .fraction))
     ∙ ap (λ (t : Bool). (a && (b && (d && true))) && t) (used-limits xs)
@@ -112,8 +112,7 @@ pub used-roomy : (xs : List Interval) → all (map fractionOk xs) ≡ true → a
 used-roomy [] h l = refl
 used-roomy (x ∷ xs) h l =
     let f : fractionOk x ≡ true = and-left (fractionOk x) _ h in
-    let m : x .length ≤ 599999 = leb-true _ _ (and-right (leb 1 (x .length)) _ (and-left (lengthOk x) _ l)) in
-    let n : leb (x .length) 10000000 ≡ true = le-leb (x .length) 10000000 (omega arith) in
+    let n : leb (x .length) 10000000 ≡ true = and-right (leb 1 (x .length)) _ (and-left (lengthOk x) _ l) in
     λ i. (n i && f i) && used-roomy xs (and-right (fractionOk x) _ h) (and-right (lengthOk x) _ l) i
 
 -- ---- one place more in front

@@ -16,35 +16,36 @@ use Rattle.breaker.specs.declared.Step.{Step}
 use Rattle.breaker.specs.Answers.{answers, refuses}
 use Rattle.breaker.specs.Limits.{settingsOk, timeOk}
 use Rattle.breaker.specs.Soundness.{sound}
-use Rattle.breaker.specs.Calls.{fresh, unstarted, startOf, unlessStopped, reportOf, tickOf}
-use Rattle.breaker.specs.Runs.{Call, report, tick, called, answersOf, after}
+use Rattle.breaker.specs.Calls.{fresh, unstarted, startOf, unlessStopped, reportOf, timed, tickOf, heardOf}
+use Rattle.breaker.specs.Runs.{Call, report, tick, heard, called, answersOf, after}
 use Rattle.breaker.specs.Theorems.{SoundStart, SoundCall, SoundRun, Typed, TypedStart, TypedCall, RefusedKeeps, StaysStopped}
 use Rattle.breaker.specs.Windows.{emptyWindow}
 use Rattle.breaker.proofs.Chains.{by-test}
 use Rattle.breaker.proofs.Facts.{m-low}
-use Rattle.breaker.proofs.Calls.{Held, Halted, Beside, Fine, tick-fine, report-fine}
+use Rattle.breaker.proofs.Calls.{Held, Halted, Beside, Fine, tick-fine, heard-fine, report-fine}
 
 call-fine : (b : Breaker) (c : Call) → Fine b c (called b c)
 unfolding called
 call-fine b (report r) = report-fine b r
 call-fine b (tick time) = tick-fine b time
+call-fine b (heard time) = heard-fine b time
 
 -- ---- sound stays sound
 
 fresh-sound : (s : Settings) (time : ℕ) → settingsOk s ≡ true → timeOk time ≡ true → sound (fresh s time) ≡ true
 unfolding sound emptyWindow
 fresh-sound s time h t =
-    λ i. h i && (lt-ltb 0 (s .m) (m-low s h) i && (le-leb 0 (s .k) zero-le i && (true && (t i && (true && (true && (true && true)))))))
+    λ i. h i && (lt-ltb 0 (s .m) (m-low s h) i && (le-leb 0 (s .k) zero-le i && (true && (t i && (t i && (true && (true && (true && true))))))))
 
 -- a step that answers Go holds a sound record with all its places
-abbrev Begun : Step → Type 0
+abbrev pub Begun : Step → Type 0
 Begun x = x .answer ≡ Go → Held (x .breaker)
 
 unstarted-begun : Begun unstarted
 unfolding emptyWindow
 unstarted-begun e = let z : _≡_ {A = ℕ} 0 1 = cc in absurd (omega arith)
 
-start-held : (s : Settings) (time : ℕ) → Begun (startOf s time)
+pub start-held : (s : Settings) (time : ℕ) → Begun (startOf s time)
 unfolding startOf emptyWindow
 start-held s time =
     by-test Begun (not (settingsOk s)) _ _ (λ _. unstarted-begun)
@@ -57,10 +58,13 @@ sound-start s time e = start-held s time e .isSound
 pub sound-call : SoundCall
 sound-call b c places h = call-fine b c .kept (record { isSound = h; places = places }) .isSound
 
+pub call-held : (b : Breaker) (c : Call) → Held b → Held (called b c .breaker)
+call-held b c h = call-fine b c .kept h
+
 run-held : (b : Breaker) (calls : List Call) → Held b → Held (after b calls)
 unfolding after
 run-held b [] h = h
-run-held b (c ∷ cs) h = run-held (called b c .breaker) cs (call-fine b c .kept h)
+run-held b (c ∷ cs) h = run-held (called b c .breaker) cs (call-held b c h)
 
 pub sound-run : SoundRun
 sound-run s time calls e = run-held (startOf s time .breaker) calls (start-held s time e) .isSound
@@ -95,9 +99,10 @@ module _ (b : Breaker) (reason : Reason) (h : Halted b reason) where
       ∙ ap (λ (s : State). unlessStopped s b x) (h .stopped)
 
   halted-call : (c : Call) → called b c ≡ answers (Stop reason) b
-  unfolding called reportOf tickOf
+  unfolding called reportOf timed tickOf heardOf
   halted-call (report r) = again _
   halted-call (tick time) = again _
+  halted-call (heard time) = again _
 
   halted-answers : (later : List Call) → answersOf b later ≡ map (λ (_ : Call). Stop reason) later
   unfolding answersOf

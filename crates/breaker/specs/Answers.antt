@@ -37,6 +37,7 @@ stops reason b =
       settings = b .settings;
       state = Stopped reason;
       last = b .last;
+      heard = b .heard;
       reported = b .reported;
       highest = b .highest;
       run = b .run;

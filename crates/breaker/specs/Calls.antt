@@ -1,5 +1,5 @@
--- Document 01, "The breaker" and "Refusal numbers": the calls, each with its answers in their order.
-use mathlib.Core.Bool.{false, not, cond}
+-- Document 01, "The breaker" and "Refusal numbers", and 02, request L4: the calls, each with its answers in their order.
+use mathlib.Core.Bool.{Bool, false, _||_, not, cond}
 use Prim.Native.Nat.{ℕ}
 use lib.Dec.{leb, ltb}
 use Rattle.answers.specs.declared.Refusal.the-variants.{Malformed, Limits, Time}
@@ -24,6 +24,7 @@ fresh s time =
       settings = s;
       state = Running;
       last = time;
+      heard = time;
       reported = false;
       highest = 0;
       run = 0;
@@ -60,14 +61,43 @@ unfoldable pub reportOf : Breaker → Report → Step
 reportOf b r =
     opened b
     (cond (not (reportOk r)) (refuses Limits b)
+    -- 11: not later than the last report or start, or earlier than a heard packet
     (cond (leb (r .time) (b .last)) (refuses Time b)
-    (ruled b r)))
+    (cond (ltb (r .time) (b .heard)) (refuses Time b)
+    (ruled b r))))
 
--- then 10, 11, and the timeout; a tick changes nothing else
-unfoldable pub tickOf : Breaker → ℕ → Step
-tickOf b time =
+-- earlier than the last report, heard packet or start
+abbrev pub early : Breaker → ℕ → Bool
+early b time = ltb time (b .last) || ltb time (b .heard)
+
+-- a call that has only a time: then 10, 11, the timeout, or Go with the record `next`
+unfoldable pub timed : Breaker → ℕ → Breaker → Step
+timed b time next =
     opened b
     (cond (not (timeOk time)) (refuses Limits b)
-    (cond (ltb time (b .last)) (refuses Time b)
+    (cond (early b time) (refuses Time b)
     (cond (late b time) (stops Timeout b)
-    (goes b))))
+    (goes next))))
+
+-- a tick changes nothing else
+unfoldable pub tickOf : Breaker → ℕ → Step
+tickOf b time = timed b time b
+
+-- the record with another time from which t is measured; window, run and the start of the current interval are as they were
+abbrev pub holding : Breaker → ℕ → Breaker
+holding b time =
+    record {
+      settings = b .settings;
+      state = b .state;
+      last = b .last;
+      heard = time;
+      reported = b .reported;
+      highest = b .highest;
+      run = b .run;
+      trial = b .trial;
+      window = b .window;
+    }
+
+-- a heard packet moves that time
+unfoldable pub heardOf : Breaker → ℕ → Step
+heardOf b time = timed b time (holding b time)

@@ -8,5 +8,7 @@ pub mod Rules
 pub mod Calls
 pub mod Private
 pub mod Runs
+pub mod WithoutHeard
 pub mod Throughput
+pub mod HeardPackets
 pub mod Theorems

@@ -2,9 +2,8 @@
 use mathlib.Core.Path.{_≡_}
 use mathlib.Core.Bool.{Bool, true, false, _&&_, not, cond}
 use mathlib.Core.List.{List, [], _∷_}
-use Prim.Native.Nat.{ℕ, _-_, _<_}
+use Prim.Native.Nat.{ℕ, _<_, _≤_}
 use lib.Dec.{leb, ltb}
-use lib.ListN.{take}
 use Rattle.answers.specs.Conditions.{all}
 use Rattle.breaker.specs.declared.Reason.the-variants.{Congestion}
 use Rattle.breaker.specs.declared.State.the-variants.{Running}
@@ -20,8 +19,7 @@ use Rattle.breaker.specs.Answers.{answers, goes, reduces, stops}
 use Rattle.breaker.specs.Calls.{opened}
 use Rattle.breaker.specs.Limits.{reportOk}
 use Rattle.breaker.specs.Windows.{emptyWindow, W, P}
-use Rattle.breaker.specs.Condition.{condition}
-use Rattle.breaker.specs.Rules.{stored}
+use Rattle.breaker.specs.Rules.{stored, holds}
 use Rattle.breaker.specs.Soundness.{sound}
 
 -- ---- intervals
@@ -36,7 +34,7 @@ between least most x =
     ∷ leb (x .fraction) (most .fraction)
     ∷ [])
 
--- the sums have room for lengths up to 10,000,000 ms
+-- a length of at most 10,000,000 ms, for which the sums have room
 abbrev pub roomy : Interval → Bool
 roomy x = leb (x .length) 10000000 && leb (x .fraction) 255
 
@@ -58,20 +56,12 @@ pub record Accepted (b : Breaker) (r : Report) : Type 0 where
   pub running : b .state ≡ Running
   pub inLimits : reportOk r ≡ true
   pub later : b .last < r .time
-
--- and that comes before the timeout
-pub record InTime (b : Breaker) (r : Report) : Type 0 where
-  pub accepted : Accepted b r
-  pub inTime : r .time - b .last < b .settings .timeout
+  pub notBefore : b .heard ≤ r .time
 
 -- the congestion rule with the media run and the window as the program has them
-
-unfoldable pub exceeds : ℕ → Window → Report → Bool
-exceeds k w r = condition (r .rate) (r .rtt) (P (take k (w .intervals))) (r .size) (W (take k (w .intervals)))
-
 unfoldable pub tested : Breaker → Report → ℕ → Window → Step
 tested b r run w =
     cond (ltb (w .used) (b .settings .k)) (goes (stored b r run (b .trial) w))
-    (cond (not (exceeds (b .settings .k) w r)) (goes (stored b r run false w))
+    (cond (not (holds (b .settings .k) w r)) (goes (stored b r run false w))
     (cond (b .settings .reduce && not (b .trial)) (reduces (stored b r run true emptyWindow))
     (stops Congestion b)))

@@ -1,7 +1,6 @@
--- Document 01, "The breaker": the rules for a report that is not refused.
+-- Document 01, "The breaker", and 02, request L4: the rules for a report that is not refused.
 use mathlib.Core.Bool.{Bool, true, false, _&&_, _||_, not, cond}
-use mathlib.Core.List.{List}
-use Prim.Native.Nat.{ℕ, _+_, _-_, _^_}
+use Prim.Native.Nat.{ℕ, _+_, _-_, _^_, min}
 use lib.Dec.{leb, ltb, eqb}
 use lib.ListN.{take}
 use Rattle.numbers.specs.Since.{since}
@@ -16,13 +15,14 @@ use Rattle.breaker.specs.FractionLost.{fractionOf}
 use Rattle.breaker.specs.Windows.{emptyWindow, pushed, W, P}
 use Rattle.breaker.specs.Condition.{condition}
 
--- a report neither refused nor stopped stores its time and number
+-- a report neither refused nor stopped stores its time and number; t is measured from its time too
 abbrev pub stored : Breaker → Report → ℕ → Bool → Window → Breaker
 stored b r run trial w =
     record {
       settings = b .settings;
       state = b .state;
       last = r .time;
+      heard = r .time;
       reported = true;
       highest = r .highest;
       run = run;
@@ -30,9 +30,9 @@ stored b r run trial w =
       window = w;
     }
 
--- t ms or more after the last report or start
+-- t ms or more after the last report, heard packet or start
 abbrev pub late : Breaker → ℕ → Bool
-late b time = leb (b .settings .timeout) (time - b .last)
+late b time = leb (b .settings .timeout) (time - b .heard)
 
 -- not ahead of the last one: the difference modulo 2^32 is 0 or at least 2^31
 abbrev pub notAhead : ℕ → ℕ → Bool
@@ -42,31 +42,35 @@ notAhead number last = eqb (since 32 number last) 0 || leb (2 ^ 31) (since 32 nu
 unfoldable pub runAfter : Breaker → Report → ℕ
 runAfter b r = cond (not (b .reported)) 0 (cond (notAhead (r .highest) (b .highest)) (b .run + 1) 0)
 
--- the window with the interval that this report closes, its length the time since the last report
+-- the interval that this report closes: its length is the time since the last report, and a longer one is stored as 10,000,000 ms
+abbrev pub closed : Breaker → Report → Interval
+closed b r = record { length = min (r .time - b .last) 10000000; fraction = fractionOf (r .loss) }
+
+-- the window with that interval
 unfoldable pub windowAfter : Breaker → Report → Window
-windowAfter b r = pushed (b .settings .k) (record { length = r .time - b .last; fraction = fractionOf (r .loss) }) (b .window)
+windowAfter b r = pushed (b .settings .k) (closed b r) (b .window)
 
-abbrev pub lastIntervals : Breaker → Report → List Interval
-lastIntervals b r = take (b .settings .k) (windowAfter b r .intervals)
+-- the condition over the last k intervals of a window, with this report's rate, Tr and s
+unfoldable pub holds : ℕ → Window → Report → Bool
+holds k w r = condition (r .rate) (r .rtt) (P (take k (w .intervals))) (r .size) (W (take k (w .intervals)))
 
--- the condition over the last k intervals, with this report's rate, Tr and s
-unfoldable pub holds : Breaker → Report → Bool
-holds b r = condition (r .rate) (r .rtt) (P (lastIntervals b r)) (r .size) (W (lastIntervals b r))
-
--- the rules in their order
-unfoldable pub ruled : Breaker → Report → Step
-ruled b r =
+-- the rules in their order, given whether the report is late, and the window with the interval that it closes
+unfoldable pub ruledBy : Bool → Window → Breaker → Report → Step
+ruledBy isLate w b r =
     -- rate 0 empties the window and sets the media run to 0
     cond (eqb (r .rate) 0) (goes (stored b r 0 (b .trial) emptyWindow))
-    (cond (late b (r .time)) (stops Timeout b)
+    (cond isLate (stops Timeout b)
     -- the media run is at m
     (cond (leb (b .settings .m) (runAfter b r)) (stops Media b)
     -- the first report after a start closes no interval
     (cond (not (b .reported)) (goes (stored b r (runAfter b r) (b .trial) (b .window)))
     -- fewer than k intervals: no test
-    (cond (ltb (windowAfter b r .used) (b .settings .k)) (goes (stored b r (runAfter b r) (b .trial) (windowAfter b r)))
+    (cond (ltb (w .used) (b .settings .k)) (goes (stored b r (runAfter b r) (b .trial) w))
     -- a test where the condition does not hold ends a trial
-    (cond (not (holds b r)) (goes (stored b r (runAfter b r) false (windowAfter b r)))
+    (cond (not (holds (b .settings .k) w r)) (goes (stored b r (runAfter b r) false w))
     -- a reduction is allowed and none is under trial: a trial begins, with an empty window
     (cond (b .settings .reduce && not (b .trial)) (reduces (stored b r (runAfter b r) true emptyWindow))
     (stops Congestion b)))))))
+
+unfoldable pub ruled : Breaker → Report → Step
+ruled b r = ruledBy (late b (r .time)) (windowAfter b r) b r

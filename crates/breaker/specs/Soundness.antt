@@ -1,5 +1,5 @@
 -- Document 01, "Refusal numbers": a breaker record is sound when its settings, counts (run below m while running, window at most k),
--- fractions, times and stored lengths (each 1 to 599,999) are in limits, and unused places are zero.
+-- fractions, times and stored lengths are in limits, and unused places are zero. The lengths go to 10,000,000 ms (document 02, request L4).
 use mathlib.Core.Bool.{Bool, true, _||_}
 use mathlib.Core.List.{List, [], _∷_, map}
 use Prim.Native.Nat.{ℕ}
@@ -27,6 +27,7 @@ conditions b =
     ∷ leb (b .window .used) (b .settings .k)
     ∷ all (map fractionOk (inUse (b .window)))
     ∷ timeOk (b .last)
+    ∷ timeOk (b .heard)
     ∷ all (map lengthOk (inUse (b .window)))
     ∷ all (map isZero (unused (b .window)))
     ∷ numberOk (b .reported) (b .highest)

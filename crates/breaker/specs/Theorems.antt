@@ -23,7 +23,7 @@ use Rattle.breaker.specs.FractionLost.{fractionOf}
 use Rattle.breaker.specs.Soundness.{sound}
 use Rattle.breaker.specs.Condition.{condition}
 use Rattle.breaker.specs.Calls.{startOf, preset, reportOf}
-use Rattle.breaker.specs.Runs.{Call, report, tick, called, answersOf, after}
+use Rattle.breaker.specs.Runs.{Call, report, tick, heard, called, answersOf, after}
 use Rattle.breaker.specs.Throughput.{Fraction, whole, _times_, square, above, throughputSquared}
 
 -- a start that is not refused makes a sound record
@@ -47,6 +47,7 @@ pub record Typed (b : Breaker) : Type 0 where
 abbrev pub numberFits : Call → Bool
 numberFits (report r) = ltb (r .highest) (2 ^ 32)
 numberFits (tick time) = true
+numberFits (heard time) = true
 
 -- every start makes such a record, and every call keeps it one
 abbrev pub TypedStart : Type 0

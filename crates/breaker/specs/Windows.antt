@@ -1,4 +1,4 @@
--- Document 01, "The breaker": the window of the last intervals, the newest first.
+-- Document 01, "The breaker", and 02, request L4: the window of the last intervals, the newest first.
 use mathlib.Core.Bool.{Bool, _&&_}
 use mathlib.Core.List.{List, [], _∷_, _++_}
 use Prim.Native.Nat.{ℕ, _+_, _-_, _*_, min}
@@ -30,12 +30,12 @@ inUse w = take (w .used) (w .intervals)
 abbrev pub unused : Window → List Interval
 unused w = drop (w .used) (w .intervals)
 
--- a fraction is from 0 to 255, a stored length from 1 to 599,999 ms
+-- a fraction is from 0 to 255, a stored length from 1 to 10,000,000 ms
 abbrev pub fractionOk : Interval → Bool
 fractionOk x = leb (x .fraction) 255
 
 abbrev pub lengthOk : Interval → Bool
-lengthOk x = within 1 599999 (x .length)
+lengthOk x = within 1 10000000 (x .length)
 
 abbrev pub isZero : Interval → Bool
 isZero x = eqb (x .length) 0 && eqb (x .fraction) 0

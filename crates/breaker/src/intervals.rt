@@ -69,7 +69,7 @@ pub fn all_between(
     true
 }
 
-// The sums over the first n intervals. There is room for lengths up to 10,000,000 ms.
+// The sums over the first n intervals.
 pub fn summed(xs: [Interval; 32], n: usize) -> Sums
     requires { ⌜ (n ≤ 32) × (all (map roomy (take n xs)) ≡ true) ⌝ }
     ensures { λ r. ⌜ r ≡ sumsOf (take n xs) ⌝ }

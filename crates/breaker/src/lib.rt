@@ -2,7 +2,7 @@
 ghost use mathlib.Core.Path.{_≡_};
 ghost use Rattle.breaker.specs.Answers.{reasonNumber, answers, stops};
 ghost use Rattle.breaker.specs.Rules.{stored};
-ghost use Rattle.breaker.specs.Calls.{fresh, unstarted, preset, startOf, reportOf, tickOf};
+ghost use Rattle.breaker.specs.Calls.{fresh, unstarted, preset, startOf, reportOf, early, timed, tickOf, holding, heardOf};
 ghost use Rattle.breaker.specs.Private.{Opens};
 use answers::Refusal;
 
@@ -22,7 +22,7 @@ pub struct Settings {
 
 // Why the breaker stops.
 pub enum Reason {
-    // 1: no report for the timeout.
+    // 1: no report and no heard packet for the timeout.
     Timeout,
     // 2: m reports in a row whose highest number is not ahead.
     Media,
@@ -61,12 +61,14 @@ pub struct Window {
     pub intervals: [Interval; 32],
 }
 
-// The breaker's record: `last` is the time of the last report or of the start, `reported` whether there was a report, `highest` its number,
-// `run` the media run, `trial` whether a reduction is under trial.
+// The breaker's record: `last` is the time of the last report or of the start, where the current interval begins; `heard` is the time from which
+// the timeout is measured, that of the last report, heard packet or start; `reported` is whether there was a report, `highest` its number, `run`
+// the media run, `trial` whether a reduction is under trial.
 pub struct Breaker {
     pub settings: Settings,
     pub state: State,
     pub last: u64,
+    pub heard: u64,
     pub reported: bool,
     pub highest: u32,
     pub run: u64,
@@ -139,7 +141,7 @@ impl Breaker {
 
     pub const MAX_RATE: u64 = 125_000_000;
 
-    pub const MAX_LENGTH: u64 = 599_999;
+    pub const MAX_LENGTH: u64 = 10_000_000;
 
     // The preset settings.
     pub const PRESET: Settings = Settings {
@@ -182,6 +184,9 @@ impl Breaker {
         if r.time <= self.last {
             return self.answered(Answer::Refused(Refusal::Time));
         }
+        if r.time < self.heard {
+            return self.answered(Answer::Refused(Refusal::Time));
+        }
         rules::ruled(self, r)
     }
 
@@ -189,19 +194,43 @@ impl Breaker {
     pub fn tick(self, time: u64) -> Step
         ensures { λ s. ⌜ s ≡ tickOf self time ⌝ }
     {
+        self.timed(time, self.heard)
+    }
+
+    // A packet without SR or RR is heard: as a tick, but the timeout is measured from this time on.
+    pub fn heard(self, time: u64) -> Step
+        ensures { λ s. ⌜ s ≡ heardOf self time ⌝ }
+    {
+        self.timed(time, time)
+    }
+
+    // A call that has only a time, after which the timeout is measured from `held`.
+    fn timed(self, time: u64, held: u64) -> Step
+        ensures { λ s. ⌜ s ≡ timed self time (holding self held) ⌝ }
+    {
         if let Opening::Answered(answer) = self.opening() {
             return self.answered(answer);
         }
         if Breaker::TIME_LIMIT <= time {
             return self.answered(Answer::Refused(Refusal::Limits));
         }
-        if time < self.last {
+        if self.is_early(time) {
             return self.answered(Answer::Refused(Refusal::Time));
         }
-        if self.settings.timeout <= time - self.last {
+        if self.settings.timeout <= time - self.heard {
             return self.stopped(Reason::Timeout);
         }
-        self.answered(Answer::Go)
+        self.holding(held).answered(Answer::Go)
+    }
+
+    // Whether a time is earlier than the last report, heard packet or start.
+    fn is_early(self, time: u64) -> bool
+        ensures { λ r. ⌜ r ≡ early self time ⌝ }
+    {
+        if time < self.last {
+            return true;
+        }
+        time < self.heard
     }
 
     // What every call begins with: refused with 9, or answered by the stop.
@@ -227,6 +256,7 @@ impl Breaker {
             settings,
             state: State::Running,
             last: time,
+            heard: time,
             reported: false,
             highest: 0,
             run: 0,
@@ -268,12 +298,21 @@ impl Breaker {
             settings,
             state: State::Stopped(reason),
             last: self.last,
+            heard: self.heard,
             reported: self.reported,
             highest: self.highest,
             run: self.run,
             trial: self.trial,
             window,
         }.answered(Answer::Stop(reason))
+    }
+
+    // The record with another time from which the timeout is measured.
+    fn holding(mut self, held: u64) -> Self
+        ensures { λ b. ⌜ b ≡ holding self held ⌝ }
+    {
+        self.heard = held;
+        self
     }
 
     // The record after a report that is neither refused nor stopped: it stores the time and the number.
@@ -286,6 +325,7 @@ impl Breaker {
             settings,
             state,
             last: r.time,
+            heard: r.time,
             reported: true,
             highest: r.highest,
             run,

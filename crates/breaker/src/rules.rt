@@ -2,12 +2,12 @@
 ghost use mathlib.Core.Path.{_≡_};
 ghost use mathlib.Core.Bool.{true, _&&_, not};
 ghost use mathlib.Core.List.{map};
-ghost use Prim.Native.Nat.{_≤_};
+ghost use Prim.Native.Nat.{_≤_, min};
 ghost use lib.ListN.{take};
 ghost use Rattle.answers.specs.Conditions.{all};
 ghost use Rattle.breaker.specs.Limits.{reportOk};
-ghost use Rattle.breaker.specs.Private.{roomy, Accepted, InTime, exceeds, tested};
-ghost use Rattle.breaker.specs.Rules.{notAhead, runAfter, windowAfter, ruled};
+ghost use Rattle.breaker.specs.Private.{roomy, Accepted, tested};
+ghost use Rattle.breaker.specs.Rules.{notAhead, runAfter, windowAfter, holds, ruled};
 use crate::Answer;
 use crate::Breaker;
 use crate::Interval;
@@ -48,6 +48,16 @@ fn run_after(b: Breaker, r: Report) -> u64
     0
 }
 
+// An interval's length as it is stored.
+fn stored_length(elapsed: u64) -> u64
+    ensures { λ n. ⌜ n ≡ min elapsed 10000000 ⌝ }
+{
+    if Breaker::MAX_LENGTH < elapsed {
+        return Breaker::MAX_LENGTH;
+    }
+    elapsed
+}
+
 // The window with the interval that this report closes.
 fn window_after(b: Breaker, r: Report) -> Window
     requires { ⌜ Accepted b r ⌝ }
@@ -57,7 +67,7 @@ fn window_after(b: Breaker, r: Report) -> Window
     let old = b.window;
     let loss = r.loss;
     let x = Interval {
-        length: r.time - b.last,
+        length: stored_length(r.time - b.last),
         fraction: losses::fraction_of(loss),
     };
     intervals::pushed(old, x, k)
@@ -66,7 +76,7 @@ fn window_after(b: Breaker, r: Report) -> Window
 // Whether the condition holds over the last k intervals: two products of two words.
 fn exceeds(window: Window, k: usize, r: Report) -> bool
     requires { ⌜ (k ≤ 32) × (all (map roomy (take k (window .intervals))) ≡ true) × (reportOk r ≡ true) ⌝ }
-    ensures { λ b. ⌜ b ≡ exceeds k window r ⌝ }
+    ensures { λ b. ⌜ b ≡ holds k window r ⌝ }
 {
     let last = window.intervals;
     let sums = intervals::summed(last, k);
@@ -87,7 +97,7 @@ fn may_reduce(allowed: bool, trial: bool) -> bool
 
 // The congestion rule.
 fn tested(b: Breaker, r: Report, run: u64) -> Step
-    requires { ⌜ InTime b r ⌝ }
+    requires { ⌜ Accepted b r ⌝ }
     ensures { λ s. ⌜ s ≡ tested b r run (windowAfter b r) ⌝ }
 {
     let k = b.settings.k;
@@ -117,7 +127,7 @@ pub fn ruled(b: Breaker, r: Report) -> Step
             .answered(Answer::Go);
     }
     let run = run_after(b, r);
-    let elapsed = r.time - b.last;
+    let elapsed = r.time - b.heard;
     if b.settings.timeout <= elapsed {
         return b.stopped(Reason::Timeout);
     }

@@ -87,6 +87,9 @@ pub fn is_sound(b: Breaker) -> bool
     if Breaker::TIME_LIMIT <= b.last {
         return false;
     }
+    if Breaker::TIME_LIMIT <= b.heard {
+        return false;
+    }
     if !rest_ok(window) {
         return false;
     }

@@ -5,6 +5,7 @@
 //   r time highest fraction rtt size rate               a report
 //   e time highest lost marked expected rtt size rate   a report with ECN counts
 //   t time                                              a tick
+//   h time                                              a heard packet
 //   f field value                                       a change of one field by hand
 //   p place length fraction                             a change of one place of the window by hand
 // Any other line is a heading.
@@ -52,7 +53,7 @@ fn reason_of(state: State) -> u64 {
     }
 }
 
-// The record: reason, time and number of the last report, whether there was one, media run, trial, intervals in use, the newest interval.
+// The record: reason, time of the last report or start, time held, number of the last report, whether there was one, media run, trial, intervals in use, the newest interval.
 fn show_record(b: Breaker) {
     let state = b.state;
     let window = b.window;
@@ -60,6 +61,7 @@ fn show_record(b: Breaker) {
     show::text(b" |");
     show::number(reason_of(state));
     show::number(b.last);
+    show::number(b.heard);
     show::number(b.highest as u64);
     show::number(bit(b.reported));
     show::number(b.run);
@@ -157,6 +159,7 @@ fn changed(b: Breaker, field: u64, value: u64) -> Breaker {
         5 => next.reported = value == 1,
         6 => next.highest = (value % 4294967296) as u32,
         7 => next.run = value,
+        9 => next.heard = value,
         _ => {}
     }
     next
@@ -183,6 +186,7 @@ fn done(b: Breaker, line: &[u8]) -> Breaker {
         b'e' => shown(b.report(ecn_report_of(line))),
         b'r' => shown(b.report(report_of(line))),
         b't' => shown(b.tick(number(line, 1))),
+        b'h' => shown(b.heard(number(line, 1))),
         b'f' => changed(b, number(line, 1), number(line, 2)),
         b'p' => placed(b, number(line, 1), number(line, 2), number(line, 3)),
         _ => b,

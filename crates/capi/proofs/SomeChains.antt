@@ -10,8 +10,8 @@ use Rattle.source.specs.Arrivals.{counted, first, ahead, behind, distance, reme
 use Rattle.breaker.specs.Limits.{settingsOk, reportOk}
 use Rattle.breaker.specs.Windows.{emptyWindow}
 use Rattle.breaker.specs.Soundness.{sound}
-use Rattle.breaker.specs.Rules.{runAfter, windowAfter, holds, ruled}
-use Rattle.breaker.specs.Calls.{preset, startOf, reportOf, tickOf}
+use Rattle.breaker.specs.Rules.{runAfter, windowAfter, holds, ruledBy, ruled}
+use Rattle.breaker.specs.Calls.{preset, startOf, reportOf, timed, tickOf, heardOf}
 use Rattle.breaker.specs.Runs.{called, after}
 use Rattle.lent.specs.SourceWords.{sourceWith, sourceWords}
 use Rattle.lent.specs.BreakerWords.{intervalWords, breakerWords, intervalsOf, settingsOf, windowOf, breakerOf, wordsFit}
@@ -26,7 +26,7 @@ unfolding ones onesIn pack place marks places moved added source.fresh source.ha
 some-arrivals = record { fit = refl; answers = refl; left = refl; sound = refl; typed = refl }
 
 pub some-calls : SomeCalls
-unfolding since settingsOk reportOk emptyWindow sound runAfter windowAfter holds ruled startOf reportOf tickOf called intervalWords breakerWords intervalsOf settingsOf windowOf breakerOf wordsFit callAnswer callLeft breakerChain breakerCodes after
+unfolding since settingsOk reportOk emptyWindow sound runAfter windowAfter holds ruledBy ruled startOf reportOf timed tickOf heardOf called intervalWords breakerWords intervalsOf settingsOf windowOf breakerOf wordsFit callAnswer callLeft breakerChain breakerCodes after
 some-calls = record { begun = refl; fit = refl; answers = refl; left = refl; typed = record { number = omega arith; places = refl }; stop = refl; same = refl }
 
 used : Unit {0}

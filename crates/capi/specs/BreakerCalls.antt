@@ -20,7 +20,7 @@ use Rattle.breaker.specs.declared.Loss.the-variants.{Counts}
 use Rattle.breaker.specs.declared.Step.{Step}
 use Rattle.breaker.specs.Answers.{reasonNumber}
 use Rattle.breaker.specs.Calls.{unstarted, startOf}
-use Rattle.breaker.specs.Runs.{Call, report, tick, called}
+use Rattle.breaker.specs.Runs.{Call, report, tick, heard, called}
 use Rattle.breaker.specs.Theorems.{numberFits}
 use Rattle.lent.specs.declared.breaker_words.Loaded.{Loaded}
 use Rattle.lent.specs.BreakerWords.{breakerWords, breakerOf, wordsFit}
@@ -59,7 +59,7 @@ startCode (writer.Length n) = answerCode Go
 startCode (writer.Room n) = 512 + roomNumber
 startCode (writer.Refused refusal) = answerCode (Refused refusal)
 
--- the step of a start: its refusal, 12; or Go and the record's 75 words
+-- the step of a start: its refusal, 12; or Go and the record's 76 words
 abbrev pub PutsStart : Step → List ℕ → ℕ → List ℕ → Type 0
 PutsStart s old r out =
     Gives startCode
@@ -67,15 +67,15 @@ PutsStart s old r out =
     (breakerWords (s .breaker))
     old r out
 
--- "The breaker", a start: 10, 12; or Go and the record's 75 words
+-- "The breaker", a start: 10, 12; or Go and the record's 76 words
 abbrev pub StartsBreaker : ℕ → ℕ → ℕ → ℕ → ℕ → List ℕ → ℕ → List ℕ → Type 0
 StartsBreaker k m timeout reduce time old r out = PutsStart (starts k m timeout reduce time) old r out
 
--- ---- flasknib_breaker_report, flasknib_breaker_report_ecn, flasknib_breaker_tick
+-- ---- flasknib_breaker_report, flasknib_breaker_report_ecn, flasknib_breaker_tick, flasknib_breaker_heard
 
--- 75 words that are those of a record
+-- 76 words that are those of a record
 abbrev pub isRecord : List ℕ → Bool
-isRecord old = eqb (length old) 75 && all (wordsFit old)
+isRecord old = eqb (length old) 76 && all (wordsFit old)
 
 abbrev pub recordIn : List ℕ → Loaded
 recordIn old = record { ok = isRecord old; breaker = breakerOf old }
@@ -113,6 +113,9 @@ TakesReport old time highest loss rtt size rate r out =
 
 abbrev pub TakesTick : List ℕ → ℕ → ℕ → List ℕ → Type 0
 TakesTick old time r out = TakesCall (tick time) old r out
+
+abbrev pub TakesHeard : List ℕ → ℕ → ℕ → List ℕ → Type 0
+TakesHeard old time r out = TakesCall (heard time) old r out
 
 -- ---- what follows
 

@@ -14,7 +14,7 @@ use Rattle.breaker.specs.declared.Settings.{Settings}
 use Rattle.breaker.specs.declared.Breaker.{Breaker}
 use Rattle.breaker.specs.declared.Loss.the-variants.{Fraction}
 use Rattle.breaker.specs.Calls.{startOf, preset}
-use Rattle.breaker.specs.Runs.{Call, report, tick, called, answersOf, after as afterCalls}
+use Rattle.breaker.specs.Runs.{Call, report, tick, heard, called, answersOf, after as afterCalls}
 use Rattle.breaker.specs.Theorems.{Typed, numberFits}
 use Rattle.lent.specs.SourceWords.{sourceWords}
 use Rattle.lent.specs.BreakerWords.{breakerWords, breakerOf}
@@ -72,7 +72,7 @@ pub record SomeArrivals : Type 0 where
   pub sound : sound (afterArrivals freshRecord someArrivals) ≡ true
   pub typed : wireNumber (afterArrivals freshRecord someArrivals .remembered) ≡ true
 
--- ---- a breaker's reports and ticks
+-- ---- a breaker's reports, ticks and heard packets
 
 unfoldable pub breakerChain : List ℕ → List Call → List ℕ
 breakerChain words [] = words
@@ -94,12 +94,12 @@ CalledInTurn = (b : Breaker) (calls : List Call) → Typed b → all (map number
 abbrev pub CalledFromStart : Type 0
 CalledFromStart = (s : Settings) (time : ℕ) (calls : List Call) → all (map numberFits calls) ≡ true → BreakerChain (startOf s time .breaker) calls
 
--- such a list, with a report in its middle that is not later than the last
+-- such a list, with a report in its middle that is not later than the last, and a packet heard after which the timeout begins anew
 abbrev pub reportAt : ℕ → ℕ → Call
 reportAt time highest = report (record { time = time; highest = highest; loss = Fraction 20; rtt = 100; size = 1000; rate = 5000 })
 
 abbrev pub someCalls : List Call
-someCalls = reportAt 1000 7 ∷ reportAt 1000 8 ∷ reportAt 3000 9 ∷ tick 4000 ∷ []
+someCalls = reportAt 1000 7 ∷ reportAt 1000 8 ∷ reportAt 3000 9 ∷ heard 17000 ∷ tick 18000 ∷ []
 
 abbrev pub started : List ℕ
 started = breakerWords (startOf preset 0 .breaker)
@@ -114,9 +114,9 @@ stopped = callLeft (tick 15000) started
 pub record SomeCalls : Type 0 where
   pub begun : isRecord started ≡ true
   pub fit : all (map numberFits someCalls) ≡ true
-  pub answers : breakerCodes started someCalls ≡ 0 ∷ 523 ∷ 0 ∷ 0 ∷ []
+  pub answers : breakerCodes started someCalls ≡ 0 ∷ 523 ∷ 0 ∷ 0 ∷ 0 ∷ []
   pub left : breakerChain started someCalls
-      ≡ (3 ∷ 3 ∷ 15000 ∷ 0 ∷ 0 ∷ 3000 ∷ 1 ∷ 9 ∷ 0 ∷ 0 ∷ 1 ∷ 2000 ∷ 20 ∷ []) ++ replicate 62 0
+      ≡ (3 ∷ 3 ∷ 15000 ∷ 0 ∷ 0 ∷ 3000 ∷ 17000 ∷ 1 ∷ 9 ∷ 0 ∷ 0 ∷ 1 ∷ 2000 ∷ 20 ∷ []) ++ replicate 62 0
   pub typed : Typed reported
   -- a call on a stopped breaker answers the stop and hands the record back as it was
   pub stop : callAnswer (reportAt 16000 7) stopped ≡ 257

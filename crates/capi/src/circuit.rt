@@ -1,9 +1,9 @@
-// The circuit breaker for C. A record is lent as 75 words; what a call answers is one number.
+// The circuit breaker for C. A record is lent as 76 words; what a call answers is one number.
 ghost use mathlib.Core.Path.{_≡_};
 ghost use lib.ListN.{length};
 ghost use Rattle.capi.specs.Codes.{Leaves};
 ghost use Rattle.breaker.specs.declared.Loss.the-variants.{Fraction};
-ghost use Rattle.capi.specs.BreakerCalls.{answerCode, isRefused, recordIn, leftBy, PutsStart, StartsBreaker, countsGiven, TakesReport, TakesTick};
+ghost use Rattle.capi.specs.BreakerCalls.{answerCode, isRefused, recordIn, leftBy, PutsStart, StartsBreaker, countsGiven, TakesReport, TakesTick, TakesHeard};
 use answers::ROOM;
 use answers::Refusal;
 use breaker::Answer;
@@ -45,7 +45,7 @@ fn is_refused(answer: Answer) -> bool
     }
 }
 
-// The record that the words are read as, and whether they are one: 75 words that fit.
+// The record that the words are read as, and whether they are one: 76 words that fit.
 fn record_in(words: &[u64]) -> Loaded
     ensures { λ r. ⌜ r ≡ recordIn (now (words .entry)) ⌝ }
 {
@@ -59,7 +59,7 @@ fn record_in(words: &[u64]) -> Loaded
 
 // Stores the next record in the place of the last, unless the call is refused, and gives the answer's number.
 fn put_back(step: Step, words: &mut [u64]) -> u16
-    requires { ⌜ length (now words) ≡ 75 ⌝ }
+    requires { ⌜ length (now words) ≡ 76 ⌝ }
     ensures { λ r. ⌜ Leaves (answerCode (step .answer)) (leftBy step (now (words .entry))) r (now (words .exit)) ⌝ }
 {
     let answer = step.answer;
@@ -87,7 +87,7 @@ fn put_front(step: Step, words: &mut [u64]) -> u16
     code(Answer::Go)
 }
 
-// Starts a breaker: Go and the record at the front of `breaker`, or refusal 10, or 12 where there are fewer than 75 words.
+// Starts a breaker: Go and the record at the front of `breaker`, or refusal 10, or 12 where there are fewer than 76 words.
 #[no_mangle]
 pub extern "C" fn flasknib_breaker_start(
     k: u64,
@@ -191,4 +191,17 @@ pub extern "C" fn flasknib_breaker_tick(breaker: &mut [u64], time: u64) -> u16
     }
     let b = given.breaker;
     put_back(b.tick(time), breaker)
+}
+
+// A heard packet on the record in `breaker`: the answer, and the next record in its place.
+#[no_mangle]
+pub extern "C" fn flasknib_breaker_heard(breaker: &mut [u64], time: u64) -> u16
+    ensures { λ r. ⌜ TakesHeard (now (breaker .entry)) time r (now (breaker .exit)) ⌝ }
+{
+    let given = record_in(breaker);
+    if !given.ok {
+        return code(Answer::Refused(Refusal::Malformed));
+    }
+    let b = given.breaker;
+    put_back(b.heard(time), breaker)
 }

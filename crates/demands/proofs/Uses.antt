@@ -24,6 +24,8 @@ use Rattle.table.proofs.Splitting.{line-splits}
 use Rattle.breaker.specs.Calls.{preset}
 use Rattle.breaker.specs.Runs.{tick}
 use Rattle.breaker.specs.declared.Reason.the-variants.{Timeout}
+use Rattle.breaker.proofs.HeardPackets.{heard-holds, heard-unseen}
+use Rattle.breaker.proofs.AsBefore.{call-as-before, run-as-before}
 use Rattle.breaker.proofs.Runs.{sound-start, sound-call, sound-run, typed-call, refused-keeps, stays-stopped}
 use Rattle.walk.proofs.Walks.{nothing-follows}
 use Rattle.convert.specs.Runs.{callNext}
@@ -32,7 +34,7 @@ use Rattle.convert.proofs.Steps.{row-room-is-exact}
 use Rattle.convert.proofs.Whole.{calls-print}
 use Rattle.demands.specs.Calls.{run}
 use Rattle.demands.specs.RoundTrip.{emptyRr}
-use Rattle.demands.specs.Witnesses.{wrapped, reordered, c1Packets, text, label, c1Block, block, whole, cut, begun, reported, notLater}
+use Rattle.demands.specs.Witnesses.{wrapped, reordered, c1Packets, text, label, c1Block, block, whole, cut, begun, reported, notLater, heardOn}
 use Rattle.demands.proofs.Demand.{demand3}
 use Rattle.demands.proofs.PrintedTable.{table-holds-count, same-last-row}
 use Rattle.demands.proofs.ReadBack.{feedback-reads-back, summary-reads-back}
@@ -63,6 +65,10 @@ used =
     let typed = typed-call reported notLater (met .breaker-typed) (met .number-fits) in
     let keeps = refused-keeps reported notLater Time (met .refuses) in
     let stops = stays-stopped reported (tick 20001) Timeout (notLater ∷ []) (met .stops) in
+    let holds = heard-holds reported 6000 (met .hears) in
+    let unseen = heard-unseen reported 5001 6000 heardOn (met .untimed-reported) (met .untimed-heard) in
+    let before = call-as-before reported notLater refl (met .unheard) in
+    let run-before = run-as-before preset 0 (notLater ∷ []) (met .starts) (met .none-heard) in
     let feedback = feedback-reads-back (run c1Packets) 5 9 1 Profile.ReducedSize (met .ssrcs .0) (met .ssrcs .1) in
     let summary = summary-reads-back (run c1Packets) 5 1 Profile.ReducedSize (met .ssrcs .1) in
     let accepted = profiles-agree (emptyRr 5) 1 .accepted _ (met .rr-read) in

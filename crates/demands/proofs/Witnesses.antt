@@ -1,7 +1,7 @@
 -- The hypotheses are met. Assumes nothing.
 use mathlib.Core.Path.{_≡_, refl}
 use mathlib.Core.Bool.{Bool, true, false}
-use mathlib.Core.List.{List, [], _∷_, flatMap}
+use mathlib.Core.List.{List, [], _∷_, map, flatMap}
 use mathlib.Core.Option.{none}
 use Prim.Native.Nat.{ℕ, zero, suc, _^_, _<_}
 use lib.ListN.{length, take, drop, replicate}
@@ -13,6 +13,7 @@ use lib.Signed.{leZ-yes, ltZ-yes}
 use Rattle.answers.specs.Writers.{written}
 use Rattle.answers.specs.declared.Refusal.the-variants.{PacketSize, Time}
 use Rattle.answers.specs.declared.Written.the-variants.{Room}
+use Rattle.answers.specs.Conditions.{all}
 use Rattle.answers.proofs.Conditions.{and-left, and-right}
 use Rattle.numbers.specs.BigEndian.{word, bytes}
 use Rattle.numbers.specs.Since.{since}
@@ -40,14 +41,16 @@ use Rattle.table.specs.Decimal.{digitsOf, decimal, signed}
 use Rattle.table.specs.Field.{special, anySpecial, doubledByte, doubled, asField, line}
 use Rattle.table.specs.Lines.{rowFault, rowBytes}
 use Rattle.table.specs.Theorems.{plain, allPlain}
-use Rattle.breaker.specs.Calls.{startOf, reportOf, tickOf}
+use Rattle.breaker.specs.Calls.{startOf, reportOf, timed, tickOf, holding, heardOf}
 use Rattle.breaker.specs.Limits.{settingsOk, reportOk}
-use Rattle.breaker.specs.Rules.{runAfter, windowAfter, holds, ruled}
-use Rattle.breaker.specs.Runs.{tick, called, after}
+use Rattle.breaker.specs.Rules.{runAfter, windowAfter, holds, ruledBy, ruled}
+use Rattle.breaker.specs.Runs.{tick, called, answersOf, after}
+use Rattle.breaker.specs.WithoutHeard.{soundBefore}
+use Rattle.breaker.specs.HeardPackets.{untimed, Unheard}
 use Rattle.breaker.specs.Soundness as Breakers
 use Rattle.breaker.specs.Theorems.{Typed}
 use Rattle.breaker.specs.Windows.{emptyWindow}
-use Rattle.breaker.specs.declared.Answer.the-variants.{Stop, Refused}
+use Rattle.breaker.specs.declared.Answer.the-variants.{Go, Stop, Refused}
 use Rattle.breaker.specs.declared.Reason.the-variants.{Timeout}
 use Rattle.walk.specs.Blocks as Blocks
 use Rattle.walk.specs.Blocks.{blocksOf}
@@ -58,7 +61,7 @@ use Rattle.convert.specs.Theorems.{taken, ends, EnoughBy}
 use Rattle.demands.specs.Calls.{run}
 use Rattle.demands.specs.PrintedTable.{Holds}
 use Rattle.demands.specs.RoundTrip.{emptyRr}
-use Rattle.demands.specs.Witnesses.{Met, c1Packets, text, label, c1Block, whole, cut, begun, reported, notLater}
+use Rattle.demands.specs.Witnesses.{Met, c1Packets, text, label, c1Block, whole, cut, begun, reported, notLater, heardOn}
 use Rattle.demands.proofs.ReadBack.{nothing-made-up}
 
 below : (limit : ℕ) (s : List ℕ) → 0 < limit → every (λ c. ltb c limit) s ≡ true → Below limit s
@@ -113,10 +116,23 @@ record Breaking : Type 0 where
   typed : Typed reported
   refuses : called reported notLater .answer ≡ Refused Time
   stops : called reported (tick 20001) .answer ≡ Stop Timeout
+  hears : heardOf reported 6000 .answer ≡ Go
+  untimed-reported : all (map untimed (answersOf (holding reported 5001) heardOn)) ≡ true
+  untimed-heard : all (map untimed (answersOf (holding reported 6000) heardOn)) ≡ true
+  unheard : Unheard reported
 
 breaking : Breaking
-unfolding since settingsOk reportOk emptyWindow Breakers.sound runAfter windowAfter holds ruled startOf reportOf tickOf called after
-breaking = record { sound = refl; typed = record { number = omega arith; places = refl }; refuses = refl; stops = refl }
+unfolding since settingsOk reportOk emptyWindow Breakers.sound runAfter windowAfter holds ruledBy ruled startOf reportOf timed tickOf heardOf called answersOf after soundBefore
+breaking = record {
+  sound = refl;
+  typed = record { number = omega arith; places = refl };
+  refuses = refl;
+  stops = refl;
+  hears = refl;
+  untimed-reported = refl;
+  untimed-heard = refl;
+  unheard = record { isSound = refl; held = refl; places = refl };
+}
 
 -- ---- all
 
@@ -159,6 +175,11 @@ met = record {
   number-fits = refl;
   refuses = breaking .refuses;
   stops = breaking .stops;
+  hears = breaking .hears;
+  untimed-reported = breaking .untimed-reported;
+  untimed-heard = breaking .untimed-heard;
+  unheard = breaking .unheard;
+  none-heard = refl;
   ssrcs = (omega arith, omega arith);
   rr-read = nothing-made-up 5 1 Profile.Compound;
   rr-cut = rr-cut;

@@ -15,11 +15,11 @@ use Rattle.table.specs.Lines.{rowBytes}
 use Rattle.breaker.specs.Limits.{settingsOk, reportOk}
 use Rattle.breaker.specs.Windows.{emptyWindow}
 use Rattle.breaker.specs.Soundness as breaker
-use Rattle.breaker.specs.Rules.{runAfter, windowAfter, holds, ruled}
+use Rattle.breaker.specs.Rules.{runAfter, windowAfter, holds, ruledBy, ruled}
 use Rattle.breaker.specs.Calls.{startOf, reportOf}
 use Rattle.breaker.specs.Runs.{called, answersOf}
 use Rattle.demands.specs.Examples.{ExamplesHold}
 
 pub examples-hold : ExamplesHold
-unfolding ones onesIn bytes since pack place marks places moved added fresh hasCounted sound reachOf lost counted first ahead behind distance remembering jumped arrival countsOf countsBytes feedbackOf summaryOf digitsOf decimal signed special anySpecial doubledByte doubled asField line rowBytes settingsOk reportOk emptyWindow breaker.sound runAfter windowAfter holds ruled startOf reportOf called answersOf
+unfolding ones onesIn bytes since pack place marks places moved added fresh hasCounted sound reachOf lost counted first ahead behind distance remembering jumped arrival countsOf countsBytes feedbackOf summaryOf digitsOf decimal signed special anySpecial doubledByte doubled asField line rowBytes settingsOk reportOk emptyWindow breaker.sound runAfter windowAfter holds ruledBy ruled startOf reportOf called answersOf
 examples-hold = refl

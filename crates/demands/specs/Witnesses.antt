@@ -7,6 +7,7 @@ use Prim.Native.Nat.{ℕ, _^_, _≤_, _<_}
 use lib.IntN.{ℤ, pos, negℤ, _-ℤ_}
 use lib.ListN.{length, take, drop, replicate}
 use lib.Signed.{_≤ℤ_, _<ℤ_}
+use Rattle.answers.specs.Conditions.{all}
 use Rattle.answers.specs.Writers.{written}
 use Rattle.answers.specs.declared.Refusal.the-variants.{Incomplete, PacketSize, Time}
 use Rattle.answers.specs.declared.Written.the-variants.{Room}
@@ -34,8 +35,10 @@ use Rattle.table.specs.Theorems.{allPlain}
 use Rattle.breaker.specs.declared.Answer.the-variants.{Go, Stop, Refused}
 use Rattle.breaker.specs.declared.Breaker.{Breaker}
 use Rattle.breaker.specs.declared.Reason.the-variants.{Timeout}
-use Rattle.breaker.specs.Calls.{startOf, preset}
-use Rattle.breaker.specs.Runs.{Call, tick, called, after}
+use Rattle.breaker.specs.Calls.{startOf, preset, holding, heardOf}
+use Rattle.breaker.specs.Runs.{Call, tick, heard, called, answersOf, after}
+use Rattle.breaker.specs.WithoutHeard.{noHeard}
+use Rattle.breaker.specs.HeardPackets.{untimed, Unheard}
 use Rattle.breaker.specs.Soundness as Breakers
 use Rattle.breaker.specs.Theorems.{Typed, numberFits}
 use Rattle.walk.specs.Blocks.{blocksOf}
@@ -100,6 +103,10 @@ reported = after (startOf preset 0 .breaker) (reportNumber 0 20 100 1000 5000 �
 abbrev pub notLater : Call
 notLater = reportNumber 1 20 100 1000 5000
 
+-- a packet heard after it, and the next report
+abbrev pub heardOn : List Call
+heardOn = heard 7000 ∷ reportNumber 2 20 100 1000 5000 ∷ []
+
 -- ---- what they meet, by theorem
 
 pub record Met : Type 0 where
@@ -147,6 +154,12 @@ pub record Met : Type 0 where
   pub number-fits : numberFits notLater ≡ true
   pub refuses : called reported notLater .answer ≡ Refused Time
   pub stops : called reported (tick 20001) .answer ≡ Stop Timeout
+  -- HeardHolds; HeardUnseen, with the time held of the last report and a later one; CallAsBefore, RunAsBefore
+  pub hears : heardOf reported 6000 .answer ≡ Go
+  pub untimed-reported : all (map untimed (answersOf (holding reported 5001) heardOn)) ≡ true
+  pub untimed-heard : all (map untimed (answersOf (holding reported 6000) heardOn)) ≡ true
+  pub unheard : Unheard reported
+  pub none-heard : all (map noHeard (notLater ∷ [])) ≡ true
   -- FeedbackReadsBack, SummaryReadsBack: the sender's SSRC and the media SSRC
   pub ssrcs : (9 < 2 ^ 32) × (1 < 2 ^ 32)
   -- ProfilesAgree: an RR is read, and refused with 4 where its last bytes are cut off

@@ -70,6 +70,7 @@ breaker-restored b t =
             settings = record { k = b .settings .k; m = b .settings .m; timeout = b .settings .timeout; reduce = flag-back (b .settings .reduce) i };
             state = state-back (b .state) i;
             last = b .last;
+            heard = b .heard;
             reported = flag-back (b .reported) i;
             highest = highest i;
             run = b .run;
@@ -81,7 +82,7 @@ breaker-restored b t =
 
 pub read-typed : ReadTyped
 unfolding breakerOf windowOf
-read-typed ws = record { number = mod-lt (getD ws 7 0) (omega arith); places = length-intervals 32 (drop 11 ws) }
+read-typed ws = record { number = mod-lt (getD ws 8 0) (omega arith); places = length-intervals 32 (drop 12 ws) }
 
 -- the n words from `at` on, and a list by its first words
 unfoldable gets : ℕ → ℕ → List ℕ → List ℕ
@@ -100,13 +101,13 @@ gets-all (suc n) at ws h =
 pub words-restored : WordsRestored
 unfolding breakerWords breakerOf settingsOf windowOf wordsFit gets
 words-restored ws h fit =
-    let number : getD ws 7 0 < 2 ^ 32 = ltb-true (getD ws 7 0) (2 ^ 32) (all-true (wordsFit ws) 3 fit) in
-    let low : getD ws 7 0 % 2 ^ 32 ≡ getD ws 7 0 = omega arith in
+    let number : getD ws 8 0 < 2 ^ 32 = ltb-true (getD ws 8 0) (2 ^ 32) (all-true (wordsFit ws) 3 fit) in
+    let low : getD ws 8 0 % 2 ^ 32 ≡ getD ws 8 0 = omega arith in
     let reduce = flag-word (getD ws 3 0) (all-true (wordsFit ws) 0 fit) in
     let state = state-word (getD ws 4 0) (all-true (wordsFit ws) 1 fit) in
-    let reported = flag-word (getD ws 6 0) (all-true (wordsFit ws) 2 fit) in
-    let trial = flag-word (getD ws 9 0) (all-true (wordsFit ws) 4 fit) in
-    let places = words-back 32 (drop 11 ws) (omega (arith, length-drop 11 ws)) in
+    let reported = flag-word (getD ws 7 0) (all-true (wordsFit ws) 2 fit) in
+    let trial = flag-word (getD ws 10 0) (all-true (wordsFit ws) 4 fit) in
+    let places = words-back 32 (drop 12 ws) (omega (arith, length-drop 12 ws)) in
     (λ i.
     getD ws 0 0
     ∷ getD ws 1 0
@@ -114,10 +115,11 @@ words-restored ws h fit =
     ∷ reduce i
     ∷ state i
     ∷ getD ws 5 0
+    ∷ getD ws 6 0
     ∷ reported i
     ∷ low i
-    ∷ getD ws 8 0
+    ∷ getD ws 9 0
     ∷ trial i
-    ∷ getD ws 10 0
+    ∷ getD ws 11 0
     ∷ places i)
-    ∙ sym (gets-all 11 0 ws (omega arith))
+    ∙ sym (gets-all 12 0 ws (omega arith))

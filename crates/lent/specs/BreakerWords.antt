@@ -1,4 +1,4 @@
--- The breaker's record (document 01, "The breaker") as 75 words, in the order of include/flasknib.h.
+-- The breaker's record (document 01, "The breaker", and 02, request L4) as 76 words, in the order of include/flasknib.h.
 use mathlib.Core.Path.{_≡_}
 use mathlib.Core.Bool.{Bool, true, cond}
 use mathlib.Core.List.{List, [], _∷_}
@@ -41,6 +41,7 @@ breakerWords b =
     ∷ flag (b .settings .reduce)
     ∷ stateNumber (b .state)
     ∷ b .last
+    ∷ b .heard
     ∷ flag (b .reported)
     ∷ b .highest
     ∷ b .run
@@ -62,7 +63,7 @@ unfoldable pub settingsOf : List ℕ → Settings
 settingsOf ws = record { k = getD ws 0 0; m = getD ws 1 0; timeout = getD ws 2 0; reduce = eqb (getD ws 3 0) 1 }
 
 unfoldable pub windowOf : List ℕ → Window
-windowOf ws = record { used = getD ws 10 0; intervals = intervalsOf 32 (drop 11 ws) }
+windowOf ws = record { used = getD ws 11 0; intervals = intervalsOf 32 (drop 12 ws) }
 
 unfoldable pub breakerOf : List ℕ → Breaker
 breakerOf ws =
@@ -70,10 +71,11 @@ breakerOf ws =
       settings = settingsOf ws;
       state = stateOf (getD ws 4 0);
       last = getD ws 5 0;
-      reported = eqb (getD ws 6 0) 1;
-      highest = getD ws 7 0 % 2 ^ 32;
-      run = getD ws 8 0;
-      trial = eqb (getD ws 9 0) 1;
+      heard = getD ws 6 0;
+      reported = eqb (getD ws 7 0) 1;
+      highest = getD ws 8 0 % 2 ^ 32;
+      run = getD ws 9 0;
+      trial = eqb (getD ws 10 0) 1;
       window = windowOf ws;
     }
 
@@ -84,9 +86,9 @@ unfoldable pub wordsFit : List ℕ → List Bool
 wordsFit ws =
     leb (getD ws 3 0) 1
     ∷ leb (getD ws 4 0) 3
-    ∷ leb (getD ws 6 0) 1
-    ∷ ltb (getD ws 7 0) (2 ^ 32)
-    ∷ leb (getD ws 9 0) 1
+    ∷ leb (getD ws 7 0) 1
+    ∷ ltb (getD ws 8 0) (2 ^ 32)
+    ∷ leb (getD ws 10 0) 1
     ∷ []
 
 abbrev pub loaded : List ℕ → Loaded
@@ -98,7 +100,7 @@ abbrev pub BreakerRestored : Type 0
 BreakerRestored = (b : Breaker) → Typed b → (breakerOf (breakerWords b) ≡ b) × (all (wordsFit (breakerWords b)) ≡ true)
 
 abbrev pub WordsRestored : Type 0
-WordsRestored = (ws : List ℕ) → length ws ≡ 75 → all (wordsFit ws) ≡ true → breakerWords (breakerOf ws) ≡ ws
+WordsRestored = (ws : List ℕ) → length ws ≡ 76 → all (wordsFit ws) ≡ true → breakerWords (breakerOf ws) ≡ ws
 
 -- whatever the words, what they are read as fits its types
 abbrev pub ReadTyped : Type 0

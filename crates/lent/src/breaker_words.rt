@@ -1,4 +1,4 @@
-// The breaker's record as 75 words.
+// The breaker's record as 76 words.
 ghost use mathlib.Core.Path.{_≡_};
 ghost use lib.ListN.{drop};
 ghost use lib.Seq.{sets};
@@ -15,9 +15,9 @@ use breaker::State;
 use breaker::Window;
 
 // The words of a record, and the places before those of its intervals.
-pub const WORDS: usize = 75;
+pub const WORDS: usize = 76;
 
-const HEAD: usize = 11;
+const HEAD: usize = 12;
 
 const NUMBERS: u64 = 0x1_0000_0000;
 
@@ -39,7 +39,7 @@ fn state_number(state: State) -> u64
 
 // Stores two words for each interval, behind the others.
 fn store_intervals(xs: [Interval; 32], words: &mut [u64])
-    ensures { λ _. ⌜ now (words .exit) ≡ sets (now (words .entry)) 11 (intervalWords xs) ⌝ }
+    ensures { λ _. ⌜ now (words .exit) ≡ sets (now (words .entry)) 12 (intervalWords xs) ⌝ }
 {
     let mut i: usize = 0;
     while i < 32 {
@@ -67,6 +67,7 @@ pub fn store(b: Breaker, words: &mut [u64])
         settings.reduce as u64,
         stopped,
         b.last,
+        b.heard,
         b.reported as u64,
         b.highest as u64,
         b.run,
@@ -106,7 +107,7 @@ fn settings_in(words: &[u64]) -> Settings
 
 // The 32 intervals behind the other words.
 fn intervals_in(words: &[u64]) -> [Interval; 32]
-    ensures { λ r. ⌜ r ≡ intervalsOf 32 (drop 11 (now (words .entry))) ⌝ }
+    ensures { λ r. ⌜ r ≡ intervalsOf 32 (drop 12 (now (words .entry))) ⌝ }
 {
     let zero = Interval {
         length: 0,
@@ -129,7 +130,7 @@ fn intervals_in(words: &[u64]) -> [Interval; 32]
 fn window_in(words: &[u64]) -> Window
     ensures { λ r. ⌜ r ≡ windowOf (now (words .entry)) ⌝ }
 {
-    let used = word_at(words, 10);
+    let used = word_at(words, 11);
     let intervals = intervals_in(words);
     Window {
         used: used as usize,
@@ -144,15 +145,17 @@ fn breaker_in(words: &[u64]) -> Breaker
     let settings = settings_in(words);
     let state = state_of(word_at(words, 4));
     let last = word_at(words, 5);
-    let reported = word_at(words, 6);
-    let highest = word_at(words, 7);
-    let run = word_at(words, 8);
-    let trial = word_at(words, 9);
+    let heard = word_at(words, 6);
+    let reported = word_at(words, 7);
+    let highest = word_at(words, 8);
+    let run = word_at(words, 9);
+    let trial = word_at(words, 10);
     let window = window_in(words);
     Breaker {
         settings,
         state,
         last,
+        heard,
         reported: reported == 1,
         highest: (highest % NUMBERS) as u32,
         run,
@@ -171,13 +174,13 @@ fn do_fit(words: &[u64]) -> bool
     if 3 < word_at(words, 4) {
         return false;
     }
-    if 1 < word_at(words, 6) {
+    if 1 < word_at(words, 7) {
         return false;
     }
-    if NUMBERS <= word_at(words, 7) {
+    if NUMBERS <= word_at(words, 8) {
         return false;
     }
-    word_at(words, 9) <= 1
+    word_at(words, 10) <= 1
 }
 
 // The record that the words are read as, and whether they are its words.

@@ -119,39 +119,39 @@ rightC10 =
       words = record { high = 0x00000000_00000014; low = 0xD1120D7B_16000000 };
     }
 
--- at the limits: k = 32, each length 599,999 ms, each fraction lost 255
+-- at the limits: k = 32, each length 10,000,000 ms, each fraction lost 255
 abbrev pub leftLimits : Product
 leftLimits =
     record {
       a = 0x063EB89D_A4ED0000;
-      b = 0x087E41D4_6DCD2800;
+      b = 0x8D8DADF5_44FC0000;
       ah = 0x063EB89D;
       al = 0xA4ED0000;
-      bh = 0x087E41D4;
-      bl = 0x6DCD2800;
-      halfProducts = record { ll = 0x46BD148E_08000000; hl = 0x02ADB5CE_7B918800; lh = 0x0578BF0E_C1440000; hh = 0x00350A3E_DE16BF04 };
-      column0 = 0x08000000;
-      column1 = 0x00000001_83929C8E;
+      bh = 0x8D8DADF5;
+      bl = 0x44FC0000;
+      halfProducts = record { ll = 0x2C714D4C_00000000; hl = 0x01AECEC7_6E8C0000; lh = 0x5B31CF9A_FFD10000; hh = 0x03740078_8441C741 };
+      column0 = 0x00000000;
+      column1 = 0x00000001_9ACE4D4C;
       carry = 0x00000001;
-      column2 = 0x00350A3E_E63D33E1;
-      words = record { high = 0x00350A3E_E63D33E1; low = 0x83929C8E_08000000 };
+      column2 = 0x03740078_E12265A3;
+      words = record { high = 0x03740078_E12265A3; low = 0x9ACE4D4C_00000000 };
     }
 
 abbrev pub rightLimits : Product
 rightLimits =
     record {
-      a = 0x0A3B5722_D9D00000;
+      a = 0xAA87BEE5_38000000;
       b = 0x00000000_FFFE0001;
-      ah = 0x0A3B5722;
-      al = 0xD9D00000;
+      ah = 0xAA87BEE5;
+      al = 0x38000000;
       bh = 0x00000000;
       bl = 0xFFFE0001;
-      halfProducts = record { ll = 0xD9CE4C60_D9D00000; hl = 0x0A3B42AB_5BF75722; lh = 0x00000000_00000000; hh = 0x00000000_00000000 };
-      column0 = 0xD9D00000;
-      column1 = 0x00000001_35C5A382;
-      carry = 0x00000001;
-      column2 = 0x00000000_0A3B42AC;
-      words = record { high = 0x00000000_0A3B42AC; low = 0x35C5A382_D9D00000 };
+      halfProducts = record { ll = 0x37FF9000_38000000; hl = 0xAA8669D6_2CBDBEE5; lh = 0x00000000_00000000; hh = 0x00000000_00000000 };
+      column0 = 0x38000000;
+      column1 = 0x00000000_64BD4EE5;
+      carry = 0x00000000;
+      column2 = 0x00000000_AA8669D6;
+      words = record { high = 0x00000000_AA8669D6; low = 0x64BD4EE5_38000000 };
     }
 
 abbrev pub examples : List Example
@@ -165,7 +165,7 @@ examples =
       outcome = record { left = leftC10; right = rightC10; above = true };
     }
     ∷ record {
-      given = record { rate = 125_000_000; rtt = 60_000; p = 4_895_991_840; size = 65_535; w = 19_199_968 };
+      given = record { rate = 125_000_000; rtt = 60_000; p = 81_600_000_000; size = 65_535; w = 320_000_000 };
       outcome = record { left = leftLimits; right = rightLimits; above = true };
     }
     ∷ []

@@ -11,7 +11,7 @@ empty-requires c κs = search needs
 returns : tie.Need-returns
 returns c =
     let s = c .before .args in
-    λ i. record { settings = s .settings; state = Running; last = s .time; reported = false; highest = 0; run = 0; trial = false; window = c .empty .ensures i }
+    λ i. record { settings = s .settings; state = Running; last = s .time; heard = s .time; reported = false; highest = 0; run = 0; trial = false; window = c .empty .ensures i }
 
 pub fresh-spec : {M : Type 1} → statement M
 fresh-spec = tie.close (tie.spec empty-requires returns)

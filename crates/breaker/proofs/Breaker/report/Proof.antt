@@ -2,7 +2,7 @@
 use borrow.Author.Needs.{needs}
 use mathlib.Core.Path.{ap, _∙_, subst}
 use mathlib.Core.Bool.{not}
-use borrow.Author.Tests.{le-leb, lt-leb}
+use borrow.Author.Tests.{lt-ltb, le-ltb, le-leb, lt-leb}
 use Rattle.answers.proofs.Conditions.{cond-ends, cond-goes, was-false, was-true}
 use Rattle.breaker.specs.declared.Opening.the-variants.{Open}
 use Rattle.breaker.specs.Calls.{reportOf}
@@ -53,22 +53,35 @@ returns-3 c =
     (cond-goes _ _ _ _ (ap not (was-true (c .before .before .before .before .before .report-ok .ensures) (c .before .before .before .before .if1 .left)))
     (cond-ends _ _ _ _ (le-leb _ _ (c .before .if2 .taken)) (c .answered3 .ensures)))
 
-ruled-requires : tie.Need-ruled-requires
-ruled-requires c κs =
-    record {
-      isSound = opens (c .before .before .before .before .before) .0;
-      running = opens (c .before .before .before .before .before) .1;
-      inLimits = was-true (c .before .before .before .before .report-ok .ensures) (c .before .before .before .if1 .left);
-      later = c .if2 .left;
-    }
+answered-requires-4 : tie.Need-answered-requires-4
+answered-requires-4 c κs = search needs
 
 returns-4 : tie.Need-returns-4
 unfolding reportOf
 returns-4 c =
-    open-goes _ _ (opens (c .before .before .before .before .before .before))
-    (cond-goes _ _ _ _ (ap not (was-true (c .before .before .before .before .before .report-ok .ensures) (c .before .before .before .before .if1 .left)))
-    (cond-goes _ _ _ _ (lt-leb _ _ (c .before .if2 .left))
-    (c .ruled .ensures)))
+    open-goes _ _ (opens (c .before .before .before .before .before .before .before .before .before))
+    (cond-goes _ _ _ _ (ap not (was-true (c .before .before .before .before .before .before .before .before .report-ok .ensures) (c .before .before .before .before .before .before .before .if1 .left)))
+    (cond-goes _ _ _ _ (lt-leb _ _ (c .before .before .before .before .if2 .left))
+    (cond-ends _ _ _ _ (lt-ltb _ _ (c .before .if3 .taken)) (c .answered4 .ensures))))
+
+ruled-requires : tie.Need-ruled-requires
+ruled-requires c κs =
+    record {
+      isSound = opens (c .before .before .before .before .before .before .before .before) .0;
+      running = opens (c .before .before .before .before .before .before .before .before) .1;
+      inLimits = was-true (c .before .before .before .before .before .before .before .report-ok .ensures) (c .before .before .before .before .before .before .if1 .left);
+      later = c .before .before .before .if2 .left;
+      notBefore = c .if3 .left;
+    }
+
+returns-5 : tie.Need-returns-5
+unfolding reportOf
+returns-5 c =
+    open-goes _ _ (opens (c .before .before .before .before .before .before .before .before .before))
+    (cond-goes _ _ _ _ (ap not (was-true (c .before .before .before .before .before .before .before .before .report-ok .ensures) (c .before .before .before .before .before .before .before .if1 .left)))
+    (cond-goes _ _ _ _ (lt-leb _ _ (c .before .before .before .before .if2 .left))
+    (cond-goes _ _ _ _ (le-ltb _ _ (c .before .if3 .left))
+    (c .ruled .ensures))))
 
 pub report-spec : {M : Type 1} → statement M
 report-spec =
@@ -84,5 +97,7 @@ report-spec =
     returns-2
     answered-requires-3
     returns-3
+    answered-requires-4
+    returns-4
     ruled-requires
-    returns-4)
+    returns-5)

@@ -1,92 +1,15 @@
 -- `breaker::Breaker::tick` meets its contract. Assumes nothing.
 use borrow.Author.Needs.{needs}
-use mathlib.Core.Path.{ap, _∙_, subst}
-use mathlib.Core.Bool.{not}
-use borrow.Author.Tests.{lt-ltb, le-ltb, le-leb, lt-leb}
-use Rattle.answers.proofs.Conditions.{cond-ends, cond-goes}
-use Rattle.breaker.specs.declared.Opening.the-variants.{Open}
 use Rattle.breaker.specs.Calls.{tickOf}
-use Rattle.breaker.specs.Private.{Opens}
-use Rattle.breaker.proofs.Chains.{open-goes}
 use Rattle.breaker.proofs.Breaker.tick.Statement.{statement}
 use Rattle.breaker.proofs.Breaker.tick.Tie as tie
 
--- the record is sound and runs
-opens : (c : tie.After-enum-told) → Opens (c .before .before .before .args .self) Open
-opens c = subst (Opens _) (c .enum-told .given .1) (c .before .before .opening .ensures)
-
-opening-requires : tie.Need-opening-requires
-opening-requires c κs = search needs
-
-enum-known-answer : tie.Need-enum-known-answer
-enum-known-answer c = search needs
-
-answered-requires : tie.Need-answered-requires
-answered-requires c κs = search needs
+timed-requires : tie.Need-timed-requires
+timed-requires c κs = search needs
 
 returns : tie.Need-returns
 unfolding tickOf
-returns c = c .answered .ensures ∙ subst (Opens _) (c .before .before .answer .given .1) (c .before .before .before .before .opening .ensures) _
-
-enum-told : tie.Need-enum-told
-enum-told c = search needs
-
-answered-requires-2 : tie.Need-answered-requires-2
-answered-requires-2 c κs = search needs
-
-returns-2 : tie.Need-returns-2
-unfolding tickOf
-returns-2 c =
-    open-goes _ _ (opens (c .before .before))
-    (cond-ends _ _ _ _ (ap not (le-ltb _ _ (c .before .if1 .taken))) (c .answered2 .ensures))
-
-answered-requires-3 : tie.Need-answered-requires-3
-answered-requires-3 c κs = search needs
-
-returns-3 : tie.Need-returns-3
-unfolding tickOf
-returns-3 c =
-    open-goes _ _ (opens (c .before .before .before .before))
-    (cond-goes _ _ _ _ (ap not (lt-ltb _ _ (c .before .before .before .if1 .left)))
-    (cond-ends _ _ _ _ (lt-ltb _ _ (c .before .if2 .taken)) (c .answered3 .ensures)))
-
-stopped-requires : tie.Need-stopped-requires
-stopped-requires c κs = search needs
-
-returns-4 : tie.Need-returns-4
-unfolding tickOf
-returns-4 c =
-    open-goes _ _ (opens (c .before .before .before .before .before .before .before))
-    (cond-goes _ _ _ _ (ap not (lt-ltb _ _ (c .before .before .before .before .before .before .if1 .left)))
-    (cond-goes _ _ _ _ (le-ltb _ _ (c .before .before .before .before .if2 .left))
-    (cond-ends _ _ _ _ (le-leb _ _ (c .before .if3 .taken)) (c .stopped .ensures))))
-
-answered-requires-4 : tie.Need-answered-requires-4
-answered-requires-4 c κs = search needs
-
-returns-5 : tie.Need-returns-5
-unfolding tickOf
-returns-5 c =
-    open-goes _ _ (opens (c .before .before .before .before .before .before .before))
-    (cond-goes _ _ _ _ (ap not (lt-ltb _ _ (c .before .before .before .before .before .before .if1 .left)))
-    (cond-goes _ _ _ _ (le-ltb _ _ (c .before .before .before .before .if2 .left))
-    (cond-goes _ _ _ _ (lt-leb _ _ (c .before .if3 .left))
-    (c .answered4 .ensures))))
+returns c = c .timed .ensures
 
 pub tick-spec : {M : Type 1} → statement M
-tick-spec =
-    tie.close
-    (tie.spec
-    opening-requires
-    enum-known-answer
-    answered-requires
-    returns
-    enum-told
-    answered-requires-2
-    returns-2
-    answered-requires-3
-    returns-3
-    stopped-requires
-    returns-4
-    answered-requires-4
-    returns-5)
+tick-spec = tie.close (tie.spec timed-requires returns)

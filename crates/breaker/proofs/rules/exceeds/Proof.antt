@@ -13,7 +13,8 @@ use Rattle.wide.proofs.Order.{value-of}
 use Rattle.breaker.specs.declared.Interval.{Interval}
 use Rattle.breaker.specs.declared.intervals.Sums.{Sums}
 use Rattle.breaker.specs.Windows.{W, P, sumOf}
-use Rattle.breaker.specs.Private.{roomy, exceeds}
+use Rattle.breaker.specs.Private.{roomy}
+use Rattle.breaker.specs.Rules.{holds}
 use Rattle.breaker.proofs.Places.{room-length, room-product, sum-bound}
 use Rattle.breaker.proofs.Facts.{rtt-high, size-high, rate-high}
 use Rattle.breaker.proofs.Products.{fits-product, left-side, right-side}
@@ -73,7 +74,7 @@ above-requires : tie.Need-above-requires
 above-requires c κs = search needs
 
 returns : tie.Need-returns
-unfolding exceeds
+unfolding holds
 returns c =
     let s = c .before .before .before .before .before .before .before .before .before .before .before .args in
     let r = s .r in

@@ -13,8 +13,8 @@ use Rattle.breaker.specs.declared.Breaker.{Breaker}
 use Rattle.breaker.specs.declared.Report.{Report}
 use Rattle.breaker.specs.Answers.{answers, goes, stops}
 use Rattle.breaker.specs.Windows.{emptyWindow}
-use Rattle.breaker.specs.Rules.{stored, late, windowAfter, holds, ruled}
-use Rattle.breaker.specs.Private.{exceeds, tested}
+use Rattle.breaker.specs.Rules.{stored, late, windowAfter, ruledBy, ruled}
+use Rattle.breaker.specs.Private.{tested}
 use Rattle.breaker.specs.declared.Step.{Step}
 use Rattle.breaker.proofs.rules.ruled.Statement.{statement}
 use Rattle.breaker.proofs.rules.ruled.Tie as tie
@@ -32,7 +32,7 @@ rules b r run w =
 shown : (c : tie.After-run-after) {z : Step}
     → z ≡ rules (c .before .before .before .before .args .b) (c .before .before .before .before .args .r) (c .run-after .result) (windowAfter (c .before .before .before .before .args .b) (c .before .before .before .before .args .r))
     → z ≡ ruled (c .before .before .before .before .args .b) (c .before .before .before .before .args .r)
-unfolding holds ruled exceeds tested rules
+unfolding ruledBy ruled tested rules
 shown c e =
     let b = c .before .before .before .before .args .b in
     let r = c .before .before .before .before .args .r in
@@ -48,7 +48,7 @@ answered-requires : tie.Need-answered-requires
 answered-requires c κs = search needs
 
 returns : tie.Need-returns
-unfolding ruled
+unfolding ruledBy ruled
 returns c =
     let b = c .before .before .before .before .before .before .args .b in
     let r = c .before .before .before .before .before .before .args .r in
@@ -64,7 +64,7 @@ stopped-requires : tie.Need-stopped-requires
 stopped-requires c κs = search needs
 
 returns-2 : tie.Need-returns-2
-unfolding ruled
+unfolding ruledBy ruled
 returns-2 c =
     cond-goes _ _ _ _ (ne-eqb _ _ (c .before .before .before .before .before .before .if1 .left))
     (cond-ends _ _ _ _ (le-leb _ _ (c .before .if2 .taken)) (c .stopped .ensures))
@@ -96,8 +96,7 @@ returns-4 c =
     (cond-ends _ _ _ _ (c .before .before .if4 .taken) (c .answered2 .ensures ∙ ap (answers Go) (c .before .stored2 .ensures))))))
 
 tested-requires : tie.Need-tested-requires
-tested-requires c κs =
-    record { accepted = c .before .before .before .before .before .before .before .before .before .before .before .before .pre; inTime = c .before .before .before .before .if2 .left }
+tested-requires c κs = c .before .before .before .before .before .before .before .before .before .before .before .before .pre
 
 returns-5 : tie.Need-returns-5
 unfolding rules

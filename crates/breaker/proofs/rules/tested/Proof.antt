@@ -29,7 +29,7 @@ shown : (c : tie.After-window-after) {z : Step} → z ≡ tested (c .before .arg
 shown c e = e ∙ ap (tested (c .before .args .b) (c .before .args .r) (c .before .args .run)) (c .window-after .ensures)
 
 window-after-requires : tie.Need-window-after-requires
-window-after-requires c κs = c .pre .accepted
+window-after-requires c κs = c .pre
 
 stored-requires : tie.Need-stored-requires
 stored-requires c κs = search needs
@@ -49,10 +49,10 @@ exceeds-requires c κs =
     let b = c .before .before .args .b in
     let h = c .before .before .pre in
     let e = c .before .window-after .ensures in (
-      k-high (b .settings) (settings-of b (h .accepted .isSound)),
+      k-high (b .settings) (settings-of b (h .isSound)),
       ap (λ (w : Window). all (map roomy (take (b .settings .k) (w .intervals)))) e
           ∙ after-roomy b (c .before .before .args .r) h (long (c .before .before)) (omega (arith, c .if1 .left, ap (λ (w : Window). w .used) e)),
-      h .accepted .inLimits,
+      h .inLimits,
     )
 
 stored-requires-2 : tie.Need-stored-requires-2

@@ -43,38 +43,40 @@ used-ok-requires c κs = small c
 
 returns-4 : tie.Need-returns-4
 unfolding sound
-returns-4 c =
-    either-false (conditions (c .before .before .before .before .before .before .before .before .before .before .before .args .b)) 3 5 (was-false (c .before .used-ok .ensures) (c .if4 .taken))
+returns-4 c = either-false (conditions (c .before .before .before .before .before .before .before .before .before .before .before .args .b)) 3 6 (was-false (c .before .used-ok .ensures) (c .if4 .taken))
 
 returns-5 : tie.Need-returns-5
 unfolding sound
-returns-5 c =
-    all-false (conditions (c .before .before .before .before .before .before .before .before .before .before .before .before .before .args .b)) 4 (le-ltb _ _ (c .if5 .taken))
-
-rest-ok-requires : tie.Need-rest-ok-requires
-rest-ok-requires c κs = small (c .before .before .before .before)
+returns-5 c = all-false (conditions (c .before .before .before .before .before .before .before .before .before .before .before .before .before .args .b)) 4 (le-ltb _ _ (c .if5 .taken))
 
 returns-6 : tie.Need-returns-6
 unfolding sound
-returns-6 c =
-    all-false (conditions (c .before .before .before .before .before .before .before .before .before .before .before .before .before .before .before .args .b)) 6 (was-false (c .before .rest-ok .ensures) (c .if6 .taken))
+returns-6 c = all-false (conditions (c .before .before .before .before .before .before .before .before .before .before .before .before .before .before .before .args .b)) 5 (le-ltb _ _ (c .if6 .taken))
+
+rest-ok-requires : tie.Need-rest-ok-requires
+rest-ok-requires c κs = small (c .before .before .before .before .before .before)
+
+returns-7 : tie.Need-returns-7
+unfolding sound
+returns-7 c = all-false (conditions (c .before .before .before .before .before .before .before .before .before .before .before .before .before .before .before .before .before .args .b)) 7 (was-false (c .before .rest-ok .ensures) (c .if7 .taken))
 
 number-ok-requires : tie.Need-number-ok-requires
 number-ok-requires c κs = search needs
 
-returns-7 : tie.Need-returns-7
+returns-8 : tie.Need-returns-8
 unfolding sound
-returns-7 c =
-    let w = c .before .before .before .before .before .before .before .before .before .before .before .before .before .before .before .before .args .b .window in
-    let u = was-true (c .before .before .before .before .before .before .used-ok .ensures) (c .before .before .before .before .before .if4 .left) in
-    and-goes _ _ _ (was-true (c .before .before .before .before .before .before .before .before .before .before .before .before .before .before .settings-ok .ensures) (c .before .before .before .before .before .before .before .before .before .before .before .before .before .if1 .left))
-    (and-goes _ _ _ (was-true (c .before .before .before .before .before .before .before .before .before .before .before .before .run-ok .ensures) (c .before .before .before .before .before .before .before .before .before .before .before .if2 .left))
-    (and-goes _ _ _ (le-leb _ _ (c .before .before .before .before .before .before .before .if3 .left))
+returns-8 c =
+    let w = c .before .before .before .before .before .before .before .before .before .before .before .before .before .before .before .before .before .before .args .b .window in
+    let u = was-true (c .before .before .before .before .before .before .before .before .used-ok .ensures) (c .before .before .before .before .before .before .before .if4 .left) in
+    and-goes _ _ _ (was-true (c .before .before .before .before .before .before .before .before .before .before .before .before .before .before .before .before .settings-ok .ensures) (c .before .before .before .before .before .before .before .before .before .before .before .before .before .before .before .if1 .left))
+    (and-goes _ _ _ (was-true (c .before .before .before .before .before .before .before .before .before .before .before .before .before .before .run-ok .ensures) (c .before .before .before .before .before .before .before .before .before .before .before .before .before .if2 .left))
+    (and-goes _ _ _ (le-leb _ _ (c .before .before .before .before .before .before .before .before .before .if3 .left))
     (and-goes _ _ _ (and-left (all (map fractionOk (inUse w))) _ u)
-    (and-goes _ _ _ (lt-ltb _ _ (c .before .before .before .if5 .left))
+    (and-goes _ _ _ (lt-ltb _ _ (c .before .before .before .before .before .if5 .left))
+    (and-goes _ _ _ (lt-ltb _ _ (c .before .before .before .if6 .left))
     (and-goes _ _ _ (and-right (all (map fractionOk (inUse w))) _ u)
-    (and-goes _ _ _ (was-true (c .before .before .rest-ok .ensures) (c .before .if6 .left))
-    (c .number-ok .ensures ∙ sym (and-true _))))))))
+    (and-goes _ _ _ (was-true (c .before .before .rest-ok .ensures) (c .before .if7 .left))
+    (c .number-ok .ensures ∙ sym (and-true _)))))))))
 
 pub is-sound-spec : {M : Type 1} → statement M
 is-sound-spec =
@@ -88,7 +90,8 @@ is-sound-spec =
     used-ok-requires
     returns-4
     returns-5
-    rest-ok-requires
     returns-6
+    rest-ok-requires
+    returns-7
     number-ok-requires
-    returns-7)
+    returns-8)

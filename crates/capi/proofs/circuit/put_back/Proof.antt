@@ -1,8 +1,9 @@
 -- `capi::circuit::put_back` meets its contract. Assumes nothing.
 use borrow.Author.Needs.{needs}
-use mathlib.Core.Path.{_≡_, sym, _∙_}
+use mathlib.Core.Path.{_≡_, refl, sym, _∙_}
 use denote.Ref.{now}
 use lib.ListN.{length}
+use Rattle.answers.proofs.Conditions.{cond-ends}
 use Rattle.breaker.proofs.Places.{length-mapped}
 use Rattle.capi.proofs.Steps.{back-stored}
 use Rattle.capi.proofs.circuit.put_back.Statement.{statement}
@@ -18,7 +19,9 @@ code-requires : tie.Need-code-requires
 code-requires c κs = search needs
 
 returns : tie.Need-returns
-returns c = search needs
+returns c =
+    let refused = sym (c .before .before .is-refused .ensures) ∙ c .before .if1 .taken in
+    record { answers = c .code .ensures; stores = cond-ends _ _ _ _ refused refl }
 
 store-requires : tie.Need-store-requires
 store-requires c κs = search needs

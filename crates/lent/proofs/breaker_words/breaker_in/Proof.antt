@@ -31,25 +31,29 @@ word-at-requires-5 c κs = search needs
 word-at-requires-6 : tie.Need-word-at-requires-6
 word-at-requires-6 c κs = search needs
 
+word-at-requires-7 : tie.Need-word-at-requires-7
+word-at-requires-7 c κs = search needs
+
 window-in-requires : tie.Need-window-in-requires
 window-in-requires c κs = search needs
 
-cast-t12 : tie.Need-cast-t12
-cast-t12 c = search needs
+cast-t13 : tie.Need-cast-t13
+cast-t13 c = search needs
 
 returns : tie.Need-returns
 unfolding breakerOf
 returns c =
-    let state = c .before .before .before .before .before .before .state-of .ensures ∙ ap stateOf (c .before .before .before .before .before .before .before .word-at .ensures) in
+    let state = c .before .before .before .before .before .before .before .state-of .ensures ∙ ap stateOf (c .before .before .before .before .before .before .before .before .word-at .ensures) in
     λ i.
     record {
-      settings = c .before .before .before .before .before .before .before .before .settings-in .ensures i;
+      settings = c .before .before .before .before .before .before .before .before .before .settings-in .ensures i;
       state = state i;
-      last = c .before .before .before .before .before .word-at2 .ensures i;
-      reported = eqb (c .before .before .before .before .word-at3 .ensures i) 1;
-      highest = c .before .before .before .word-at4 .ensures i % 2 ^ 32;
-      run = c .before .before .word-at5 .ensures i;
-      trial = eqb (c .before .word-at6 .ensures i) 1;
+      last = c .before .before .before .before .before .before .word-at2 .ensures i;
+      heard = c .before .before .before .before .before .word-at3 .ensures i;
+      reported = eqb (c .before .before .before .before .word-at4 .ensures i) 1;
+      highest = c .before .before .before .word-at5 .ensures i % 2 ^ 32;
+      run = c .before .before .word-at6 .ensures i;
+      trial = eqb (c .before .word-at7 .ensures i) 1;
       window = c .window-in .ensures i;
     }
 
@@ -65,6 +69,7 @@ breaker-in-spec =
     word-at-requires-4
     word-at-requires-5
     word-at-requires-6
+    word-at-requires-7
     window-in-requires
-    cast-t12
+    cast-t13
     returns)

@@ -45,9 +45,9 @@ returns c =
     let old = now (a .words) in
     let state = c .before .before .before .before .before .before .before .before .before .before .before .before .before .state-number .ensures in
     let head : _ ≡ _ =
-    λ i. b .settings .k ∷ b .settings .m ∷ b .settings .timeout ∷ as-flag (b .settings .reduce) i ∷ state i ∷ b .last ∷ as-flag (b .reported) i ∷ b .highest ∷ b .run ∷ as-flag (b .trial) i ∷ b .window .used ∷ [] in
+    λ i. b .settings .k ∷ b .settings .m ∷ b .settings .timeout ∷ as-flag (b .settings .reduce) i ∷ state i ∷ b .last ∷ b .heard ∷ as-flag (b .reported) i ∷ b .highest ∷ b .run ∷ as-flag (b .trial) i ∷ b .window .used ∷ [] in
     c .before .before .store-intervals .ensures
-    ∙ ap (λ (o : List ℕ). sets o 11 (intervalWords (b .window .intervals))) (c .before .before .before .before .before .before .put-all .ensures ∙ ap (sets old 0) head)
+    ∙ ap (λ (o : List ℕ). sets o 12 (intervalWords (b .window .intervals))) (c .before .before .before .before .before .before .put-all .ensures ∙ ap (sets old 0) head)
 
 pub store-spec : {M : Type 1} → statement M
 store-spec =
