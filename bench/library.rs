@@ -9,6 +9,7 @@ extern "C" {
         m: u64,
         timeout: u64,
         reduce: u8,
+        full: u8,
         time: u64,
         breaker: *mut u64,
         words: usize,
@@ -50,14 +51,14 @@ pub fn read_compound(bytes: &[u8], media: u32, profile: u8, found: &mut [u64; 24
     unsafe { flasknib_read_compound(bytes.as_ptr(), bytes.len(), media, profile, found.as_mut_ptr(), found.len()) }
 }
 
-pub fn breaker_start(k: u64, m: u64, timeout: u64, time: u64) -> [u64; 76] {
-    let mut breaker = [0; 76];
-    let answer = unsafe { flasknib_breaker_start(k, m, timeout, 0, time, breaker.as_mut_ptr(), breaker.len()) };
+pub fn breaker_start(k: u64, m: u64, timeout: u64, time: u64) -> [u64; 77] {
+    let mut breaker = [0; 77];
+    let answer = unsafe { flasknib_breaker_start(k, m, timeout, 0, 0, time, breaker.as_mut_ptr(), breaker.len()) };
     assert_eq!(answer, 0, "a breaker starts");
     breaker
 }
 
-pub fn breaker_report(breaker: &mut [u64; 76], r: &crate::breaker::Report) -> u16 {
+pub fn breaker_report(breaker: &mut [u64; 77], r: &crate::breaker::Report) -> u16 {
     let (words, at) = (breaker.len(), breaker.as_mut_ptr());
     unsafe { flasknib_breaker_report(at, words, r.time, r.highest, r.fraction, r.rtt, r.size, r.rate) }
 }

@@ -1,7 +1,7 @@
 /* Two intervals of 5,000 ms with a quarter of the packets lost, packets of 1,000 bytes and a round trip of 100 ms: at 244,948 bytes per
  * second the sender goes on, at 244,949 it stops for congestion (document 01, C9 and C10). The same where no packet is lost and a quarter of
  * them is marked with CE (document 02, L2). A packet that is no report moves the time from which the timeout is measured, and a report earlier
- * than it is refused (L4).
+ * than it is refused (L4). With the full throughput equation the sender goes on at 31,606 bytes per second and stops at 31,607 (L9).
  *
  *   rt staticlib capi
  *   cc -Iinclude examples/breaker.c target/staticlib/libcapi.a -o breaker
@@ -40,12 +40,23 @@ static uint16_t report_marked(uint64_t *breaker, uint64_t time, uint32_t highest
     return flasknib_breaker_report_ecn(breaker, FLASKNIB_BREAKER_WORDS, time, highest, (int64_t)counts[0], counts[1], counts[2], 100, 1000, rate);
 }
 
+/* Three reports at `rate` bytes per second with the full throughput equation; the last answer. */
+static uint16_t with_full_equation(uint64_t rate)
+{
+    uint64_t breaker[FLASKNIB_BREAKER_WORDS];
+
+    flasknib_breaker_start(2, 3, 15000, 0, 1, 0, breaker, FLASKNIB_BREAKER_WORDS);
+    report(breaker, 5000, 1000, rate);
+    report(breaker, 10000, 2000, rate);
+    return report(breaker, 15000, 3000, rate);
+}
+
 int main(void)
 {
     uint64_t breaker[FLASKNIB_BREAKER_WORDS], faster[FLASKNIB_BREAKER_WORDS], marked[FLASKNIB_BREAKER_WORDS];
 
-    /* k = 2 intervals, m = 3 reports with no new number, 15,000 ms, no reduction. */
-    print_answer("start at 0", flasknib_breaker_start(2, 3, 15000, 0, 0, breaker, FLASKNIB_BREAKER_WORDS));
+    /* k = 2 intervals, m = 3 reports with no new number, 15,000 ms, no reduction, the simplified equation. */
+    print_answer("start at 0", flasknib_breaker_start(2, 3, 15000, 0, 0, 0, breaker, FLASKNIB_BREAKER_WORDS));
     print_answer("report at 5000", report(breaker, 5000, 1000, 244948));
     print_answer("report at 10000", report(breaker, 10000, 2000, 244948));
 
@@ -62,7 +73,10 @@ int main(void)
     print_answer("tick at 44000", flasknib_breaker_tick(breaker, FLASKNIB_BREAKER_WORDS, 44000));
     print_answer("tick after the stop", flasknib_breaker_tick(faster, FLASKNIB_BREAKER_WORDS, 30000));
 
-    faster[4] = 4;
+    print_answer("full equation, 31606 bytes/s", with_full_equation(31606));
+    print_answer("full equation, 31607 bytes/s", with_full_equation(31607));
+
+    faster[5] = 4;
     print_answer("tick in state 4", flasknib_breaker_tick(faster, FLASKNIB_BREAKER_WORDS, 30000));
     return 0;
 }

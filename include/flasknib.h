@@ -114,24 +114,27 @@ uint8_t flasknib_ecn_between(uint32_t earlier_highest, uint16_t earlier_ce, uint
                              uint16_t later_lost, uint64_t *counts, size_t words);
 
 /* ---- the circuit breaker ---------------------------------------------------------------------------------------------------------
- * 76 words: k, m, timeout (ms), whether reductions are allowed; state (0 running, else the reason of the stop); time of the last report or
- * start, time of the last report, heard packet or start, from which the timeout is measured; whether there was a report, its highest number,
- * media run, whether a trial is under way, intervals in the window; then 32 intervals, newest first, of length (ms, 1 to 10,000,000; a longer
- * interval is stored as that) and fraction lost each. Other values of a yes-or-no word than 0 and 1, another state than 0 to 3, and a highest
- * number of 2^32 or more are malformed (9).
+ * 77 words: k, m, timeout (ms), whether reductions are allowed, whether the full throughput equation is taken in place of the simplified one;
+ * state (0 running, else the reason of the stop); time of the last report or start, time of the last report, heard packet or start, from which
+ * the timeout is measured; whether there was a report, its highest number, media run, whether a trial is under way, intervals in the window;
+ * then 32 intervals, newest first, of length (ms, 1 to 10,000,000; a longer interval is stored as that) and fraction lost each. Other values of
+ * a yes-or-no word than 0 and 1, another state than 0 to 3, and a highest number of 2^32 or more are malformed (9).
  *
  * Which call is for which packet: one with an SR or an RR and a report block about us (words 23 and 0 of the compound are 1) is a report, any
  * other is heard. A packet without an SR or an RR never enters the congestion rule, nor may its ECN feedback feed the counts of
  * flasknib_breaker_report_ecn (RFC 8083, section 5).
  */
-#define FLASKNIB_BREAKER_WORDS 76
+#define FLASKNIB_BREAKER_WORDS 77
 
 /* What a breaker call answers: FLASKNIB_GO, FLASKNIB_REDUCE, FLASKNIB_STOP + reason (1 timeout, 2 media, 3 congestion), or
  * FLASKNIB_REFUSED + refusal. */
 enum { FLASKNIB_GO = 0, FLASKNIB_REDUCE = 1, FLASKNIB_STOP = 0x100, FLASKNIB_REFUSED = 0x200 };
 
-/* Starts a breaker: Go and the record, or refusal 10, or 12 where `breaker` has fewer than 76 words. `reduce` is 0 or 1, else refusal 10. */
-uint16_t flasknib_breaker_start(uint64_t k, uint64_t m, uint64_t timeout, uint8_t reduce, uint64_t time, uint64_t *breaker, size_t words);
+/* Starts a breaker: Go and the record, or refusal 10, or 12 where `breaker` has fewer than 77 words. `reduce` and `full` are 0 or 1, else refusal
+ * 10. With `full` the congestion rule takes the full throughput equation (RFC 8083, section 4.3, with b = 1 and t_RTO = 4 * Tr), which reacts
+ * earlier where much is lost; without, the simplified one. */
+uint16_t flasknib_breaker_start(uint64_t k, uint64_t m, uint64_t timeout, uint8_t reduce, uint8_t full, uint64_t time, uint64_t *breaker,
+                                size_t words);
 
 /* A report with the fraction lost in 256ths, 0 to 255: refusals 9, 10, 11. A stopped breaker answers its stop. */
 uint16_t flasknib_breaker_report(uint64_t *breaker, size_t words, uint64_t time, uint32_t highest, uint64_t fraction, uint64_t rtt,

@@ -53,7 +53,7 @@ def read(path):
 
 def constants():
     """The breaker's constants."""
-    code = "".join(read(BREAKER / "src" / name) for name in ("lib.rt", "rules.rt"))
+    code = "".join(read(BREAKER / "src" / name) for name in ("lib.rt", "equations.rt"))
     return {name: int(value.replace("_", "")) for name, value in re.findall(r"const (\w+): \w+ = ([\d_]+);", code)}
 
 

@@ -25,6 +25,7 @@ pub struct Settings {
     pub m: u64,
     pub timeout: u64,
     pub reduce: u8,
+    pub full: u8,
 }
 
 /// What flasknib_arrive answers for a restart.

@@ -44,17 +44,24 @@ pub fn heard(compare: &Compare, breaker: &mut Lent<u64>, time: u64) -> i64 {
 }
 
 fn any_settings(draw: &Draw) -> Settings {
-    let reduce = if draw.one_in(20) { draw.edge(2, 255) } else { draw.below(2) } as u8;
-    Settings { k: draw.astray(1, 32), m: draw.astray(1, 32), timeout: draw.astray(1, MOST_TIMEOUT), reduce }
+    let choice = || if draw.one_in(20) { draw.edge(2, 255) as u8 } else { draw.below(2) as u8 };
+    let (reduce, full) = (choice(), choice());
+    Settings { k: draw.astray(1, 32), m: draw.astray(1, 32), timeout: draw.astray(1, MOST_TIMEOUT), reduce, full }
 }
 
 /// Reports, ticks and heard packets from a start; most rates are around the greatest that goes, most numbers ahead.
 fn run(compare: &Compare, draw: &Draw) {
-    let settings = Settings { k: draw.within(1, 5), m: draw.within(1, 4), timeout: draw.within(2, 20_000), reduce: draw.below(2) as u8 };
+    let (reduce, full) = (draw.below(2) as u8, draw.below(2) as u8);
+    let settings = Settings { k: draw.within(1, 5), m: draw.within(1, 4), timeout: draw.within(2, 20_000), reduce, full };
     let mut breaker = Lent::new(&[0; WORDS]);
     start(compare, &mut breaker, settings, draw.below(1_000));
     let (rtt, size, usual) = (draw.within(1, 300), draw.within(100, 1_500), draw.below(60));
-    let greatest = 196_000 * size / (rtt * (usual + 10).isqrt());
+    let simplified = 196_000 * size / (rtt * (usual + 10).isqrt());
+    // The full equation is below the simplified one by 1 + 9p (1 + 32 p^2).
+    let greatest = match (full, (usual + 10) as f64 / 256.0) {
+        (1, p) => (simplified as f64 / (1.0 + 9.0 * p * (1.0 + 32.0 * p * p))) as u64,
+        _ => simplified,
+    };
     for _ in 0..draw.within(5, 80) {
         let now = Breaker::from_words(breaker.part()).unwrap();
         let rate = if draw.one_in(12) { 0 } else { (greatest * draw.within(4, 18) / 16).clamp(1, MOST_RATE) };

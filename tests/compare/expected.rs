@@ -98,8 +98,8 @@ impl Calls for Expected {
     }
 
     fn breaker_start(&self, settings: Settings, time: u64, words: &mut [u64]) -> u16 {
-        let Settings { k, m, timeout, reduce } = settings;
-        let started = Breaker::start(k, m, timeout, reduce, time).map(|breaker| breaker.to_words());
+        let Settings { k, m, timeout, reduce, full } = settings;
+        let started = Breaker::start(k, m, timeout, reduce, full, time).map(|breaker| breaker.to_words());
         match put_words(started, words) {
             0 => GO,
             refusal => REFUSED + u16::from(refusal),

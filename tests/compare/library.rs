@@ -12,7 +12,7 @@ extern "C" {
     fn flasknib_read_compound(bytes: *const u8, length: usize, media: u32, profile: u8, found: *mut u64, words: usize) -> u8;
     fn flasknib_ecn_between(earlier_highest: u32, earlier_ce: u16, earlier_lost: u16, later_highest: u32, later_ce: u16, later_lost: u16,
                             counts: *mut u64, words: usize) -> u8;
-    fn flasknib_breaker_start(k: u64, m: u64, timeout: u64, reduce: u8, time: u64, breaker: *mut u64, words: usize) -> u16;
+    fn flasknib_breaker_start(k: u64, m: u64, timeout: u64, reduce: u8, full: u8, time: u64, breaker: *mut u64, words: usize) -> u16;
     fn flasknib_breaker_report(breaker: *mut u64, words: usize, time: u64, highest: u32, fraction: u64, rtt: u64, size: u64, rate: u64) -> u16;
     fn flasknib_breaker_report_ecn(breaker: *mut u64, words: usize, time: u64, highest: u32, lost: i64, marked: u64, expected: u64, rtt: u64,
                                    size: u64, rate: u64) -> u16;
@@ -58,8 +58,8 @@ impl Calls for Library {
     }
 
     fn breaker_start(&self, settings: Settings, time: u64, breaker: &mut [u64]) -> u16 {
-        let Settings { k, m, timeout, reduce } = settings;
-        unsafe { flasknib_breaker_start(k, m, timeout, reduce, time, breaker.as_mut_ptr(), breaker.len()) }
+        let Settings { k, m, timeout, reduce, full } = settings;
+        unsafe { flasknib_breaker_start(k, m, timeout, reduce, full, time, breaker.as_mut_ptr(), breaker.len()) }
     }
 
     fn breaker_report(&self, breaker: &mut [u64], report: &Report) -> u16 {

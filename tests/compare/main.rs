@@ -2,6 +2,7 @@
 //! The library through its C interface against the model: each call's answer and all that it was lent. --only names functions of the
 //! header; the others are answered by the model alone. --table writes the number of calls and answers of each function.
 mod between;
+mod big;
 mod blocks;
 mod boundary;
 mod calls;

@@ -42,7 +42,7 @@ fn after(compare: &Compare, arrivals: &[(u16, u8)]) -> Vec<u64> {
 
 fn decision(compare: &Compare, lengths: [u64; 2], fraction: u64, rtt: u64, rate: u64) -> i64 {
     let mut breaker = Lent::new(&[0; breaker::WORDS]);
-    start(compare, &mut breaker, Settings { k: 2, m: 3, timeout: 15_000, reduce: 0 }, 0);
+    start(compare, &mut breaker, Settings { k: 2, m: 3, timeout: 15_000, reduce: 0, full: 0 }, 0);
     let mut last = Report { time: 1_000, number: 1, loss: Loss::Fraction(fraction), rtt, size: 1_000, rate };
     report(compare, &mut breaker, &last);
     last = Report { time: last.time + lengths[0], number: 2, ..last };

@@ -16,6 +16,7 @@ pub fn sound(draw: &Draw) -> Breaker {
         m,
         timeout,
         reduce: draw.one_in(2),
+        full: draw.one_in(2),
         stopped,
         time,
         heard: heard(draw, time),
@@ -45,14 +46,14 @@ pub fn any(draw: &Draw) -> Vec<u64> {
     match draw.below(10) {
         0 => damage(draw, &mut words),
         1 => pass_a_limit(draw, &mut words),
-        2 if draw.one_in(4) => words.resize(draw.index(81), 0),
+        2 if draw.one_in(4) => words.resize(draw.index(82), 0),
         _ => {}
     }
     words
 }
 
 fn damage(draw: &Draw, words: &mut [u64]) {
-    let place = if draw.one_in(2) { draw.index(12) } else { draw.index(words.len()) };
+    let place = if draw.one_in(2) { draw.index(13) } else { draw.index(words.len()) };
     words[place] = match draw.below(4) {
         0 => words[place].wrapping_add(1),
         1 => words[place].wrapping_sub(1),
@@ -64,20 +65,20 @@ fn damage(draw: &Draw, words: &mut [u64]) {
 /// One condition of a sound record, passed by as little as can be, or held with nothing to spare.
 fn pass_a_limit(draw: &Draw, words: &mut [u64]) {
     let more = draw.below(2);
-    let count = words[11] as usize;
+    let count = words[12] as usize;
     match draw.below(12) {
         0 => words[0] = 32 + more,
         1 => words[1] = 32 + more,
         2 => words[2] = MOST_TIMEOUT + more,
-        3 => words[draw.of(&[3, 7, 10])] = 1 + more,
-        4 => words[4] = 3 + more,
-        5 => words[draw.of(&[5, 6])] = TIMES - 1 + more,
-        6 => words[8] = u64::from(u32::MAX) + more,
-        7 => words[9] = words[1] - 1 + more,
-        8 => words[11] = words[0] + more,
-        9 => words[12] = MOST_LENGTH * more + draw.below(2),
-        10 => words[13] = 255 + more,
-        _ => words[12 + 2 * count.min(31) + draw.index(2)] = more,
+        3 => words[draw.of(&[3, 4, 8, 11])] = 1 + more,
+        4 => words[5] = 3 + more,
+        5 => words[draw.of(&[6, 7])] = TIMES - 1 + more,
+        6 => words[9] = u64::from(u32::MAX) + more,
+        7 => words[10] = words[1] - 1 + more,
+        8 => words[12] = words[0] + more,
+        9 => words[13] = MOST_LENGTH * more + draw.below(2),
+        10 => words[14] = 255 + more,
+        _ => words[13 + 2 * count.min(31) + draw.index(2)] = more,
     }
 }
 

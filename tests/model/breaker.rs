@@ -1,7 +1,7 @@
-//! Document 01, "The breaker", with document 02, L2 and L4: the record, judged and stepped.
+//! Document 01, "The breaker", with document 02, L2, L4 and L9: the record, judged and stepped.
 use crate::refusal::*;
 
-pub const WORDS: usize = 76;
+pub const WORDS: usize = 77;
 pub const MOST_INTERVALS: u64 = 32;
 pub const MOST_TIMEOUT: u64 = 600_000;
 pub const TIMES: u64 = 1 << 48;
@@ -29,6 +29,8 @@ pub struct Breaker {
     pub m: u64,
     pub timeout: u64,
     pub reduce: bool,
+    /// The full throughput equation in place of the simplified one.
+    pub full: bool,
     /// 0 while running, else the reason of the stop.
     pub stopped: u64,
     /// Of the last report or the start.
@@ -93,26 +95,58 @@ impl Report {
     }
 }
 
-/// rate^2 Tr^2 P > 38,400,000,000 s^2 W over the intervals of the window. The largest values fit 128 bits, as the next item computes.
-pub fn congested(window: &[(u64, u64)], rtt: u64, size: u64, rate: u64) -> bool {
+/// W, the sum of the lengths, and P, the sum of fraction times length.
+pub fn sums(window: &[(u64, u64)]) -> (u128, u128) {
+    let w = window.iter().map(|&(length, _)| u128::from(length)).sum();
+    let p = window.iter().map(|&(length, fraction)| u128::from(fraction) * u128::from(length)).sum();
+    (w, p)
+}
+
+/// Whether the rate is above ten times the throughput equation over the intervals of the window, the full one or the simplified one. The
+/// largest values fit 128 bits, as an item below computes.
+pub fn congested(full: bool, window: &[(u64, u64)], rtt: u64, size: u64, rate: u64) -> bool {
     let [rtt, size, rate] = [rtt, size, rate].map(u128::from);
-    let w: u128 = window.iter().map(|&(length, _)| u128::from(length)).sum();
-    let p: u128 = window.iter().map(|&(length, fraction)| u128::from(fraction) * u128::from(length)).sum();
-    rate * rate * rtt * rtt * p > 38_400_000_000 * size * size * w
+    let (w, p) = sums(window);
+    if full {
+        rate * rtt * denominator(4 * p / w) > 10_000 * size << 50
+    } else {
+        rate * rate * rtt * rtt * p > 38_400_000_000 * size * size * w
+    }
+}
+
+/// A 2^30 + 12 B n (2^20 + 32 n^2), with A the root of 2n/3072 and B that of 3n/8192, both times 2^20 and rounded down. For n = 0 it is 0.
+const fn denominator(n: u128) -> u128 {
+    let (a, b) = (scaled_root(2 * n, 3_072), scaled_root(3 * n, 8_192));
+    (a << 30) + 12 * b * n * ((1 << 20) + 32 * n * n)
+}
+
+/// By halving: the greatest number whose square is at most 2^40 top / bottom.
+const fn scaled_root(top: u128, bottom: u128) -> u128 {
+    let (mut root, mut above) = (0, 1 << 21);
+    while above - root > 1 {
+        let middle = (root + above) / 2;
+        if middle * middle * bottom <= top << 40 {
+            root = middle
+        } else {
+            above = middle
+        }
+    }
+    root
 }
 
 /// Does not compile if a product passes 128 bits.
-pub const LARGEST_PRODUCTS: [u128; 2] = {
+pub const LARGEST_PRODUCTS: [u128; 4] = {
     let w = 32 * MOST_LENGTH as u128;
     let (rate, rtt, size) = (MOST_RATE as u128, MOST_RTT as u128, MOST_SIZE as u128);
-    [rate * rate * rtt * rtt * (255 * w), 38_400_000_000 * size * size * w]
+    let simplified = [rate * rate * rtt * rtt * (255 * w), 38_400_000_000 * size * size * w];
+    [simplified[0], simplified[1], rate * rtt * denominator(1_020), 10_000 * size * (1 << 50)]
 };
 
 impl Breaker {
-    pub fn start(k: u64, m: u64, timeout: u64, reduce: u8, time: u64) -> Result<Breaker, Refusal> {
-        require(settings_within_limits(k, m, timeout) && reduce <= 1 && time < TIMES, LIMITS)?;
-        let reduce = reduce == 1;
-        Ok(Breaker { k, m, timeout, reduce, stopped: 0, time, heard: time, number: None, run: 0, trial: false, window: Vec::new() })
+    pub fn start(k: u64, m: u64, timeout: u64, reduce: u8, full: u8, time: u64) -> Result<Breaker, Refusal> {
+        require(settings_within_limits(k, m, timeout) && reduce <= 1 && full <= 1 && time < TIMES, LIMITS)?;
+        let (reduce, full, heard) = (reduce == 1, full == 1, time);
+        Ok(Breaker { k, m, timeout, reduce, full, stopped: 0, time, heard, number: None, run: 0, trial: false, window: Vec::new() })
     }
 
     /// The record is sound. Stopped, 10, 11, then the rules in order.
@@ -187,7 +221,7 @@ impl Breaker {
         if next.window.len() as u64 != self.k {
             return Ok((next, Answer::Go));
         }
-        if !congested(&next.window, report.rtt, report.size, report.rate) {
+        if !congested(self.full, &next.window, report.rtt, report.size, report.rate) {
             return Ok((Breaker { trial: false, ..next }, Answer::Go));
         }
         if self.reduce && !self.trial {
@@ -211,24 +245,25 @@ impl Breaker {
             m: words[1],
             timeout: words[2],
             reduce: words[3] == 1,
-            stopped: words[4],
-            time: words[5],
-            heard: words[6],
-            number: (words[7] == 1).then_some(words[8]),
-            run: words[9],
-            trial: words[10] == 1,
-            window: words[12..].chunks(2).take(words[11] as usize).map(|interval| (interval[0], interval[1])).collect(),
+            full: words[4] == 1,
+            stopped: words[5],
+            time: words[6],
+            heard: words[7],
+            number: (words[8] == 1).then_some(words[9]),
+            run: words[10],
+            trial: words[11] == 1,
+            window: words[13..].chunks(2).take(words[12] as usize).map(|interval| (interval[0], interval[1])).collect(),
         })
     }
 
     pub fn to_words(&self) -> [u64; WORDS] {
         let mut words = [0; WORDS];
-        words[..5].copy_from_slice(&[self.k, self.m, self.timeout, u64::from(self.reduce), self.stopped]);
-        words[5..9].copy_from_slice(&[self.time, self.heard, u64::from(self.number.is_some()), self.number.unwrap_or(0)]);
-        words[9..12].copy_from_slice(&[self.run, u64::from(self.trial), self.window.len() as u64]);
+        words[..6].copy_from_slice(&[self.k, self.m, self.timeout, u64::from(self.reduce), u64::from(self.full), self.stopped]);
+        words[6..10].copy_from_slice(&[self.time, self.heard, u64::from(self.number.is_some()), self.number.unwrap_or(0)]);
+        words[10..13].copy_from_slice(&[self.run, u64::from(self.trial), self.window.len() as u64]);
         for (place, &(length, fraction)) in self.window.iter().enumerate() {
-            words[12 + 2 * place] = length;
-            words[13 + 2 * place] = fraction;
+            words[13 + 2 * place] = length;
+            words[14 + 2 * place] = fraction;
         }
         words
     }
@@ -240,16 +275,16 @@ fn settings_within_limits(k: u64, m: u64, timeout: u64) -> bool {
 
 /// The run of a stopped record is not judged; the number before the first report is an unused place.
 fn sound(words: &[u64]) -> bool {
-    let [k, m, timeout, reduce, stopped, time, heard, reported, number, run, trial, count] = words[..12].try_into().unwrap();
+    let [k, m, timeout, reduce, full, stopped, time, heard, reported, number, run, trial, count] = words[..13].try_into().unwrap();
     settings_within_limits(k, m, timeout)
-        && [reduce, reported, trial].iter().all(|&flag| flag <= 1)
+        && [reduce, full, reported, trial].iter().all(|&flag| flag <= 1)
         && stopped <= 3
         && time < TIMES
         && heard < TIMES
         && number < if reported == 1 { 1 << 32 } else { 1 }
         && (stopped != 0 || run < m)
         && count <= k
-        && words[12..].chunks(2).enumerate().all(|(place, interval)| match (place as u64) < count {
+        && words[13..].chunks(2).enumerate().all(|(place, interval)| match (place as u64) < count {
             true => (1..=MOST_LENGTH).contains(&interval[0]) && interval[1] <= MOST_FRACTION,
             false => interval == [0, 0],
         })

@@ -146,7 +146,7 @@ module _ (b : Breaker) (u : Unheard b) where
       (λ l. by-test Short (leb (b .settings .m) run) _ _ (λ _. stop-short Media)
       (λ _. by-test Short (not (b .reported)) _ _ (λ _. stored-short Go r run (b .trial) (b .window) shorts)
       (λ _. by-test Short (ltb (w .used) (b .settings .k)) _ _ (λ _. stored-short Go r run (b .trial) w (after-short r l))
-      (λ _. by-test Short (not (holds (b .settings .k) w r)) _ _ (λ _. stored-short Go r run false w (after-short r l))
+      (λ _. by-test Short (not (holds (b .settings) w r)) _ _ (λ _. stored-short Go r run false w (after-short r l))
       (λ _. by-test Short (b .settings .reduce && not (b .trial)) _ _ (λ _. stored-short Reduce r run true emptyWindow empty-short)
       (λ _. stop-short Congestion)))))))
 

@@ -49,6 +49,7 @@ module _ (b : Breaker) where
 
   -- what the step of a call may be
   pub record Fine (c : Call) (s : Step) : Type 0 where
+    pub settings : s .breaker .settings ≡ b .settings
     pub kept : Held b → Held (s .breaker)
     pub typed : numberFits c ≡ true → Typed b → Typed (s .breaker)
     pub beside : Beside (s .answer) (s .breaker)
@@ -56,11 +57,12 @@ module _ (b : Breaker) where
   -- ---- the ends of a chain
 
   same-fine : {c : Call} (a : Answer) → Beside a b → Fine c (answers a b)
-  same-fine a d = record { kept = λ h. h; typed = λ _ t. t; beside = d }
+  same-fine a d = record { settings = refl; kept = λ h. h; typed = λ _ t. t; beside = d }
 
   stop-fine : {c : Call} (reason : Reason) → sound b ≡ true → Fine c (stops reason b)
   stop-fine reason h =
       record {
+        settings = refl;
         kept = λ k. record { isSound = stop-sound b reason h; places = k .places };
         typed = λ _ t. record { number = t .number; places = t .places };
         beside = record { isSound = stop-sound b reason h; stopped = refl };
@@ -70,6 +72,7 @@ module _ (b : Breaker) where
       → run < b .settings .m → (Whole (b .window) → Fit (b .settings .k) w) → Fine (report r) (answers a (stored b r run trial w))
   stored-fine a d r run trial w h limits below fit =
       record {
+        settings = refl;
         kept = λ k. record { isSound = stored-sound b r run trial w h limits below (fit (k .places)); places = fit (k .places) .places };
         typed = λ n t. record { number = ltb-true _ _ n; places = fit (t .places) .places };
         beside = d _;
@@ -80,7 +83,7 @@ module _ (b : Breaker) where
   by-state : {c : Call} (s : State) (x : Step) → b .state ≡ s → sound b ≡ true → (s ≡ Running → Fine c x) → Fine c (unlessStopped s b x)
   by-state Running x e h f = f refl
   by-state (Stopped reason) x e h f =
-      record { kept = λ k. k; typed = λ _ t. t; beside = record { isSound = h; stopped = e } }
+      record { settings = refl; kept = λ k. k; typed = λ _ t. t; beside = record { isSound = h; stopped = e } }
 
   -- ---- the calls
 
@@ -104,6 +107,7 @@ module _ (b : Breaker) where
       timed-fine time (holding b time)
       (λ h t.
       record {
+        settings = refl;
         kept = λ k. record { isSound = held-sound b time h t; places = k .places };
         typed = λ _ y. record { number = y .number; places = y .places };
         beside = tt;
@@ -124,7 +128,7 @@ module _ (b : Breaker) where
       by-test (Fine (report r)) (not (b .reported)) _ _ (λ _. stored-fine Go (λ _. tt) r run (b .trial) (b .window) h limits below (same-fit b h))
       (λ _. let fit = after-fit b r a in
       by-test (Fine (report r)) (ltb (w .used) k) _ _ (λ _. stored-fine Go (λ _. tt) r run (b .trial) w h limits below fit)
-      (λ _. by-test (Fine (report r)) (not (holds k w r)) _ _ (λ _. stored-fine Go (λ _. tt) r run false w h limits below fit)
+      (λ _. by-test (Fine (report r)) (not (holds (b .settings) w r)) _ _ (λ _. stored-fine Go (λ _. tt) r run false w h limits below fit)
       (λ _. by-test (Fine (report r)) (b .settings .reduce && not (b .trial)) _ _ (λ _. stored-fine Reduce (λ _. tt) r run true emptyWindow h limits below (λ _. empty-fit k))
       (λ _. stop-fine Congestion h)))))))
 

@@ -5,7 +5,8 @@ use native.Mathlib.Nat.{mul-le-mul, mul-le-mul-right, mul-lt-mul-of-pos-left, lt
 use native.Mathlib.Omega.{arith}
 use lib.Dec.{ltb}
 use Rattle.wide.proofs.Order.{same-order}
-use Rattle.breaker.specs.Throughput.{Fraction, whole, _times_, square, throughputSquared}
+use Rattle.roots.specs.Fractions.{Fraction, whole, _times_, square}
+use Rattle.breaker.specs.Throughput.{throughputSquared}
 use Rattle.breaker.specs.Theorems.{AboveTenTimes, SquaresCompare}
 use Rattle.breaker.proofs.Products.{squared}
 

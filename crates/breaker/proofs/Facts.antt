@@ -19,11 +19,11 @@ use Rattle.breaker.specs.declared.Report.{Report}
 use Rattle.breaker.specs.Limits.{within, settingsOk, timeOk, lossOk, reportOk}
 use Rattle.breaker.specs.FractionLost.{fractionOf}
 use Rattle.breaker.specs.Windows.{fractionOk, lengthOk, isZero, inUse, unused}
-use Rattle.breaker.specs.Private.{roomy, Accepted}
+use Rattle.breaker.specs.Private.{intervalOk, Accepted}
 use Rattle.breaker.specs.Soundness.{runOk, numberOk, conditions, sound}
 use Rattle.breaker.specs.Rules.{closed, windowAfter}
 use Rattle.breaker.proofs.FractionLost.{fraction-in-range}
-use Rattle.breaker.proofs.Places.{front-first, used-roomy}
+use Rattle.breaker.proofs.Places.{front-first, used-intervals}
 
 module _ (low high x : ℕ) (h : within low high x ≡ true) where
   low-of : low ≤ x
@@ -131,14 +131,14 @@ module _ (b : Breaker) (r : Report) (h : Accepted b r) where
       λ i. le-leb 1 (closed b r .length) l i && le-leb (closed b r .length) 10000000 m i
 
   -- with k intervals in the window, the last k have room
-  pub after-roomy : length (b .window .intervals) ≡ 32 → b .settings .k ≤ b .window .used + 1
-      → all (map roomy (take (b .settings .k) (windowAfter b r .intervals))) ≡ true
+  pub after-intervals : length (b .window .intervals) ≡ 32 → b .settings .k ≤ b .window .used + 1
+      → all (map intervalOk (take (b .settings .k) (windowAfter b r .intervals))) ≡ true
   unfolding windowAfter
-  after-roomy e u =
+  after-intervals e u =
       let k = b .settings .k in
       let ok = h .isSound in
       let x = closed b r in
       let h₂ : k ≤ suc (length (b .window .intervals)) = omega (arith, k-high (b .settings) (settings-of b ok)) in
-      used-roomy (take k (windowAfter b r .intervals))
+      used-intervals (take k (windowAfter b r .intervals))
       (front-first fractionOk k k (b .window .used) x (b .window .intervals) (le-refl k) h₂ u (fraction-of r (h .inLimits)) (fractions-of b ok))
       (front-first lengthOk k k (b .window .used) x (b .window .intervals) (le-refl k) h₂ u closed-length (lengths-of b ok))

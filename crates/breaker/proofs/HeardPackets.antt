@@ -76,7 +76,7 @@ module _ (b : Breaker) (x y : ℕ) where
       (one-test (leb (b .settings .m) (runAfter b r)) _ _ _ _ (same (Stop Media) _ _ refl)
       (one-test (not (b .reported)) _ _ _ _ (same Go _ _ refl)
       (one-test (ltb (windowAfter b r .used) (b .settings .k)) _ _ _ _ (same Go _ _ refl)
-      (one-test (not (holds (b .settings .k) (windowAfter b r) r)) _ _ _ _ (same Go _ _ refl)
+      (one-test (not (holds (b .settings) (windowAfter b r) r)) _ _ _ _ (same Go _ _ refl)
       (one-test (b .settings .reduce && not (b .trial)) _ _ _ _ (same Reduce _ _ refl) (same (Stop Congestion) _ _ refl)))))))
 
   report-same : (r : Report) → Same (reportOf (holding b x) r) (reportOf (holding b y) r)

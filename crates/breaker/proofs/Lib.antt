@@ -9,5 +9,6 @@ pub mod Calls
 pub mod Runs
 pub mod HeardPackets
 pub mod AsBefore
+pub mod FullEquation
 pub mod Judged
 pub mod Equation

@@ -3,7 +3,7 @@ use mathlib.Core.Path.{_≡_, refl, sym, _∙_, ap}
 use mathlib.Core.Bool.{Bool, true, false, _&&_, and-true}
 use mathlib.Core.List.{List, [], _∷_, _++_, map}
 use Prim.Native.Nat.{ℕ, zero, suc, _+_, _-_, _*_, _≤_, _<_, zero-le, min}
-use native.Mathlib.Nat.{mul-le-mul, le-of-suc-le-suc, not-suc-le-zero}
+use native.Mathlib.Nat.{mul-le-mul, mul-le-mul-right, le-of-suc-le-suc, not-suc-le-zero}
 use native.Mathlib.Numerals.{add-one}
 use native.Mathlib.Omega.{arith}
 use borrow.Author.Tests.{leb-true, leb-false, le-leb}
@@ -13,8 +13,8 @@ use lib.Seq.{slice, slice-cons, set-at, take-suc, slice-empty, append-snoc, leng
 use Rattle.answers.specs.Conditions.{all}
 use Rattle.answers.proofs.Conditions.{and-left, and-right}
 use Rattle.breaker.specs.declared.Interval.{Interval}
-use Rattle.breaker.specs.Windows.{zeroInterval, inFront, fractionOk, lengthOk, isZero, sumOf}
-use Rattle.breaker.specs.Private.{between, roomy}
+use Rattle.breaker.specs.Windows.{zeroInterval, inFront, fractionOk, lengthOk, isZero, sumOf, W, P}
+use Rattle.breaker.specs.Private.{between, intervalOk, sumsOf, SumsOk}
 
 -- an array of structs is known by the list of their values
 pub length-mapped : (X Y : Type 0) (f : X → Y) (l : List X) (n : ℕ) → length (map f l) ≡ n → length l ≡ n
@@ -97,23 +97,47 @@ sum-bound ok f most below (x ∷ xs) h =
     let b : sumOf f xs ≤ length xs * most = sum-bound ok f most below xs (and-right (ok x) _ h) in
     omega arith
 
--- what has room is bounded, and what is in the limits has room
-module _ (x : Interval) (h : roomy x ≡ true) where
-  pub room-length : x .length ≤ 10000000
-  room-length = leb-true _ _ (and-left (leb (x .length) 10000000) _ h)
+-- an interval in its limits
+module _ (x : Interval) (h : intervalOk x ≡ true) where
+  pub length-least : 1 ≤ x .length
+  length-least = leb-true _ _ (and-left (leb 1 (x .length)) _ (and-left (lengthOk x) _ h))
 
-  pub room-fraction : x .fraction ≤ 255
-  room-fraction = leb-true _ _ (and-right (leb (x .length) 10000000) _ h)
+  pub length-most : x .length ≤ 10000000
+  length-most = leb-true _ _ (and-right (leb 1 (x .length)) _ (and-left (lengthOk x) _ h))
 
-  pub room-product : x .fraction * x .length ≤ 2550000000
-  room-product = mul-le-mul room-fraction room-length
+  pub fraction-most : x .fraction ≤ 255
+  fraction-most = leb-true _ _ (and-right (lengthOk x) _ h)
 
-pub used-roomy : (xs : List Interval) → all (map fractionOk xs) ≡ true → all (map lengthOk xs) ≡ true → all (map roomy xs) ≡ true
-used-roomy [] h l = refl
-used-roomy (x ∷ xs) h l =
-    let f : fractionOk x ≡ true = and-left (fractionOk x) _ h in
-    let n : leb (x .length) 10000000 ≡ true = and-right (leb 1 (x .length)) _ (and-left (lengthOk x) _ l) in
-    λ i. (n i && f i) && used-roomy xs (and-right (fractionOk x) _ h) (and-right (lengthOk x) _ l) i
+  pub product-most : x .fraction * x .length ≤ 2550000000
+  product-most = mul-le-mul fraction-most length-most
+
+pub used-intervals : (xs : List Interval) → all (map fractionOk xs) ≡ true → all (map lengthOk xs) ≡ true → all (map intervalOk xs) ≡ true
+used-intervals [] h l = refl
+used-intervals (x ∷ xs) h l =
+    λ i. (and-left (lengthOk x) _ l i && and-left (fractionOk x) _ h i) && used-intervals xs (and-right (fractionOk x) _ h) (and-right (lengthOk x) _ l) i
+
+-- ---- the sums of intervals in their limits
+
+-- P is at most 255 times W, since each fraction is at most 255
+p-share : (xs : List Interval) → all (map intervalOk xs) ≡ true → P xs ≤ 255 * W xs
+p-share [] h = zero-le
+p-share (x ∷ xs) h =
+    let a : x .fraction * x .length ≤ 255 * x .length = mul-le-mul-right (x .length) (fraction-most x (and-left (intervalOk x) _ h)) in
+    let b : P xs ≤ 255 * W xs = p-share xs (and-right (intervalOk x) _ h) in
+    omega arith
+
+w-some : (xs : List Interval) → 0 < length xs → all (map intervalOk xs) ≡ true → 0 < W xs
+w-some [] l h = l
+w-some (x ∷ xs) l h = let a = length-least x (and-left (intervalOk x) _ h) in omega arith
+
+pub sums-ok : (k : ℕ) (xs : List Interval) → 1 ≤ k → k ≤ 32 → length xs ≡ 32 → all (map intervalOk (take k xs)) ≡ true → SumsOk (sumsOf (take k xs))
+sums-ok k xs l h e a =
+    let n : length (take k xs) ≡ k = length-take-le k xs (omega arith) in
+    record {
+      some = w-some (take k xs) (omega arith) a;
+      few = omega (arith, sum-bound intervalOk (λ (x : Interval). x .length) 10000000 length-most (take k xs) a);
+      share = p-share (take k xs) a;
+    }
 
 -- ---- one place more in front
 

@@ -19,6 +19,7 @@ use Rattle.breaker.specs.Soundness.{sound}
 use Rattle.breaker.specs.Calls.{fresh, unstarted, startOf, unlessStopped, reportOf, timed, tickOf, heardOf}
 use Rattle.breaker.specs.Runs.{Call, report, tick, heard, called, answersOf, after}
 use Rattle.breaker.specs.Theorems.{SoundStart, SoundCall, SoundRun, Typed, TypedStart, TypedCall, RefusedKeeps, StaysStopped}
+use Rattle.breaker.specs.FullEquation.{SettingsKept}
 use Rattle.breaker.specs.Windows.{emptyWindow}
 use Rattle.breaker.proofs.Chains.{by-test}
 use Rattle.breaker.proofs.Facts.{m-low}
@@ -83,6 +84,11 @@ typed-start s time =
 
 pub typed-call : TypedCall
 typed-call b c t n = call-fine b c .typed n t
+
+-- ---- the settings stay
+
+pub settings-kept : SettingsKept
+settings-kept b c = call-fine b c .settings
 
 -- ---- refused keeps the record
 

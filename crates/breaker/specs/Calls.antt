@@ -34,7 +34,7 @@ fresh s time =
 
 -- a start that is refused, with 10, has no record: the one beside the refusal is all zero
 abbrev pub unstarted : Step
-unstarted = refuses Limits (fresh (record { k = 0; m = 0; timeout = 0; reduce = false }) 0)
+unstarted = refuses Limits (fresh (record { k = 0; m = 0; timeout = 0; reduce = false; full = false }) 0)
 
 -- 10, or Go
 unfoldable pub startOf : Settings → ℕ → Step
@@ -43,9 +43,9 @@ startOf s time =
     (cond (not (timeOk time)) unstarted
     (goes (fresh s time)))
 
--- the preset settings: k = 3, m = 3, t = 15,000 ms, no reduction
+-- the preset settings: k = 3, m = 3, t = 15,000 ms, no reduction, the simplified equation
 abbrev pub preset : Settings
-preset = record { k = 3; m = 3; timeout = 15000; reduce = false }
+preset = record { k = 3; m = 3; timeout = 15000; reduce = false; full = false }
 
 -- stopped stays stopped: the first reason and the same state
 abbrev pub unlessStopped : State → Breaker → Step → Step

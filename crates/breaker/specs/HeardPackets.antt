@@ -78,7 +78,7 @@ abbrev pub between : List Call
 between = map (λ (n : ℕ). heard (n * 500000)) (1 ∷ 2 ∷ 3 ∷ 4 ∷ 5 ∷ 6 ∷ 7 ∷ 8 ∷ 9 ∷ 10 ∷ 11 ∷ 12 ∷ 13 ∷ 14 ∷ 15 ∷ 16 ∷ 17 ∷ 18 ∷ 19 ∷ 20 ∷ 21 ∷ [])
 
 abbrev pub begun : Breaker
-begun = startOf (record { k = 3; m = 3; timeout = 600000; reduce = false }) 0 .breaker
+begun = startOf (record { k = 3; m = 3; timeout = 600000; reduce = false; full = false }) 0 .breaker
 
 pub record LongInterval : Type 0 where
   pub heard : getD (after begun (reportAt 1 ∷ between ++ (reportAt 11000001 ∷ [])) .window .intervals) 0 zeroInterval .length ≡ 10000000

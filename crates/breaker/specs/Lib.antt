@@ -11,4 +11,5 @@ pub mod Runs
 pub mod WithoutHeard
 pub mod Throughput
 pub mod HeardPackets
+pub mod FullEquation
 pub mod Theorems

@@ -2,7 +2,7 @@
 use mathlib.Core.Path.{_≡_}
 use mathlib.Core.Bool.{Bool, true, false, _&&_, not, cond}
 use mathlib.Core.List.{List, [], _∷_}
-use Prim.Native.Nat.{ℕ, _<_, _≤_}
+use Prim.Native.Nat.{ℕ, _*_, _<_, _≤_}
 use lib.Dec.{leb, ltb}
 use Rattle.answers.specs.Conditions.{all}
 use Rattle.breaker.specs.declared.Reason.the-variants.{Congestion}
@@ -18,7 +18,7 @@ use Rattle.breaker.specs.declared.Step.{Step}
 use Rattle.breaker.specs.Answers.{answers, goes, reduces, stops}
 use Rattle.breaker.specs.Calls.{opened}
 use Rattle.breaker.specs.Limits.{reportOk}
-use Rattle.breaker.specs.Windows.{emptyWindow, W, P}
+use Rattle.breaker.specs.Windows.{emptyWindow, fractionOk, lengthOk, W, P}
 use Rattle.breaker.specs.Rules.{stored, holds}
 use Rattle.breaker.specs.Soundness.{sound}
 
@@ -34,13 +34,19 @@ between least most x =
     ∷ leb (x .fraction) (most .fraction)
     ∷ [])
 
--- a length of at most 10,000,000 ms, for which the sums have room
-abbrev pub roomy : Interval → Bool
-roomy x = leb (x .length) 10000000 && leb (x .fraction) 255
+-- an interval in its limits
+abbrev pub intervalOk : Interval → Bool
+intervalOk x = lengthOk x && fractionOk x
 
 -- both sums
 abbrev pub sumsOf : List Interval → Sums
 sumsOf xs = record { w = W xs; p = P xs }
+
+-- the sums of 1 to 32 intervals in their limits
+pub record SumsOk (s : Sums) : Type 0 where
+  pub some : 0 < s .w
+  pub few : s .w ≤ 320000000
+  pub share : s .p ≤ 255 * s .w
 
 -- ---- the opening of a call: its answer, whatever would follow, or a record that is sound and runs
 
@@ -62,6 +68,6 @@ pub record Accepted (b : Breaker) (r : Report) : Type 0 where
 unfoldable pub tested : Breaker → Report → ℕ → Window → Step
 tested b r run w =
     cond (ltb (w .used) (b .settings .k)) (goes (stored b r run (b .trial) w))
-    (cond (not (holds (b .settings .k) w r)) (goes (stored b r run false w))
+    (cond (not (holds (b .settings) w r)) (goes (stored b r run false w))
     (cond (b .settings .reduce && not (b .trial)) (reduces (stored b r run true emptyWindow))
     (stops Congestion b)))

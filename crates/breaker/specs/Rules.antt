@@ -1,10 +1,12 @@
--- Document 01, "The breaker", and 02, request L4: the rules for a report that is not refused.
+-- Document 01, "The breaker", and 02, requests L4 and L9: the rules for a report that is not refused.
 use mathlib.Core.Bool.{Bool, true, false, _&&_, _||_, not, cond}
+use mathlib.Core.List.{List}
 use Prim.Native.Nat.{ℕ, _+_, _-_, _^_, min}
 use lib.Dec.{leb, ltb, eqb}
 use lib.ListN.{take}
 use Rattle.numbers.specs.Since.{since}
 use Rattle.breaker.specs.declared.Reason.the-variants.{Timeout, Media, Congestion}
+use Rattle.breaker.specs.declared.Settings.{Settings}
 use Rattle.breaker.specs.declared.Interval.{Interval}
 use Rattle.breaker.specs.declared.Window.{Window}
 use Rattle.breaker.specs.declared.Breaker.{Breaker}
@@ -13,7 +15,7 @@ use Rattle.breaker.specs.declared.Step.{Step}
 use Rattle.breaker.specs.Answers.{goes, reduces, stops}
 use Rattle.breaker.specs.FractionLost.{fractionOf}
 use Rattle.breaker.specs.Windows.{emptyWindow, pushed, W, P}
-use Rattle.breaker.specs.Condition.{condition}
+use Rattle.breaker.specs.Condition.{conditionBy}
 
 -- a report neither refused nor stopped stores its time and number; t is measured from its time too
 abbrev pub stored : Breaker → Report → ℕ → Bool → Window → Breaker
@@ -50,9 +52,12 @@ closed b r = record { length = min (r .time - b .last) 10000000; fraction = frac
 unfoldable pub windowAfter : Breaker → Report → Window
 windowAfter b r = pushed (b .settings .k) (closed b r) (b .window)
 
+abbrev pub lastIntervals : Settings → Window → List Interval
+lastIntervals s w = take (s .k) (w .intervals)
+
 -- the condition over the last k intervals of a window, with this report's rate, Tr and s
-unfoldable pub holds : ℕ → Window → Report → Bool
-holds k w r = condition (r .rate) (r .rtt) (P (take k (w .intervals))) (r .size) (W (take k (w .intervals)))
+unfoldable pub holds : Settings → Window → Report → Bool
+holds s w r = conditionBy (s .full) (r .rate) (r .rtt) (P (lastIntervals s w)) (r .size) (W (lastIntervals s w))
 
 -- the rules in their order, given whether the report is late, and the window with the interval that it closes
 unfoldable pub ruledBy : Bool → Window → Breaker → Report → Step
@@ -67,7 +72,7 @@ ruledBy isLate w b r =
     -- fewer than k intervals: no test
     (cond (ltb (w .used) (b .settings .k)) (goes (stored b r (runAfter b r) (b .trial) w))
     -- a test where the condition does not hold ends a trial
-    (cond (not (holds (b .settings .k) w r)) (goes (stored b r (runAfter b r) false w))
+    (cond (not (holds (b .settings) w r)) (goes (stored b r (runAfter b r) false w))
     -- a reduction is allowed and none is under trial: a trial begins, with an empty window
     (cond (b .settings .reduce && not (b .trial)) (reduces (stored b r (runAfter b r) true emptyWindow))
     (stops Congestion b)))))))

@@ -24,7 +24,8 @@ use Rattle.breaker.specs.Soundness.{sound}
 use Rattle.breaker.specs.Condition.{condition}
 use Rattle.breaker.specs.Calls.{startOf, preset, reportOf}
 use Rattle.breaker.specs.Runs.{Call, report, tick, heard, called, answersOf, after}
-use Rattle.breaker.specs.Throughput.{Fraction, whole, _times_, square, above, throughputSquared}
+use Rattle.roots.specs.Fractions.{Fraction, whole, _times_, square, above}
+use Rattle.breaker.specs.Throughput.{throughputSquared}
 
 -- a start that is not refused makes a sound record
 abbrev pub SoundStart : Type 0

@@ -7,7 +7,7 @@ ghost use lib.ListN.{take};
 ghost use lib.Seq.{slice};
 ghost use Rattle.answers.specs.Conditions.{all};
 ghost use Rattle.breaker.specs.Windows.{emptyWindow, inFront, pushed};
-ghost use Rattle.breaker.specs.Private.{between, roomy, sumsOf};
+ghost use Rattle.breaker.specs.Private.{between, intervalOk, sumsOf};
 use crate::Interval;
 use crate::Window;
 
@@ -71,7 +71,7 @@ pub fn all_between(
 
 // The sums over the first n intervals.
 pub fn summed(xs: [Interval; 32], n: usize) -> Sums
-    requires { ⌜ (n ≤ 32) × (all (map roomy (take n xs)) ≡ true) ⌝ }
+    requires { ⌜ (n ≤ 32) × (all (map intervalOk (take n xs)) ≡ true) ⌝ }
     ensures { λ r. ⌜ r ≡ sumsOf (take n xs) ⌝ }
 {
     let mut w: u64 = 0;

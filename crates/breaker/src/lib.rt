@@ -6,18 +6,21 @@ ghost use Rattle.breaker.specs.Calls.{fresh, unstarted, preset, startOf,
 ghost use Rattle.breaker.specs.Private.{Opens};
 use answers::Refusal;
 
+mod equations;
 mod intervals;
 mod limits;
 mod losses;
 mod rules;
 mod soundness;
 
-// The number of intervals k, the media run m that stops, the timeout in ms, and whether reductions are allowed.
+// The number of intervals k, the media run m that stops, the timeout in ms, whether reductions are allowed, and whether the full throughput
+// equation is taken in place of the simplified one.
 pub struct Settings {
     pub k: usize,
     pub m: u64,
     pub timeout: u64,
     pub reduce: bool,
+    pub full: bool,
 }
 
 // Why the breaker stops.
@@ -149,6 +152,7 @@ impl Breaker {
         m: 3,
         timeout: 15_000,
         reduce: false,
+        full: false,
     };
 
     // A breaker that runs from `time` on, with the answer Go. Refused with 10, the record is all zero, which every call refuses with 9.
@@ -274,6 +278,7 @@ impl Breaker {
             m: 0,
             timeout: 0,
             reduce: false,
+            full: false,
         };
         Breaker::fresh(none, 0).answered(Answer::Refused(Refusal::Limits))
     }

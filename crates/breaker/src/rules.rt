@@ -1,13 +1,9 @@
 // The rules for a report, once the record is known to be sound and running and the report to be in its limits and later.
 ghost use mathlib.Core.Path.{_≡_};
-ghost use mathlib.Core.Bool.{true, _&&_, not};
-ghost use mathlib.Core.List.{map};
-ghost use Prim.Native.Nat.{_≤_, min};
-ghost use lib.ListN.{take};
-ghost use Rattle.answers.specs.Conditions.{all};
-ghost use Rattle.breaker.specs.Limits.{reportOk};
-ghost use Rattle.breaker.specs.Private.{roomy, Accepted, tested};
-ghost use Rattle.breaker.specs.Rules.{notAhead, runAfter, windowAfter, holds, ruled};
+ghost use mathlib.Core.Bool.{_&&_, not};
+ghost use Prim.Native.Nat.{min};
+ghost use Rattle.breaker.specs.Private.{Accepted, tested};
+ghost use Rattle.breaker.specs.Rules.{notAhead, runAfter, windowAfter, ruled};
 use crate::Answer;
 use crate::Breaker;
 use crate::Interval;
@@ -15,13 +11,10 @@ use crate::Reason;
 use crate::Report;
 use crate::Step;
 use crate::Window;
+use crate::equations;
 use crate::intervals;
 use crate::losses;
 use numbers::since;
-use wide::Wide;
-
-// Ten times the simplified equation, squared: 10^2 · 1000^2 · 256 · 3 / 2, for a round trip in ms and fractions in 256ths.
-const SCALE: u64 = 38_400_000_000;
 
 // Whether a highest number is not ahead of the last one.
 fn is_not_ahead(number: u32, last: u32) -> bool
@@ -73,18 +66,6 @@ fn window_after(b: Breaker, r: Report) -> Window
     intervals::pushed(old, x, k)
 }
 
-// Whether the condition holds over the last k intervals: two products of two words.
-fn exceeds(window: Window, k: usize, r: Report) -> bool
-    requires { ⌜ (k ≤ 32) × (all (map roomy (take k (window .intervals))) ≡ true) × (reportOk r ≡ true) ⌝ }
-    ensures { λ b. ⌜ b ≡ holds k window r ⌝ }
-{
-    let last = window.intervals;
-    let sums = intervals::summed(last, k);
-    let left = Wide::product(r.rate * r.rtt * r.rtt, r.rate * sums.p);
-    let right = Wide::product(SCALE * sums.w, r.size * r.size);
-    left.above(right)
-}
-
 // Whether a reduction is allowed and none is under trial.
 fn may_reduce(allowed: bool, trial: bool) -> bool
     ensures { λ r. ⌜ r ≡ (allowed && not trial) ⌝ }
@@ -100,13 +81,13 @@ fn tested(b: Breaker, r: Report, run: u64) -> Step
     requires { ⌜ Accepted b r ⌝ }
     ensures { λ s. ⌜ s ≡ tested b r run (windowAfter b r) ⌝ }
 {
-    let k = b.settings.k;
+    let settings = b.settings;
     let window = window_after(b, r);
     let used = window.used;
-    if used < k {
+    if used < settings.k {
         return b.stored(r, run, b.trial, window).answered(Answer::Go);
     }
-    if !exceeds(window, k, r) {
+    if !equations::exceeds(settings, window, r) {
         return b.stored(r, run, false, window).answered(Answer::Go);
     }
     if may_reduce(b.settings.reduce, b.trial) {

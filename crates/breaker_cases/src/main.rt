@@ -1,6 +1,6 @@
 // Calls on a breaker, read from standard input. Each line is written back; a call's answer and the record afterwards follow it. A line is a
 // letter with numbers, each behind one space:
-//   s k m timeout reduce time                           a start
+//   s k m timeout reduce full time                      a start
 //   d time                                              a start with the preset settings
 //   r time highest fraction rtt size rate               a report
 //   e time highest lost marked expected rtt size rate   a report with ECN counts
@@ -87,8 +87,9 @@ fn start_of(line: &[u8]) -> Step {
         m: number(line, 2),
         timeout: number(line, 3),
         reduce: number(line, 4) == 1,
+        full: number(line, 5) == 1,
     };
-    Breaker::start(settings, number(line, 5))
+    Breaker::start(settings, number(line, 6))
 }
 
 // The report of a line.

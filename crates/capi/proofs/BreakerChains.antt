@@ -25,11 +25,11 @@ use Rattle.capi.proofs.Steps.{record-sized}
 
 -- the words of a record are those of the record that they are read as
 same-words : (old : List ℕ) → isRecord old ≡ true → breakerWords (breakerOf old) ≡ old
-same-words old q = words-restored old (record-sized old q) (and-right (eqb (length old) 76) (all (wordsFit old)) q)
+same-words old q = words-restored old (record-sized old q) (and-right (eqb (length old) 77) (all (wordsFit old)) q)
 
 is-record : (b : Breaker) → Typed b → isRecord (breakerWords b) ≡ true
 is-record b t =
-    let size = eq-eqb (length (breakerWords b)) 76 (length-breaker b (t .places)) in
+    let size = eq-eqb (length (breakerWords b)) 77 (length-breaker b (t .places)) in
     sym (and-goes _ _ true size (sym (breaker-restored b t .1)))
 
 -- a call on a record leaves the words of the record that it hands back, also where it is refused

@@ -25,9 +25,9 @@ use Rattle.capi.proofs.Fronts.{sets-whole}
 
 -- ---- a report, a tick and a heard packet
 
--- a record has 76 words
-pub record-sized : (old : List ℕ) → isRecord old ≡ true → length old ≡ 76
-record-sized old q = eqb-true (length old) 76 (and-left (eqb (length old) 76) (all (wordsFit old)) q)
+-- a record has 77 words
+pub record-sized : (old : List ℕ) → isRecord old ≡ true → length old ≡ 77
+record-sized old q = eqb-true (length old) 77 (and-left (eqb (length old) 77) (all (wordsFit old)) q)
 
 module _ (call : Call) (old : List ℕ) {r : ℕ} where
   -- words that are no record
@@ -46,7 +46,7 @@ module _ (call : Call) (old : List ℕ) {r : ℕ} where
       }
 
 -- what is stored in the place of the last record
-pub back-stored : (s : Step) (old : List ℕ) {left : List ℕ} → isRefused (s .answer) ≡ false → length old ≡ 76 → length (s .breaker .window .intervals) ≡ 32
+pub back-stored : (s : Step) (old : List ℕ) {left : List ℕ} → isRefused (s .answer) ≡ false → length old ≡ 77 → length (s .breaker .window .intervals) ≡ 32
     → left ≡ sets old 0 (breakerWords (s .breaker)) → left ≡ leftBy s old
 back-stored s old e n p k = cond-goes _ _ _ _ e (k ∙ sets-whole old (breakerWords (s .breaker)) (n ∙ sym (length-breaker (s .breaker) p)))
 

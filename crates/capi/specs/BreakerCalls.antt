@@ -47,11 +47,12 @@ refusalIn (Refused refusal) = some refusal
 
 -- ---- flasknib_breaker_start
 
--- `reduce` is 0 or 1, else refusal 10
-unfoldable pub starts : ℕ → ℕ → ℕ → ℕ → ℕ → Step
-starts k m timeout reduce time =
+-- `reduce` and `full` are 0 or 1, else refusal 10
+unfoldable pub starts : ℕ → ℕ → ℕ → ℕ → ℕ → ℕ → Step
+starts k m timeout reduce full time =
     cond (not (leb reduce 1)) unstarted
-    (startOf (record { k = k; m = m; timeout = timeout; reduce = eqb reduce 1 }) time)
+    (cond (not (leb full 1)) unstarted
+    (startOf (record { k = k; m = m; timeout = timeout; reduce = eqb reduce 1; full = eqb full 1 }) time))
 
 -- Go, or the refusal
 abbrev pub startCode : Written → ℕ
@@ -59,7 +60,7 @@ startCode (writer.Length n) = answerCode Go
 startCode (writer.Room n) = 512 + roomNumber
 startCode (writer.Refused refusal) = answerCode (Refused refusal)
 
--- the step of a start: its refusal, 12; or Go and the record's 76 words
+-- the step of a start: its refusal, 12; or Go and the record's 77 words
 abbrev pub PutsStart : Step → List ℕ → ℕ → List ℕ → Type 0
 PutsStart s old r out =
     Gives startCode
@@ -67,15 +68,15 @@ PutsStart s old r out =
     (breakerWords (s .breaker))
     old r out
 
--- "The breaker", a start: 10, 12; or Go and the record's 76 words
-abbrev pub StartsBreaker : ℕ → ℕ → ℕ → ℕ → ℕ → List ℕ → ℕ → List ℕ → Type 0
-StartsBreaker k m timeout reduce time old r out = PutsStart (starts k m timeout reduce time) old r out
+-- "The breaker", a start: 10, 12; or Go and the record's 77 words
+abbrev pub StartsBreaker : ℕ → ℕ → ℕ → ℕ → ℕ → ℕ → List ℕ → ℕ → List ℕ → Type 0
+StartsBreaker k m timeout reduce full time old r out = PutsStart (starts k m timeout reduce full time) old r out
 
 -- ---- flasknib_breaker_report, flasknib_breaker_report_ecn, flasknib_breaker_tick, flasknib_breaker_heard
 
--- 76 words that are those of a record
+-- 77 words that are those of a record
 abbrev pub isRecord : List ℕ → Bool
-isRecord old = eqb (length old) 76 && all (wordsFit old)
+isRecord old = eqb (length old) 77 && all (wordsFit old)
 
 abbrev pub recordIn : List ℕ → Loaded
 recordIn old = record { ok = isRecord old; breaker = breakerOf old }

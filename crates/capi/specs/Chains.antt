@@ -116,7 +116,7 @@ pub record SomeCalls : Type 0 where
   pub fit : all (map numberFits someCalls) ≡ true
   pub answers : breakerCodes started someCalls ≡ 0 ∷ 523 ∷ 0 ∷ 0 ∷ 0 ∷ []
   pub left : breakerChain started someCalls
-      ≡ (3 ∷ 3 ∷ 15000 ∷ 0 ∷ 0 ∷ 3000 ∷ 17000 ∷ 1 ∷ 9 ∷ 0 ∷ 0 ∷ 1 ∷ 2000 ∷ 20 ∷ []) ++ replicate 62 0
+      ≡ (3 ∷ 3 ∷ 15000 ∷ 0 ∷ 0 ∷ 0 ∷ 3000 ∷ 17000 ∷ 1 ∷ 9 ∷ 0 ∷ 0 ∷ 1 ∷ 2000 ∷ 20 ∷ []) ++ replicate 62 0
   pub typed : Typed reported
   -- a call on a stopped breaker answers the stop and hands the record back as it was
   pub stop : callAnswer (reportAt 16000 7) stopped ≡ 257

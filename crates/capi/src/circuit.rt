@@ -1,4 +1,4 @@
-// The circuit breaker for C. A record is lent as 76 words; what a call answers is one number.
+// The circuit breaker for C. A record is lent as 77 words; what a call answers is one number.
 ghost use mathlib.Core.Path.{_≡_};
 ghost use lib.ListN.{length};
 ghost use Rattle.capi.specs.Codes.{Leaves};
@@ -45,7 +45,7 @@ fn is_refused(answer: Answer) -> bool
     }
 }
 
-// The record that the words are read as, and whether they are one: 76 words that fit.
+// The record that the words are read as, and whether they are one: 77 words that fit.
 fn record_in(words: &[u64]) -> Loaded
     ensures { λ r. ⌜ r ≡ recordIn (now (words .entry)) ⌝ }
 {
@@ -59,7 +59,7 @@ fn record_in(words: &[u64]) -> Loaded
 
 // Stores the next record in the place of the last, unless the call is refused, and gives the answer's number.
 fn put_back(step: Step, words: &mut [u64]) -> u16
-    requires { ⌜ length (now words) ≡ 76 ⌝ }
+    requires { ⌜ length (now words) ≡ 77 ⌝ }
     ensures { λ r. ⌜ Leaves (answerCode (step .answer)) (leftBy step (now (words .entry))) r (now (words .exit)) ⌝ }
 {
     let answer = step.answer;
@@ -87,19 +87,23 @@ fn put_front(step: Step, words: &mut [u64]) -> u16
     code(Answer::Go)
 }
 
-// Starts a breaker: Go and the record at the front of `breaker`, or refusal 10, or 12 where there are fewer than 76 words.
+// Starts a breaker: Go and the record at the front of `breaker`, or refusal 10, or 12 where there are fewer than 77 words.
 #[no_mangle]
 pub extern "C" fn flasknib_breaker_start(
     k: u64,
     m: u64,
     timeout: u64,
     reduce: u8,
+    full: u8,
     time: u64,
     breaker: &mut [u64],
 ) -> u16
-    ensures { λ r. ⌜ StartsBreaker k m timeout reduce time (now (breaker .entry)) r (now (breaker .exit)) ⌝ }
+    ensures { λ r. ⌜ StartsBreaker k m timeout reduce full time (now (breaker .entry)) r (now (breaker .exit)) ⌝ }
 {
     if 1 < reduce {
+        return code(Answer::Refused(Refusal::Limits));
+    }
+    if 1 < full {
         return code(Answer::Refused(Refusal::Limits));
     }
     let settings = Settings {
@@ -107,6 +111,7 @@ pub extern "C" fn flasknib_breaker_start(
         m,
         timeout,
         reduce: reduce == 1,
+        full: full == 1,
     };
     put_front(Breaker::start(settings, time), breaker)
 }

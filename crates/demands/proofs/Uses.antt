@@ -1,5 +1,6 @@
 -- Each theorem that has hypotheses, at the values that meet them: what `Met` says is what the theorems ask. Assumes nothing.
 use mathlib.Core.Path.{_≡_, refl}
+use mathlib.Core.Bool.{true}
 use mathlib.Core.List.{[], _∷_}
 use mathlib.Core.Option.{none}
 use Prim.Native.Nat.{ℕ, _+_}
@@ -24,6 +25,8 @@ use Rattle.table.proofs.Splitting.{line-splits}
 use Rattle.breaker.specs.Calls.{preset}
 use Rattle.breaker.specs.Runs.{tick}
 use Rattle.breaker.specs.declared.Reason.the-variants.{Timeout}
+use Rattle.breaker.specs.FullEquation.{settingsC10, windowC10, reportC10}
+use Rattle.breaker.proofs.FullEquation.{setting-off, preset-off, triggers-exact-too, never-without-loss, reacts-earlier}
 use Rattle.breaker.proofs.HeardPackets.{heard-holds, heard-unseen}
 use Rattle.breaker.proofs.AsBefore.{call-as-before, run-as-before}
 use Rattle.breaker.proofs.Runs.{sound-start, sound-call, sound-run, typed-call, refused-keeps, stays-stopped}
@@ -69,6 +72,9 @@ used =
     let unseen = heard-unseen reported 5001 6000 heardOn (met .untimed-reported) (met .untimed-heard) in
     let before = call-as-before reported notLater refl (met .unheard) in
     let run-before = run-as-before preset 0 (notLater ∷ []) (met .starts) (met .none-heard) in
+    let off = setting-off preset windowC10 (reportC10 31607) preset-off in
+    let exact = triggers-exact-too (settingsC10 true) windowC10 (reportC10 31607) refl (reacts-earlier .triggers) in
+    let quiet = never-without-loss (settingsC10 true) (record { used = 1; intervals = record { length = 5000; fraction = 0 } ∷ [] }) (reportC10 31607) refl (omega arith) in
     let feedback = feedback-reads-back (run c1Packets) 5 9 1 Profile.ReducedSize (met .ssrcs .0) (met .ssrcs .1) in
     let summary = summary-reads-back (run c1Packets) 5 1 Profile.ReducedSize (met .ssrcs .1) in
     let accepted = profiles-agree (emptyRr 5) 1 .accepted _ (met .rr-read) in

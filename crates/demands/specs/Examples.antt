@@ -75,7 +75,7 @@ outcome (feedback sender media xs) = written (feedbackBytes sender media (after 
 outcome (summary media xs) = written (summaryBytes media (after (answerTo (Accepted freshRecord) xs)))
 outcome (row label ssrc xs) = written (rowBytes label ssrc (record { source = after (answerTo (Accepted freshRecord) xs); jumped = 0; restarts = 0 }))
 outcome (reports k fraction rtt size rate) =
-    answered (answersOf (startOf (record { k = k; m = 3; timeout = 15000; reduce = false }) 0 .breaker) (reportsUpTo k fraction rtt size rate []))
+    answered (answersOf (startOf (record { k = k; m = 3; timeout = 15000; reduce = false; full = false }) 0 .breaker) (reportsUpTo k fraction rtt size rate []))
 
 -- ---- the table
 

@@ -75,7 +75,7 @@ unfolding intervalsOf
 length-intervals zero ws = refl
 length-intervals (suc n) ws = ap suc (length-intervals n (drop 2 ws))
 
-pub length-breaker : (b : Breaker) → length (b .window .intervals) ≡ 32 → length (breakerWords b) ≡ 76
+pub length-breaker : (b : Breaker) → length (b .window .intervals) ≡ 32 → length (breakerWords b) ≡ 77
 unfolding breakerWords
 length-breaker b h = omega (arith, length-words (b .window .intervals))
 

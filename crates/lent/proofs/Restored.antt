@@ -67,7 +67,7 @@ breaker-restored b t =
     let places = intervals-back 32 (b .window .intervals) (t .places) in (
       λ i.
           record {
-            settings = record { k = b .settings .k; m = b .settings .m; timeout = b .settings .timeout; reduce = flag-back (b .settings .reduce) i };
+            settings = record { k = b .settings .k; m = b .settings .m; timeout = b .settings .timeout; reduce = flag-back (b .settings .reduce) i; full = flag-back (b .settings .full) i };
             state = state-back (b .state) i;
             last = b .last;
             heard = b .heard;
@@ -77,12 +77,12 @@ breaker-restored b t =
             trial = flag-back (b .trial) i;
             window = record { used = b .window .used; intervals = places i };
           },
-      λ i. flag-fits (b .settings .reduce) i && (state-fits (b .state) i && (flag-fits (b .reported) i && (fits i && (flag-fits (b .trial) i && true)))),
+      λ i. flag-fits (b .settings .reduce) i && (flag-fits (b .settings .full) i && (state-fits (b .state) i && (flag-fits (b .reported) i && (fits i && (flag-fits (b .trial) i && true))))),
     )
 
 pub read-typed : ReadTyped
 unfolding breakerOf windowOf
-read-typed ws = record { number = mod-lt (getD ws 8 0) (omega arith); places = length-intervals 32 (drop 12 ws) }
+read-typed ws = record { number = mod-lt (getD ws 9 0) (omega arith); places = length-intervals 32 (drop 13 ws) }
 
 -- the n words from `at` on, and a list by its first words
 unfoldable gets : ℕ → ℕ → List ℕ → List ℕ
@@ -101,25 +101,27 @@ gets-all (suc n) at ws h =
 pub words-restored : WordsRestored
 unfolding breakerWords breakerOf settingsOf windowOf wordsFit gets
 words-restored ws h fit =
-    let number : getD ws 8 0 < 2 ^ 32 = ltb-true (getD ws 8 0) (2 ^ 32) (all-true (wordsFit ws) 3 fit) in
-    let low : getD ws 8 0 % 2 ^ 32 ≡ getD ws 8 0 = omega arith in
+    let number : getD ws 9 0 < 2 ^ 32 = ltb-true (getD ws 9 0) (2 ^ 32) (all-true (wordsFit ws) 4 fit) in
+    let low : getD ws 9 0 % 2 ^ 32 ≡ getD ws 9 0 = omega arith in
     let reduce = flag-word (getD ws 3 0) (all-true (wordsFit ws) 0 fit) in
-    let state = state-word (getD ws 4 0) (all-true (wordsFit ws) 1 fit) in
-    let reported = flag-word (getD ws 7 0) (all-true (wordsFit ws) 2 fit) in
-    let trial = flag-word (getD ws 10 0) (all-true (wordsFit ws) 4 fit) in
-    let places = words-back 32 (drop 12 ws) (omega (arith, length-drop 12 ws)) in
+    let full = flag-word (getD ws 4 0) (all-true (wordsFit ws) 1 fit) in
+    let state = state-word (getD ws 5 0) (all-true (wordsFit ws) 2 fit) in
+    let reported = flag-word (getD ws 8 0) (all-true (wordsFit ws) 3 fit) in
+    let trial = flag-word (getD ws 11 0) (all-true (wordsFit ws) 5 fit) in
+    let places = words-back 32 (drop 13 ws) (omega (arith, length-drop 13 ws)) in
     (λ i.
     getD ws 0 0
     ∷ getD ws 1 0
     ∷ getD ws 2 0
     ∷ reduce i
+    ∷ full i
     ∷ state i
-    ∷ getD ws 5 0
     ∷ getD ws 6 0
+    ∷ getD ws 7 0
     ∷ reported i
     ∷ low i
-    ∷ getD ws 9 0
+    ∷ getD ws 10 0
     ∷ trial i
-    ∷ getD ws 11 0
+    ∷ getD ws 12 0
     ∷ places i)
-    ∙ sym (gets-all 12 0 ws (omega arith))
+    ∙ sym (gets-all 13 0 ws (omega arith))

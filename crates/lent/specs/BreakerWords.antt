@@ -1,4 +1,4 @@
--- The breaker's record (document 01, "The breaker", and 02, request L4) as 76 words, in the order of include/flasknib.h.
+-- The breaker's record (document 01, "The breaker", and 02, requests L4 and L9) as 77 words, in the order of include/flasknib.h.
 use mathlib.Core.Path.{_≡_}
 use mathlib.Core.Bool.{Bool, true, cond}
 use mathlib.Core.List.{List, [], _∷_}
@@ -39,6 +39,7 @@ breakerWords b =
     ∷ b .settings .m
     ∷ b .settings .timeout
     ∷ flag (b .settings .reduce)
+    ∷ flag (b .settings .full)
     ∷ stateNumber (b .state)
     ∷ b .last
     ∷ b .heard
@@ -60,22 +61,22 @@ intervalsOf zero ws = []
 intervalsOf (suc n) ws = record { length = getD ws 0 0; fraction = getD ws 1 0 } ∷ intervalsOf n (drop 2 ws)
 
 unfoldable pub settingsOf : List ℕ → Settings
-settingsOf ws = record { k = getD ws 0 0; m = getD ws 1 0; timeout = getD ws 2 0; reduce = eqb (getD ws 3 0) 1 }
+settingsOf ws = record { k = getD ws 0 0; m = getD ws 1 0; timeout = getD ws 2 0; reduce = eqb (getD ws 3 0) 1; full = eqb (getD ws 4 0) 1 }
 
 unfoldable pub windowOf : List ℕ → Window
-windowOf ws = record { used = getD ws 11 0; intervals = intervalsOf 32 (drop 12 ws) }
+windowOf ws = record { used = getD ws 12 0; intervals = intervalsOf 32 (drop 13 ws) }
 
 unfoldable pub breakerOf : List ℕ → Breaker
 breakerOf ws =
     record {
       settings = settingsOf ws;
-      state = stateOf (getD ws 4 0);
-      last = getD ws 5 0;
-      heard = getD ws 6 0;
-      reported = eqb (getD ws 7 0) 1;
-      highest = getD ws 8 0 % 2 ^ 32;
-      run = getD ws 9 0;
-      trial = eqb (getD ws 10 0) 1;
+      state = stateOf (getD ws 5 0);
+      last = getD ws 6 0;
+      heard = getD ws 7 0;
+      reported = eqb (getD ws 8 0) 1;
+      highest = getD ws 9 0 % 2 ^ 32;
+      run = getD ws 10 0;
+      trial = eqb (getD ws 11 0) 1;
       window = windowOf ws;
     }
 
@@ -85,10 +86,11 @@ breakerOf ws =
 unfoldable pub wordsFit : List ℕ → List Bool
 wordsFit ws =
     leb (getD ws 3 0) 1
-    ∷ leb (getD ws 4 0) 3
-    ∷ leb (getD ws 7 0) 1
-    ∷ ltb (getD ws 8 0) (2 ^ 32)
-    ∷ leb (getD ws 10 0) 1
+    ∷ leb (getD ws 4 0) 1
+    ∷ leb (getD ws 5 0) 3
+    ∷ leb (getD ws 8 0) 1
+    ∷ ltb (getD ws 9 0) (2 ^ 32)
+    ∷ leb (getD ws 11 0) 1
     ∷ []
 
 abbrev pub loaded : List ℕ → Loaded
@@ -100,7 +102,7 @@ abbrev pub BreakerRestored : Type 0
 BreakerRestored = (b : Breaker) → Typed b → (breakerOf (breakerWords b) ≡ b) × (all (wordsFit (breakerWords b)) ≡ true)
 
 abbrev pub WordsRestored : Type 0
-WordsRestored = (ws : List ℕ) → length ws ≡ 76 → all (wordsFit ws) ≡ true → breakerWords (breakerOf ws) ≡ ws
+WordsRestored = (ws : List ℕ) → length ws ≡ 77 → all (wordsFit ws) ≡ true → breakerWords (breakerOf ws) ≡ ws
 
 -- whatever the words, what they are read as fits its types
 abbrev pub ReadTyped : Type 0

@@ -15,9 +15,9 @@ use Rattle.lent.specs.BreakerWords.{breakerOf, wordsFit}
 abbrev pub someSource : List ℕ
 someSource = (2 ^ 64 - 1) ∷ 65536 ∷ 0 ∷ 0 ∷ 1 ∷ 1 ∷ 0 ∷ 5 ∷ 0 ∷ 65536 ∷ []
 
--- stopped by the media rule, in a trial, a packet heard after the last report, with two intervals in its window
+-- with the full equation, stopped by the media rule, in a trial, a packet heard after the last report, with two intervals in its window
 abbrev pub someBreaker : List ℕ
-someBreaker = (3 ∷ 3 ∷ 15000 ∷ 1 ∷ 2 ∷ 5000 ∷ 6000 ∷ 1 ∷ (2 ^ 32 - 1) ∷ 2 ∷ 1 ∷ 2 ∷ 2000 ∷ 20 ∷ 1000 ∷ 255 ∷ []) ++ replicate 60 0
+someBreaker = (3 ∷ 3 ∷ 15000 ∷ 1 ∷ 1 ∷ 2 ∷ 5000 ∷ 6000 ∷ 1 ∷ (2 ^ 32 - 1) ∷ 2 ∷ 1 ∷ 2 ∷ 2000 ∷ 20 ∷ 1000 ∷ 255 ∷ []) ++ replicate 60 0
 
 pub record Met : Type 0 where
   -- RecordBack, WordsBack
@@ -29,5 +29,5 @@ pub record Met : Type 0 where
   pub highest-word : getD someSource 1 0 < 2 ^ 64
   -- BreakerRestored, WordsRestored
   pub breaker-typed : Typed (breakerOf someBreaker)
-  pub breaker-long : length someBreaker ≡ 76
+  pub breaker-long : length someBreaker ≡ 77
   pub breaker-fits : all (wordsFit someBreaker) ≡ true

@@ -1,4 +1,4 @@
-// The breaker's record as 76 words.
+// The breaker's record as 77 words.
 ghost use mathlib.Core.Path.{_≡_};
 ghost use lib.ListN.{drop};
 ghost use lib.Seq.{sets};
@@ -15,9 +15,9 @@ use breaker::State;
 use breaker::Window;
 
 // The words of a record, and the places before those of its intervals.
-pub const WORDS: usize = 76;
+pub const WORDS: usize = 77;
 
-const HEAD: usize = 12;
+const HEAD: usize = 13;
 
 const NUMBERS: u64 = 0x1_0000_0000;
 
@@ -39,7 +39,7 @@ fn state_number(state: State) -> u64
 
 // Stores two words for each interval, behind the others.
 fn store_intervals(xs: [Interval; 32], words: &mut [u64])
-    ensures { λ _. ⌜ now (words .exit) ≡ sets (now (words .entry)) 12 (intervalWords xs) ⌝ }
+    ensures { λ _. ⌜ now (words .exit) ≡ sets (now (words .entry)) 13 (intervalWords xs) ⌝ }
 {
     let mut i: usize = 0;
     while i < 32 {
@@ -65,6 +65,7 @@ pub fn store(b: Breaker, words: &mut [u64])
         settings.m,
         settings.timeout,
         settings.reduce as u64,
+        settings.full as u64,
         stopped,
         b.last,
         b.heard,
@@ -97,17 +98,19 @@ fn settings_in(words: &[u64]) -> Settings
     let m = word_at(words, 1);
     let timeout = word_at(words, 2);
     let reduce = word_at(words, 3);
+    let full = word_at(words, 4);
     Settings {
         k: k as usize,
         m,
         timeout,
         reduce: reduce == 1,
+        full: full == 1,
     }
 }
 
 // The 32 intervals behind the other words.
 fn intervals_in(words: &[u64]) -> [Interval; 32]
-    ensures { λ r. ⌜ r ≡ intervalsOf 32 (drop 12 (now (words .entry))) ⌝ }
+    ensures { λ r. ⌜ r ≡ intervalsOf 32 (drop 13 (now (words .entry))) ⌝ }
 {
     let zero = Interval {
         length: 0,
@@ -130,7 +133,7 @@ fn intervals_in(words: &[u64]) -> [Interval; 32]
 fn window_in(words: &[u64]) -> Window
     ensures { λ r. ⌜ r ≡ windowOf (now (words .entry)) ⌝ }
 {
-    let used = word_at(words, 11);
+    let used = word_at(words, 12);
     let intervals = intervals_in(words);
     Window {
         used: used as usize,
@@ -143,13 +146,13 @@ fn breaker_in(words: &[u64]) -> Breaker
     ensures { λ r. ⌜ r ≡ breakerOf (now (words .entry)) ⌝ }
 {
     let settings = settings_in(words);
-    let state = state_of(word_at(words, 4));
-    let last = word_at(words, 5);
-    let heard = word_at(words, 6);
-    let reported = word_at(words, 7);
-    let highest = word_at(words, 8);
-    let run = word_at(words, 9);
-    let trial = word_at(words, 10);
+    let state = state_of(word_at(words, 5));
+    let last = word_at(words, 6);
+    let heard = word_at(words, 7);
+    let reported = word_at(words, 8);
+    let highest = word_at(words, 9);
+    let run = word_at(words, 10);
+    let trial = word_at(words, 11);
     let window = window_in(words);
     Breaker {
         settings,
@@ -171,16 +174,19 @@ fn do_fit(words: &[u64]) -> bool
     if 1 < word_at(words, 3) {
         return false;
     }
-    if 3 < word_at(words, 4) {
+    if 1 < word_at(words, 4) {
         return false;
     }
-    if 1 < word_at(words, 7) {
+    if 3 < word_at(words, 5) {
         return false;
     }
-    if NUMBERS <= word_at(words, 8) {
+    if 1 < word_at(words, 8) {
         return false;
     }
-    word_at(words, 10) <= 1
+    if NUMBERS <= word_at(words, 9) {
+        return false;
+    }
+    word_at(words, 11) <= 1
 }
 
 // The record that the words are read as, and whether they are its words.

@@ -10,15 +10,15 @@ use mathlib.Core.List.{map}
 use native.Mathlib.Nat.{zero-add}
 use Rattle.answers.specs.Conditions.{all}
 use Rattle.breaker.specs.Windows.{W, P, zeroInterval}
-use Rattle.breaker.specs.Private.{roomy}
+use Rattle.breaker.specs.Private.{intervalOk}
 use Rattle.breaker.specs.declared.Interval.{Interval}
-use Rattle.breaker.proofs.Places.{first-ok, rest-ok, sum-next, room-length, room-product, room-fraction}
+use Rattle.breaker.proofs.Places.{first-ok, rest-ok, sum-next, length-most, product-most, fraction-most}
 use Rattle.breaker.proofs.intervals.summed.Statement.{statement}
 use Rattle.breaker.proofs.intervals.summed.Tie as tie
 
 abbrev Inv-loop : tie.InvT-loop
 Inv-loop n xs w₀ p₀ i₀ w p i =
-    (i ≤ n) × (length xs ≡ 32) × (w ≤ i * 10000000) × (p ≤ i * 2550000000) × (all (map roomy (slice i n xs)) ≡ true) × (w + W (slice i n xs) ≡ W (take n xs)) × (p + P (slice i n xs) ≡ P (take n xs))
+    (i ≤ n) × (length xs ≡ 32) × (w ≤ i * 10000000) × (p ≤ i * 2550000000) × (all (map intervalOk (slice i n xs)) ≡ true) × (w + W (slice i n xs) ≡ W (take n xs)) × (p + P (slice i n xs) ≡ P (take n xs))
 
 abbrev μ-loop : tie.MeasureT-loop
 μ-loop n xs w₀ p₀ i₀ w p i = n - i
@@ -37,10 +37,10 @@ add-w c =
     let s = c .before .before .before .before .args in
     let i = c .before .before .before .loop in
     let h : s .n ≤ length (s .t1) = omega arith in
-    let ok = first-ok roomy (i .i) (s .n) (s .t1) (c .before .before .loop-test .taken) h (i .inv .4) in
-    let a = room-length (getD (s .t1) (i .i) zeroInterval) ok in
-    let b = room-product (getD (s .t1) (i .i) zeroInterval) ok in
-    let f = room-fraction (getD (s .t1) (i .i) zeroInterval) ok in
+    let ok = first-ok intervalOk (i .i) (s .n) (s .t1) (c .before .before .loop-test .taken) h (i .inv .4) in
+    let a = length-most (getD (s .t1) (i .i) zeroInterval) ok in
+    let b = product-most (getD (s .t1) (i .i) zeroInterval) ok in
+    let f = fraction-most (getD (s .t1) (i .i) zeroInterval) ok in
     omega arith
 
 mul-p : tie.Need-mul-p Inv-loop μ-loop
@@ -48,10 +48,10 @@ mul-p c =
     let s = c .before .before .before .before .before .args in
     let i = c .before .before .before .before .loop in
     let h : s .n ≤ length (s .t1) = omega arith in
-    let ok = first-ok roomy (i .i) (s .n) (s .t1) (c .before .before .before .loop-test .taken) h (i .inv .4) in
-    let a = room-length (getD (s .t1) (i .i) zeroInterval) ok in
-    let b = room-product (getD (s .t1) (i .i) zeroInterval) ok in
-    let f = room-fraction (getD (s .t1) (i .i) zeroInterval) ok in
+    let ok = first-ok intervalOk (i .i) (s .n) (s .t1) (c .before .before .before .loop-test .taken) h (i .inv .4) in
+    let a = length-most (getD (s .t1) (i .i) zeroInterval) ok in
+    let b = product-most (getD (s .t1) (i .i) zeroInterval) ok in
+    let f = fraction-most (getD (s .t1) (i .i) zeroInterval) ok in
     omega arith
 
 add-p : tie.Need-add-p Inv-loop μ-loop
@@ -59,10 +59,10 @@ add-p c =
     let s = c .before .before .before .before .before .args in
     let i = c .before .before .before .before .loop in
     let h : s .n ≤ length (s .t1) = omega arith in
-    let ok = first-ok roomy (i .i) (s .n) (s .t1) (c .before .before .before .loop-test .taken) h (i .inv .4) in
-    let a = room-length (getD (s .t1) (i .i) zeroInterval) ok in
-    let b = room-product (getD (s .t1) (i .i) zeroInterval) ok in
-    let f = room-fraction (getD (s .t1) (i .i) zeroInterval) ok in
+    let ok = first-ok intervalOk (i .i) (s .n) (s .t1) (c .before .before .before .loop-test .taken) h (i .inv .4) in
+    let a = length-most (getD (s .t1) (i .i) zeroInterval) ok in
+    let b = product-most (getD (s .t1) (i .i) zeroInterval) ok in
+    let f = fraction-most (getD (s .t1) (i .i) zeroInterval) ok in
     omega arith
 
 add-i : tie.Need-add-i Inv-loop μ-loop
@@ -76,16 +76,16 @@ loop-again c =
     let s = c .before .before .before .before .before .args in
     let i = c .before .before .before .before .loop in
     let h : s .n ≤ length (s .t1) = omega arith in
-    let ok = first-ok roomy (i .i) (s .n) (s .t1) (c .before .before .before .loop-test .taken) h (i .inv .4) in
-    let a = room-length (getD (s .t1) (i .i) zeroInterval) ok in
-    let b = room-product (getD (s .t1) (i .i) zeroInterval) ok in
-    let f = room-fraction (getD (s .t1) (i .i) zeroInterval) ok in
+    let ok = first-ok intervalOk (i .i) (s .n) (s .t1) (c .before .before .before .loop-test .taken) h (i .inv .4) in
+    let a = length-most (getD (s .t1) (i .i) zeroInterval) ok in
+    let b = product-most (getD (s .t1) (i .i) zeroInterval) ok in
+    let f = fraction-most (getD (s .t1) (i .i) zeroInterval) ok in
     let t = c .before .before .before .loop-test .taken in (
       omega arith,
       i .inv .1,
       omega arith,
       omega arith,
-      rest-ok roomy (i .i) (s .n) (s .t1) t h (i .inv .4),
+      rest-ok intervalOk (i .i) (s .n) (s .t1) t h (i .inv .4),
       omega (arith, sum-next (λ (x : Interval). x .length) (i .i) (s .n) (s .t1) t h),
       omega (arith, sum-next (λ (x : Interval). x .fraction * x .length) (i .i) (s .n) (s .t1) t h),
     )

@@ -5,17 +5,17 @@ use native.Mathlib.Omega.{arith}
 use mathlib.Core.Bool.{true, not}
 use borrow.Author.Tests.{lt-ltb, le-ltb}
 use mathlib.Core.List.{map}
-use lib.ListN.{length, take}
+use lib.ListN.{length}
 use Rattle.answers.proofs.Conditions.{cond-ends, cond-goes, was-false, was-true}
 use Rattle.answers.specs.Conditions.{all}
 use Rattle.breaker.specs.declared.Answer.the-variants.{Go, Reduce}
 use Rattle.breaker.specs.declared.Window.{Window}
 use Rattle.breaker.specs.declared.Step.{Step}
 use Rattle.breaker.specs.Answers.{answers}
-use Rattle.breaker.specs.Rules.{stored, windowAfter}
-use Rattle.breaker.specs.Private.{roomy, tested}
+use Rattle.breaker.specs.Rules.{stored, windowAfter, lastIntervals}
+use Rattle.breaker.specs.Private.{intervalOk, tested}
 use Rattle.breaker.proofs.Places.{length-mapped}
-use Rattle.breaker.proofs.Facts.{settings-of, k-high, after-roomy}
+use Rattle.breaker.proofs.Facts.{settings-of, after-intervals}
 use Rattle.breaker.proofs.rules.tested.Statement.{statement}
 use Rattle.breaker.proofs.rules.tested.Tie as tie
 
@@ -24,12 +24,12 @@ long : (c : tie.Start) → length (c .args .b .window .intervals) ≡ 32
 long c = search (needs, length-mapped)
 
 -- the answer may be shown with the window as the program has it
-shown : (c : tie.After-window-after) {z : Step} → z ≡ tested (c .before .args .b) (c .before .args .r) (c .before .args .run) (c .window-after .result)
-    → z ≡ tested (c .before .args .b) (c .before .args .r) (c .before .args .run) (windowAfter (c .before .args .b) (c .before .args .r))
-shown c e = e ∙ ap (tested (c .before .args .b) (c .before .args .r) (c .before .args .run)) (c .window-after .ensures)
+shown : (c : tie.After-window-after) {z : Step} → z ≡ tested (c .before .before .args .b) (c .before .before .args .r) (c .before .before .args .run) (c .window-after .result)
+    → z ≡ tested (c .before .before .args .b) (c .before .before .args .r) (c .before .before .args .run) (windowAfter (c .before .before .args .b) (c .before .before .args .r))
+shown c e = e ∙ ap (tested (c .before .before .args .b) (c .before .before .args .r) (c .before .before .args .run)) (c .window-after .ensures)
 
 window-after-requires : tie.Need-window-after-requires
-window-after-requires c κs = c .pre
+window-after-requires c κs = c .before .pre
 
 stored-requires : tie.Need-stored-requires
 stored-requires c κs = search needs
@@ -40,18 +40,18 @@ answered-requires c κs = search needs
 returns : tie.Need-returns
 unfolding tested
 returns c =
-    shown (c .before .before .before)
+    shown (c .before .before .before .before)
     (cond-ends _ _ _ _ (lt-ltb _ _ (c .before .before .if1 .taken)) (c .answered .ensures ∙ ap (answers Go) (c .before .stored .ensures)))
 
 exceeds-requires : tie.Need-exceeds-requires
 unfolding windowAfter
 exceeds-requires c κs =
-    let b = c .before .before .args .b in
-    let h = c .before .before .pre in
-    let e = c .before .window-after .ensures in (
-      k-high (b .settings) (settings-of b (h .isSound)),
-      ap (λ (w : Window). all (map roomy (take (b .settings .k) (w .intervals)))) e
-          ∙ after-roomy b (c .before .before .args .r) h (long (c .before .before)) (omega (arith, c .if1 .left, ap (λ (w : Window). w .used) e)),
+    let b = c .before .before .before .before .args .b in
+    let h = c .before .before .before .before .pre in
+    let e = c .before .before .window-after .ensures in (
+      settings-of b (h .isSound),
+      ap (λ (w : Window). all (map intervalOk (lastIntervals (b .settings) w))) e
+          ∙ after-intervals b (c .before .before .before .before .args .r) h (long (c .before .before .before .before)) (omega (arith, c .if1 .left, ap (λ (w : Window). w .used) e)),
       h .inLimits,
     )
 
@@ -64,7 +64,7 @@ answered-requires-2 c κs = search needs
 returns-2 : tie.Need-returns-2
 unfolding tested
 returns-2 c =
-    shown (c .before .before .before .before .before)
+    shown (c .before .before .before .before .before .before)
     (cond-goes _ _ _ _ (le-ltb _ _ (c .before .before .before .before .if1 .left))
     (cond-ends _ _ _ _ (ap not (was-false (c .before .before .before .exceeds .ensures) (c .before .before .if2 .taken))) (c .answered2 .ensures ∙ ap (answers Go) (c .before .stored2 .ensures))))
 
@@ -83,11 +83,12 @@ answered-requires-3 c κs = search needs
 returns-3 : tie.Need-returns-3
 unfolding tested
 returns-3 c =
-    shown (c .before .before .before .before .before .before .before .before)
+    let s = c .before .before .before .before .before .before .before .before .before .before .before .args in
+    shown (c .before .before .before .before .before .before .before .before .before)
     (cond-goes _ _ _ _ (le-ltb _ _ (c .before .before .before .before .before .before .before .if1 .left))
     (cond-goes _ _ _ _ (ap not (was-true (c .before .before .before .before .before .before .exceeds .ensures) (c .before .before .before .before .before .if2 .left)))
     (cond-ends _ _ _ _ (sym (c .before .before .before .before .may-reduce .ensures) ∙ c .before .before .before .if3 .taken)
-    (c .answered3 .ensures ∙ ap (answers Reduce) (c .before .stored3 .ensures ∙ ap (stored (c .before .before .before .before .before .before .before .before .before .args .b) (c .before .before .before .before .before .before .before .before .before .args .r) (c .before .before .before .before .before .before .before .before .before .args .run) true) (c .before .before .empty .ensures))))))
+    (c .answered3 .ensures ∙ ap (answers Reduce) (c .before .stored3 .ensures ∙ ap (stored (s .b) (s .r) (s .run) true) (c .before .before .empty .ensures))))))
 
 stopped-requires : tie.Need-stopped-requires
 stopped-requires c κs = search needs
@@ -95,7 +96,7 @@ stopped-requires c κs = search needs
 returns-4 : tie.Need-returns-4
 unfolding tested
 returns-4 c =
-    shown (c .before .before .before .before .before .before)
+    shown (c .before .before .before .before .before .before .before)
     (cond-goes _ _ _ _ (le-ltb _ _ (c .before .before .before .before .before .if1 .left))
     (cond-goes _ _ _ _ (ap not (was-true (c .before .before .before .before .exceeds .ensures) (c .before .before .before .if2 .left)))
     (cond-goes _ _ _ _ (sym (c .before .before .may-reduce .ensures) ∙ c .before .if3 .left) (c .stopped .ensures))))

@@ -22,6 +22,17 @@ returns c =
     let t = lt-leb (a .reduce) 1 (c .before .if1 .taken) in
     start-is (now (a .breaker)) (cond-ends _ _ _ unstarted (ap not t) refl) (start-refused (unstarted .answer) (breakerWords (unstarted .breaker)) (now (a .breaker)) refl (c .code .ensures))
 
+code-requires-2 : tie.Need-code-requires-2
+code-requires-2 c κs = search needs
+
+returns-2 : tie.Need-returns-2
+unfolding starts
+returns-2 c =
+    let a = c .before .before .before .before .args in
+    let reduce = le-leb (a .reduce) 1 (c .before .before .if1 .left) in
+    let full = lt-leb (a .full) 1 (c .before .if2 .taken) in
+    start-is (now (a .breaker)) (cond-goes _ _ _ _ (ap not reduce) (cond-ends _ _ _ unstarted (ap not full) refl)) (start-refused (unstarted .answer) (breakerWords (unstarted .breaker)) (now (a .breaker)) refl (c .code2 .ensures))
+
 start-requires : tie.Need-start-requires
 start-requires c κs = search needs
 
@@ -31,14 +42,23 @@ put-front-requires c κs = search needs
 same-length : tie.Need-same-length
 same-length c = search needs
 
-returns-2 : tie.Need-returns-2
+returns-3 : tie.Need-returns-3
 unfolding starts
-returns-2 c =
-    let a = c .before .before .before .before .before .before .before .args in
-    let t = le-leb (a .reduce) 1 (c .before .before .before .before .before .if1 .left) in
-    start-is (now (a .breaker)) (cond-goes _ _ _ _ (ap not t) (c .before .before .before .before .start .ensures)) (c .before .before .put-front .ensures)
+returns-3 c =
+    let a = c .before .before .before .before .before .before .before .before .args in
+    let reduce = le-leb (a .reduce) 1 (c .before .before .before .before .before .before .if1 .left) in
+    let full = le-leb (a .full) 1 (c .before .before .before .before .before .if2 .left) in
+    start-is (now (a .breaker)) (cond-goes _ _ _ _ (ap not reduce) (cond-goes _ _ _ _ (ap not full) (c .before .before .before .before .start .ensures))) (c .before .before .put-front .ensures)
 
 pub flasknib-breaker-start-spec : {M : Type 1} → statement M
 flasknib-breaker-start-spec =
     tie.close
-    (tie.spec code-requires returns start-requires put-front-requires same-length returns-2)
+    (tie.spec
+    code-requires
+    returns
+    code-requires-2
+    returns-2
+    start-requires
+    put-front-requires
+    same-length
+    returns-3)

@@ -19,13 +19,13 @@ returns : tie.Need-returns
 returns c =
     let ws = now (c .before .before .before .before .args .words) in
     let load = c .before .before .load .ensures in
-    let unfit : false ≡ isRecord ws = and-ends _ _ (ne-eqb (length ws) 76 (c .before .if1 .taken)) in
+    let unfit : false ≡ isRecord ws = and-ends _ _ (ne-eqb (length ws) 77 (c .before .if1 .taken)) in
     λ i. record { ok = unfit i; breaker = load i .breaker }
 
 returns-2 : tie.Need-returns-2
 returns-2 c =
     let ws = now (c .before .before .before .args .words) in
-    let fit : all (wordsFit ws) ≡ isRecord ws = and-goes _ _ _ (eq-eqb (length ws) 76 (c .if1 .left)) refl in
+    let fit : all (wordsFit ws) ≡ isRecord ws = and-goes _ _ _ (eq-eqb (length ws) 77 (c .if1 .left)) refl in
     c .before .load .ensures ∙ (λ i. record { ok = fit i; breaker = breakerOf ws })
 
 pub record-in-spec : {M : Type 1} → statement M

@@ -13,7 +13,7 @@ use Rattle.lent.proofs.breaker_words.intervals_in.Statement.{statement}
 use Rattle.lent.proofs.breaker_words.intervals_in.Tie as tie
 
 abbrev Inv-loop : tie.InvT-loop
-Inv-loop words next₀ i₀ next i = (i ≤ 32) × (length next ≡ 32) × (take i next ++ intervalsOf (32 - i) (drop (12 + 2 * i) words) ≡ intervalsOf 32 (drop 12 words))
+Inv-loop words next₀ i₀ next i = (i ≤ 32) × (length next ≡ 32) × (take i next ++ intervalsOf (32 - i) (drop (13 + 2 * i) words) ≡ intervalsOf 32 (drop 13 words))
 
 abbrev μ-loop : tie.MeasureT-loop
 μ-loop words next₀ i₀ next i = 32 - i
@@ -52,8 +52,8 @@ loop-again : tie.Need-loop-again Inv-loop μ-loop
 loop-again c =
     let l = c .before .before .before .loop in
     let ws = now (c .before .before .before .before .before .args .words) in
-    let at = 12 + 2 * l .i in
-    let q : 12 + 2 * (l .i + 1) ≡ at + 2 = omega arith in
+    let at = 13 + 2 * l .i in
+    let q : 13 + 2 * (l .i + 1) ≡ at + 2 = omega arith in
     let h : l .i < length (l .next) = omega arith in
     let first = c .before .word-at .ensures in
     let second = c .word-at2 .ensures in (
@@ -70,7 +70,7 @@ returns c =
     let ws = now (c .before .before .before .args .words) in
     let e : l .i ≡ 32 = omega arith in
     let all : l .next ≡ take 32 (l .next) ++ [] = sym (append-nil (take 32 (l .next)) ∙ take-all 32 (l .next) (omega arith)) in
-    all ∙ sym (ap (λ (n : ℕ). take n (l .next) ++ intervalsOf (32 - n) (drop (12 + 2 * n) ws)) e) ∙ l .inv .2
+    all ∙ sym (ap (λ (n : ℕ). take n (l .next) ++ intervalsOf (32 - n) (drop (13 + 2 * n) ws)) e) ∙ l .inv .2
 
 pub intervals-in-spec : {M : Type 1} → statement M
 intervals-in-spec =

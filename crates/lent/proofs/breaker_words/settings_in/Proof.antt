@@ -17,12 +17,15 @@ word-at-requires-3 c κs = search needs
 word-at-requires-4 : tie.Need-word-at-requires-4
 word-at-requires-4 c κs = search needs
 
+word-at-requires-5 : tie.Need-word-at-requires-5
+word-at-requires-5 c κs = search needs
+
 returns : tie.Need-returns
 unfolding settingsOf
 returns c =
-    λ i. record { k = c .before .before .before .word-at .ensures i; m = c .before .before .word-at2 .ensures i; timeout = c .before .word-at3 .ensures i; reduce = eqb (c .word-at4 .ensures i) 1 }
+    λ i. record { k = c .before .before .before .before .word-at .ensures i; m = c .before .before .before .word-at2 .ensures i; timeout = c .before .before .word-at3 .ensures i; reduce = eqb (c .before .word-at4 .ensures i) 1; full = eqb (c .word-at5 .ensures i) 1 }
 
 pub settings-in-spec : {M : Type 1} → statement M
 settings-in-spec =
     tie.close
-    (tie.spec word-at-requires word-at-requires-2 word-at-requires-3 word-at-requires-4 returns)
+    (tie.spec word-at-requires word-at-requires-2 word-at-requires-3 word-at-requires-4 word-at-requires-5 returns)

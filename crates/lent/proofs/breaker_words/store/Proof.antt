@@ -25,6 +25,9 @@ cast-t12 c = search needs
 cast-t13 : tie.Need-cast-t13
 cast-t13 c = search needs
 
+cast-t14 : tie.Need-cast-t14
+cast-t14 c = search needs
+
 slice-aggregate-put-all : tie.Need-slice-aggregate-put-all
 slice-aggregate-put-all c = search needs
 
@@ -40,14 +43,14 @@ same-length c = search needs
 returns : tie.Need-returns
 unfolding breakerWords
 returns c =
-    let a = c .before .before .before .before .before .before .before .before .before .before .before .before .before .before .before .before .before .before .args in
+    let a = c .before .before .before .before .before .before .before .before .before .before .before .before .before .before .before .before .before .before .before .args in
     let b = a .b in
     let old = now (a .words) in
-    let state = c .before .before .before .before .before .before .before .before .before .before .before .before .before .state-number .ensures in
+    let state = c .before .before .before .before .before .before .before .before .before .before .before .before .before .before .state-number .ensures in
     let head : _ ≡ _ =
-    λ i. b .settings .k ∷ b .settings .m ∷ b .settings .timeout ∷ as-flag (b .settings .reduce) i ∷ state i ∷ b .last ∷ b .heard ∷ as-flag (b .reported) i ∷ b .highest ∷ b .run ∷ as-flag (b .trial) i ∷ b .window .used ∷ [] in
+    λ i. b .settings .k ∷ b .settings .m ∷ b .settings .timeout ∷ as-flag (b .settings .reduce) i ∷ as-flag (b .settings .full) i ∷ state i ∷ b .last ∷ b .heard ∷ as-flag (b .reported) i ∷ b .highest ∷ b .run ∷ as-flag (b .trial) i ∷ b .window .used ∷ [] in
     c .before .before .store-intervals .ensures
-    ∙ ap (λ (o : List ℕ). sets o 12 (intervalWords (b .window .intervals))) (c .before .before .before .before .before .before .put-all .ensures ∙ ap (sets old 0) head)
+    ∙ ap (λ (o : List ℕ). sets o 13 (intervalWords (b .window .intervals))) (c .before .before .before .before .before .before .put-all .ensures ∙ ap (sets old 0) head)
 
 pub store-spec : {M : Type 1} → statement M
 store-spec =
@@ -58,6 +61,7 @@ store-spec =
     cast-t11
     cast-t12
     cast-t13
+    cast-t14
     slice-aggregate-put-all
     put-all-requires
     store-intervals-requires

@@ -14,7 +14,7 @@ use Rattle.lent.proofs.breaker_words.store_intervals.Statement.{stateme
 use Rattle.lent.proofs.breaker_words.store_intervals.Tie as tie
 
 abbrev Inv-loop : tie.InvT-loop
-Inv-loop words₀ xs i₀ words i = (length words ≡ length words₀) × (i ≤ 32) × (length xs ≡ 32) × (sets words (12 + 2 * i) (intervalWords (drop i xs)) ≡ sets words₀ 12 (intervalWords xs))
+Inv-loop words₀ xs i₀ words i = (length words ≡ length words₀) × (i ≤ 32) × (length xs ≡ 32) × (sets words (13 + 2 * i) (intervalWords (drop i xs)) ≡ sets words₀ 13 (intervalWords xs))
 
 abbrev μ-loop : tie.MeasureT-loop
 μ-loop words₀ xs i₀ words i = 32 - i
@@ -54,8 +54,8 @@ loop-again c =
     let l = c .before .before .before .before .before .before .before .before .before .before .loop in
     let xs = c .before .before .before .before .before .before .before .before .before .before .before .before .args .t1 in
     let h : l .i < length xs = omega arith in
-    let at = 12 + 2 * l .i in
-    let q : 12 + 2 * (l .i + 1) ≡ at + 2 = omega arith in
+    let at = 13 + 2 * l .i in
+    let q : 13 + 2 * (l .i + 1) ≡ at + 2 = omega arith in
     let x = getD xs (l .i) zeroInterval in
     let stored = c .before .before .put2 .ensures ∙ ap (λ (o : List ℕ). set o (at + 1) (x .fraction)) (c .before .before .before .before .before .before .put .ensures) in (
       c .before .before .put2 .kept .1 .0 ∙ c .before .before .before .before .before .before .put .kept .1 .0 ∙ l .inv .0,
@@ -73,7 +73,7 @@ returns c =
     let l = c .before .loop in
     let xs = c .before .before .before .args .t1 in
     let h : length xs ≤ l .i = omega arith in
-    sym (ap (λ (t : List Interval). sets (l .words) (12 + 2 * l .i) (intervalWords t)) (drop-of-length-le xs h)) ∙ l .inv .3
+    sym (ap (λ (t : List Interval). sets (l .words) (13 + 2 * l .i) (intervalWords t)) (drop-of-length-le xs h)) ∙ l .inv .3
 
 pub store-intervals-spec : {M : Type 1} → statement M
 store-intervals-spec =
