@@ -1,5 +1,5 @@
 -- Without heard calls every run answers as before request L4. Assumes nothing.
-use mathlib.Core.Path.{_≡_, refl, sym, ap, _∙_, subst}
+use mathlib.Core.Path.{_≡_, refl, sym, ap, _∙_}
 use mathlib.Core.Bool.{Bool, true, false, not, _&&_, _||_, cond, false≢true}
 use mathlib.Core.List.{List, [], _∷_, map}
 use Prim.Native.Nat.{ℕ, suc, _+_, _-_, _≤_, _<_, min}
@@ -15,7 +15,6 @@ use Rattle.breaker.specs.declared.Reason.the-variants.{Timeout, Media, C
 use Rattle.breaker.specs.declared.Settings.{Settings}
 use Rattle.breaker.specs.declared.State.{State}
 use Rattle.breaker.specs.declared.State.the-variants.{Running, Stopped}
-use Rattle.breaker.specs.declared.Interval.{Interval}
 use Rattle.breaker.specs.declared.Window.{Window}
 use Rattle.breaker.specs.declared.Breaker.{Breaker}
 use Rattle.breaker.specs.declared.Report.{Report}
@@ -35,7 +34,6 @@ use Rattle.breaker.specs.HeardPackets.{Unheard, CallAsBefore, RunAsBefor
 use Rattle.breaker.proofs.Chains.{by-test}
 use Rattle.breaker.proofs.Places.{front-first}
 use Rattle.breaker.proofs.Facts.{settings-of, k-high, timeout-high}
-use Rattle.breaker.proofs.Calls.{Held}
 use Rattle.breaker.proofs.Runs.{call-held, start-held}
 
 -- the next record has heard no packet, and its lengths are short

@@ -13,7 +13,6 @@ use Rattle.answers.proofs.Conditions.{and-left, and-right, all-true}
 use Rattle.breaker.specs.declared.State.{State}
 use Rattle.breaker.specs.declared.State.the-variants.{Running}
 use Rattle.breaker.specs.declared.Settings.{Settings}
-use Rattle.breaker.specs.declared.Interval.{Interval}
 use Rattle.breaker.specs.declared.Breaker.{Breaker}
 use Rattle.breaker.specs.declared.Report.{Report}
 use Rattle.breaker.specs.Limits.{within, settingsOk, timeOk, lossOk, reportOk}

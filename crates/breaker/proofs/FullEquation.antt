@@ -1,9 +1,9 @@
 -- The setting of the full equation: off it changes nothing, and on it triggers only where the exact equation does. Assumes nothing.
 use mathlib.Core.Path.{_≡_, refl, sym, _∙_, ap}
-use mathlib.Core.Bool.{Bool, false}
-use Prim.Native.Nat.{ℕ, _*_, _/_, _<_}
+use mathlib.Core.Bool.{Bool}
+use Prim.Native.Nat.{ℕ}
 use native.Mathlib.Nat.{div-eq-of-lt}
-use Rattle.roots.specs.FullCondition.{conditionAt, fullCondition}
+use Rattle.roots.specs.FullCondition.{conditionAt}
 use Rattle.roots.proofs.Exact.{exact-triggers-too, full-example}
 use Rattle.roots.proofs.Losses.{never-at-zero}
 use Rattle.breaker.specs.declared.Settings.{Settings}

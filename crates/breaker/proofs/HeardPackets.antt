@@ -2,7 +2,7 @@
 use mathlib.Core.Path.{_≡_, refl, sym, ap, _∙_, subst}
 use mathlib.Core.Bool.{Bool, true, false, not, _&&_, cond, false≢true, true≢false}
 use mathlib.Core.List.{List, [], _∷_, map}
-use Prim.Native.Nat.{ℕ, _<_, _≤_}
+use Prim.Native.Nat.{ℕ}
 use native.Mathlib.Omega.{arith}
 use lib.Dec.{leb, ltb, eqb}
 use Rattle.answers.specs.Conditions.{all}
@@ -24,7 +24,7 @@ use Rattle.breaker.specs.Soundness.{sound}
 use Rattle.breaker.specs.Rules.{late, runAfter, windowAfter, holds, ruledBy, ruled}
 use Rattle.breaker.specs.Calls.{unlessStopped, startOf, reportOf, early, timed, tickOf, holding, heardOf}
 use Rattle.breaker.specs.Runs.{Call, report, tick, heard, called, answersOf, after}
-use Rattle.breaker.specs.HeardPackets.{HeardHolds, untimed, HeardUnseen, LongIsCut, LongInterval}
+use Rattle.breaker.specs.HeardPackets.{HeardHolds, untimed, HeardUnseen, LongIsCut, LongInterval, SomeUnseen}
 use Rattle.breaker.proofs.Chains.{by-test}
 
 -- ---- two steps that answer the same, and whose records differ in the time held alone
@@ -156,3 +156,7 @@ long-is-cut b r = record { long = λ h. omega arith; short = λ h. omega arith }
 pub long-interval : LongInterval
 unfolding since settingsOk reportOk emptyWindow sound runAfter windowAfter holds ruledBy ruled startOf reportOf timed heardOf called answersOf after
 long-interval = record { heard = refl; unheard = refl }
+
+pub some-unseen : SomeUnseen
+unfolding since settingsOk reportOk emptyWindow sound runAfter windowAfter holds ruledBy ruled startOf reportOf timed tickOf called answersOf
+some-unseen = record { first = refl; second = refl }

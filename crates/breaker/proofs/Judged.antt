@@ -1,5 +1,5 @@
 -- A report is judged by the fraction that its losses give. Assumes nothing.
-use mathlib.Core.Path.{_≡_, refl, sym, _∙_, ap}
+use mathlib.Core.Path.{refl, sym, _∙_, ap}
 use mathlib.Core.Bool.{Bool, not, cond}
 use mathlib.Core.List.{[], _∷_}
 use borrow.Author.Tests.{le-leb}
@@ -7,10 +7,9 @@ use lib.Dec.{leb, ltb}
 use Rattle.answers.specs.declared.Refusal.the-variants.{Limits, Time}
 use Rattle.answers.specs.Conditions.{all}
 use Rattle.numbers.specs.Since.{since}
-use Rattle.breaker.specs.declared.Loss.the-variants.{Fraction}
 use Rattle.breaker.specs.Answers.{refuses}
-use Rattle.breaker.specs.Limits.{within, settingsOk, timeOk, countsOk, lossOk, reportOk}
-use Rattle.breaker.specs.FractionLost.{countsFraction, fractionOf}
+use Rattle.breaker.specs.Limits.{within, settingsOk, timeOk, countsOk, reportOk}
+use Rattle.breaker.specs.FractionLost.{countsFraction}
 use Rattle.breaker.specs.Windows.{emptyWindow}
 use Rattle.breaker.specs.Soundness.{sound}
 use Rattle.breaker.specs.Rules.{runAfter, windowAfter, holds, ruledBy, ruled}

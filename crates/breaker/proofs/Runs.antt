@@ -116,7 +116,7 @@ module _ (b : Breaker) (reason : Reason) (h : Halted b reason) where
   halted-answers (c ∷ cs) =
       (λ i. halted-call c i .answer ∷ answersOf (halted-call c i .breaker) cs) ∙ ap (λ (l : List Answer). Stop reason ∷ l) (halted-answers cs)
 
-  halted-after : (later : List Call) → after b later ≡ b
+  pub halted-after : (later : List Call) → after b later ≡ b
   unfolding after
   halted-after [] = refl
   halted-after (c ∷ cs) = ap (λ (s : Step). after (s .breaker) cs) (halted-call c) ∙ halted-after cs

@@ -13,7 +13,7 @@ use Rattle.breaker.specs.declared.Report.{Report}
 use Rattle.breaker.specs.Windows.{W, P}
 use Rattle.breaker.specs.Condition.{condition}
 use Rattle.breaker.specs.Rules.{lastIntervals, holds}
-use Rattle.breaker.specs.Calls.{preset, startOf}
+use Rattle.breaker.specs.Calls.{preset}
 use Rattle.breaker.specs.Runs.{Call, called}
 
 -- ---- off: the condition is that of the simplified equation, as before

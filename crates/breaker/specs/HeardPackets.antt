@@ -83,3 +83,11 @@ begun = startOf (record { k = 3; m = 3; timeout = 600000; reduce = false; full =
 pub record LongInterval : Type 0 where
   pub heard : getD (after begun (reportAt 1 ∷ between ++ (reportAt 11000001 ∷ [])) .window .intervals) 0 zeroInterval .length ≡ 10000000
   pub unheard : answersOf begun (reportAt 1 ∷ reportAt 11000001 ∷ []) ≡ Go ∷ Stop Timeout ∷ []
+
+-- HeardUnseen's hypotheses can be met: a report, a tick and another report, with two times held
+abbrev pub threeCalls : List Call
+threeCalls = reportAt 1 ∷ tick 2000 ∷ reportAt 3000 ∷ []
+
+pub record SomeUnseen : Type 0 where
+  pub first : all (map untimed (answersOf (holding begun 0) threeCalls)) ≡ true
+  pub second : all (map untimed (answersOf (holding begun 1) threeCalls)) ≡ true

@@ -44,7 +44,7 @@ notAhead number last = eqb (since 32 number last) 0 || leb (2 ^ 31) (since 32 nu
 unfoldable pub runAfter : Breaker → Report → ℕ
 runAfter b r = cond (not (b .reported)) 0 (cond (notAhead (r .highest) (b .highest)) (b .run + 1) 0)
 
--- the interval that this report closes: its length is the time since the last report, and a longer one is stored as 10,000,000 ms
+-- the interval that this report closes: its length is the time since the last report, and one longer than 10,000,000 ms is stored as that
 abbrev pub closed : Breaker → Report → Interval
 closed b r = record { length = min (r .time - b .last) 10000000; fraction = fractionOf (r .loss) }
 
@@ -52,10 +52,11 @@ closed b r = record { length = min (r .time - b .last) 10000000; fraction = frac
 unfoldable pub windowAfter : Breaker → Report → Window
 windowAfter b r = pushed (b .settings .k) (closed b r) (b .window)
 
+-- the last k intervals of a window
 abbrev pub lastIntervals : Settings → Window → List Interval
 lastIntervals s w = take (s .k) (w .intervals)
 
--- the condition over the last k intervals of a window, with this report's rate, Tr and s
+-- the condition over them, with this report's rate, Tr and s
 unfoldable pub holds : Settings → Window → Report → Bool
 holds s w r = conditionBy (s .full) (r .rate) (r .rtt) (P (lastIntervals s w)) (r .size) (W (lastIntervals s w))
 
@@ -77,5 +78,6 @@ ruledBy isLate w b r =
     (cond (b .settings .reduce && not (b .trial)) (reduces (stored b r (runAfter b r) true emptyWindow))
     (stops Congestion b)))))))
 
+-- so for this report
 unfoldable pub ruled : Breaker → Report → Step
 ruled b r = ruledBy (late b (r .time)) (windowAfter b r) b r

@@ -1,6 +1,5 @@
 -- Document 01, "The breaker", as it was before request L4 brought heard packets: the timeout and the refusal 11 go by the last report or start, and
 -- a stored length is the time since then, at most 599,999 ms.
-use mathlib.Core.Path.{_≡_}
 use mathlib.Core.Bool.{Bool, true, false, _&&_, not, cond}
 use mathlib.Core.List.{List, [], _∷_, map}
 use Prim.Native.Nat.{ℕ, _-_}
@@ -23,7 +22,7 @@ use Rattle.breaker.specs.Rules.{ruledBy}
 use Rattle.breaker.specs.Calls.{unlessStopped}
 use Rattle.breaker.specs.Runs.{Call, report, tick, heard}
 
--- a record was sound with lengths to 599,999 alone
+-- a record was sound with lengths to 599,999 alone (it had no time held; here that is the last report's or the start's)
 abbrev pub shortOk : Interval → Bool
 shortOk x = leb (x .length) 599999
 

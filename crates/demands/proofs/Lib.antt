@@ -11,6 +11,7 @@ pub mod ReadBack
 pub mod WorkedExamples
 pub mod Between
 pub mod BetweenReports
+pub mod WorseLoss
 pub mod Witnesses
 pub mod Uses
 pub mod WitnessesBetween

@@ -7,5 +7,6 @@ pub mod Demand3
 pub mod PrintedTable
 pub mod Examples
 pub mod BetweenReports
+pub mod WorseLoss
 pub mod Witnesses
 pub mod WitnessesBetween

@@ -1,7 +1,6 @@
 -- `breaker::equations::exceeds` meets its contract. Assumes nothing.
 use borrow.Author.Needs.{needs}
-use mathlib.Core.Path.{_≡_, sym, _∙_, ap, subst⁻¹}
-use mathlib.Core.Bool.{Bool}
+use mathlib.Core.Path.{_≡_, _∙_, ap, subst⁻¹}
 use lib.ListN.{length}
 use Rattle.roots.specs.FullCondition.{fullCondition}
 use Rattle.answers.proofs.Conditions.{cond-ends, cond-goes}
