@@ -1,4 +1,5 @@
-//! Arrivals of three kinds of link, as endless lists of wire number and mark.
+//! Arrivals of several kinds of link, as endless lists of wire number and mark.
+#![allow(dead_code)] // The programs are timed on the first three only.
 use crate::random::Random;
 
 #[derive(Clone, Copy)]
@@ -6,10 +7,23 @@ pub enum Link {
     InOrder,
     Lossy,
     Reordered,
+    Near,
+    Far,
+    Jumps,
+    Restarts,
 }
 
+/// What links do.
 pub const LINKS: [(Link, &str); 3] =
     [(Link::InOrder, "in order"), (Link::Lossy, "lossy, CE marks"), (Link::Reordered, "reordered, duplicates")];
+
+/// What they do at worst.
+pub const WORST: [(Link, &str); 4] = [
+    (Link::Near, "at random, at most 20 below"),
+    (Link::Far, "at random, at most 99 below"),
+    (Link::Jumps, "95 % jumps"),
+    (Link::Restarts, "a restart each 40"),
+];
 
 pub struct Arrivals {
     link: Link,
@@ -58,6 +72,21 @@ impl Arrivals {
         }
         self.waiting.reverse();
     }
+
+    /// The next number, or as often one of the last so many.
+    fn among_last(&mut self, last: u64) -> u16 {
+        if self.random.once_in(2) { self.advanced(1) } else { self.next.wrapping_sub(self.random.below(last) as u16) }
+    }
+
+    /// 19 arrivals in 20 are strays, no two of which follow each other.
+    fn jumping(&mut self) -> u16 {
+        if self.random.once_in(20) { self.advanced(1) } else { self.next.wrapping_add(10_000 + 2 * self.random.below(20_000) as u16) }
+    }
+
+    /// In order, but every 40 or so it goes on far away.
+    fn restarting(&mut self) -> u16 {
+        if self.random.once_in(40) { self.advanced(20_000) } else { self.advanced(1) }
+    }
 }
 
 impl Iterator for Arrivals {
@@ -78,6 +107,10 @@ impl Iterator for Arrivals {
                 let number = self.waiting.pop()?;
                 Some((number, self.random.below(4) as u8))
             }
+            Link::Near => Some((self.among_last(21), self.random.below(4) as u8)),
+            Link::Far => Some((self.among_last(100), self.random.below(4) as u8)),
+            Link::Jumps => Some((self.jumping(), ECT0)),
+            Link::Restarts => Some((self.restarting(), ECT0)),
         }
     }
 }

@@ -9,7 +9,7 @@ mod records;
 mod rings;
 mod row;
 
-use arrivals::{Arrivals, LINKS};
+use arrivals::{Arrivals, LINKS, WORST};
 use breaker::{Breaker, Report};
 use rings::{Counter, Hundred, PowerOfTwo, Ring};
 use std::hint::black_box;
@@ -33,14 +33,8 @@ fn lines(call: &str, input: &str, others: &[&str], units: usize, mut runs: Vec<R
     }
 }
 
-/// Base, highest, marks, duplicates and the remembered number, and 256 times the restarts plus the jumps.
-type Counts = ([u64; 8], i64);
-
-/// The history left out: the rings keep it in another form.
-fn words(source: &library::Source) -> [u64; 8] {
-    let &[base, highest, notect, ect1, ect0, ce, duplicates, _, _, remembered] = source;
-    [base, highest, notect, ect1, ect0, ce, duplicates, remembered]
-}
+/// A record's words, and 256 times the restarts plus the jumps.
+type Counts = ([u64; 10], i64);
 
 /// What an answer to an arrival adds to those of a block.
 fn skipped(answer: u8) -> i64 {
@@ -53,7 +47,7 @@ fn arrive_ours(list: &[(u16, u8)]) -> Counts {
         let (wire, mark) = black_box(arrival);
         sum += skipped(library::arrive(&mut source, wire, mark));
     }
-    (words(black_box(&source)), sum)
+    (*black_box(&source), sum)
 }
 
 fn arrive_other<R: Ring>(list: &[(u16, u8)]) -> Counts {
@@ -70,7 +64,7 @@ fn blocks_ours(list: &[Vec<u8>]) -> Counts {
     for records in list {
         sum += library::count_block(&mut source, black_box(records));
     }
-    (words(black_box(&source)), sum)
+    (*black_box(&source), sum)
 }
 
 fn blocks_other<R: Ring>(list: &[Vec<u8>]) -> Counts {
@@ -90,7 +84,7 @@ fn run<'a, T>(give: impl Fn() -> T + 'a) -> Run<'a> {
 
 fn counting() {
     let rings = ["ring of 100 flags", "ring of 128 flags"];
-    for (link, name) in LINKS {
+    for (link, name) in LINKS.into_iter().chain(WORST) {
         let units = BLOCKS * records::MOST_RECORDS;
         let list: Vec<_> = Arrivals::new(link, 1).take(units).collect();
         let mut again = list.iter().copied();

@@ -5,6 +5,8 @@ pub trait Ring: Default {
     fn move_on(&mut self, by: usize);
     /// Marks the number so far below the newest, and says whether it was marked.
     fn mark(&mut self, below: usize) -> bool;
+    /// Whether the number so far below the newest is marked.
+    fn is_marked(&self, below: usize) -> bool;
 }
 
 /// 100 flags; the index wraps by a comparison.
@@ -38,6 +40,10 @@ impl Ring for Hundred {
         let wrap = if below <= self.newest { 0 } else { 100 };
         std::mem::replace(&mut self.arrived[self.newest + wrap - below], true)
     }
+
+    fn is_marked(&self, below: usize) -> bool {
+        self.arrived[(self.newest + 100 - below) % 100]
+    }
 }
 
 /// 128 flags; the index wraps by a mask.
@@ -70,9 +76,16 @@ impl Ring for PowerOfTwo {
     fn mark(&mut self, below: usize) -> bool {
         std::mem::replace(&mut self.arrived[self.newest.wrapping_sub(below) & 127], true)
     }
+
+    fn is_marked(&self, below: usize) -> bool {
+        self.arrived[self.newest.wrapping_sub(below) & 127]
+    }
 }
 
 const MOST: u64 = 1 << 48;
+
+/// The answer to an arrival that begins the record again.
+pub const RESTARTED: u8 = 128;
 
 #[derive(Default)]
 pub struct Counter<R> {
@@ -82,24 +95,12 @@ pub struct Counter<R> {
     marks: [u64; 4],
     arrivals: u64,
     duplicates: u64,
-    /// The wire number that would follow the last jump.
+    /// The number that would follow the last jump.
     remembered: Option<u16>,
 }
 
 impl<R: Ring> Counter<R> {
-    /// A jump: 7, or 128 where it has the number that the last jump left, and the counter begins again with it.
-    #[cold]
-    fn jump(&mut self, wire: u16, mark: u8) -> u8 {
-        if self.remembered != Some(wire) {
-            self.remembered = Some(wire.wrapping_add(1));
-            return 7;
-        }
-        *self = Counter::default();
-        self.arrive(wire, mark);
-        128
-    }
-
-    /// 0, 128 for a restart, or refusal 10, 8 or 7.
+    /// 0, RESTARTED, or refusal 10, 8 or 7.
     #[inline(always)]
     pub fn arrive(&mut self, wire: u16, mark: u8) -> u8 {
         if mark > 3 {
@@ -109,9 +110,7 @@ impl<R: Ring> Counter<R> {
             return 8;
         }
         if self.arrivals == 0 {
-            self.base = i64::from(wire);
-            self.highest = self.base;
-            self.ring.mark(0);
+            self.begin(wire);
         } else {
             let d = wire.wrapping_sub(self.highest as u16);
             match d {
@@ -120,16 +119,40 @@ impl<R: Ring> Counter<R> {
                     self.highest += i64::from(d);
                 }
                 0 | 65_437..=65_535 => self.duplicates += u64::from(self.ring.mark(usize::from(d.wrapping_neg()))),
-                _ => return self.jump(wire, mark),
+                _ => return self.jumped(wire, mark),
             }
         }
-        self.remembered = None;
+        self.accept(mark)
+    }
+
+    fn begin(&mut self, wire: u16) {
+        self.base = i64::from(wire);
+        self.highest = self.base;
+        self.ring.mark(0);
+    }
+
+    #[inline(always)]
+    fn accept(&mut self, mark: u8) -> u8 {
         self.arrivals += 1;
         self.marks[usize::from(mark)] += 1;
+        self.remembered = None;
         0
     }
 
-    /// Counts a block's records and gives the jumps and 256 times the restarts, or minus 10.
+    /// A jump with the remembered number begins again; any other is remembered by the number that would follow it.
+    #[inline(always)]
+    fn jumped(&mut self, wire: u16, mark: u8) -> u8 {
+        if self.remembered != Some(wire) {
+            self.remembered = Some(wire.wrapping_add(1));
+            return 7;
+        }
+        *self = Self::default();
+        self.begin(wire);
+        self.accept(mark);
+        RESTARTED
+    }
+
+    /// Counts a block's records and gives 256 times the restarts plus the jumps, or minus 10.
     #[inline(always)]
     pub fn count_block(&mut self, records: &[u8]) -> i64 {
         let n = records.len() / 8;
@@ -140,15 +163,20 @@ impl<R: Ring> Counter<R> {
         for record in records.chunks_exact(8) {
             let answer = self.arrive(u16::from_be_bytes([record[4], record[5]]), record[6]);
             jumps += i64::from(answer == 7);
-            restarts += i64::from(answer == 128);
+            restarts += i64::from(answer == RESTARTED);
         }
         256 * restarts + jumps
     }
 
-    /// Base, highest, the four marks, the duplicates and the remembered number plus 1.
-    pub fn words(&self) -> [u64; 8] {
+    /// Base, highest, the four marks, the duplicates, the history (places 0 to 63 and 64 to 99), and the remembered number plus 1, or 0.
+    pub fn words(&self) -> [u64; 10] {
         let [notect, ect1, ect0, ce] = self.marks;
+        let (mut recent, mut older) = (0, 0);
+        for place in 0..100 {
+            let bit = u64::from(self.arrivals > 0 && self.ring.is_marked(place));
+            if place < 64 { recent |= bit << place } else { older |= bit << (place - 64) }
+        }
         let remembered = self.remembered.map_or(0, |wire| u64::from(wire) + 1);
-        [self.base as u64, self.highest as u64, notect, ect1, ect0, ce, self.duplicates, remembered]
+        [self.base as u64, self.highest as u64, notect, ect1, ect0, ce, self.duplicates, recent, older, remembered]
     }
 }

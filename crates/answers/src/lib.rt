@@ -26,7 +26,7 @@ pub enum Refusal {
     Malformed,
     // 10: a number, a label, records or a compound's size outside the limits.
     Limits,
-    // 11: a report not later than the last, or a tick before it.
+    // 11: a report not later than the last report or start, or earlier than a heard packet; a tick or heard packet earlier than these.
     Time,
     // 13: a block's checksum.
     Checksum,

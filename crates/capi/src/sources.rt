@@ -1,6 +1,7 @@
 // One source's arrivals and reports.
 use crate::codes;
 use answers::Refusal;
+use engine::count_block;
 use format::Wire;
 use lent::source_words::Loaded;
 use lent::source_words::load;
@@ -56,7 +57,7 @@ pub extern "C" fn flasknib_count_block(words: &mut [u64], records: &[u8], width:
     let Loaded::Held(source) = load(words) else {
         return codes::minus(Refusal::Malformed);
     };
-    match source.count_block(records, width) {
+    match count_block(source, records, width) {
         BlockCount::Counted(next, jumps, restarts) => {
             store(next, words);
             (RESTARTS * restarts + jumps) as i64

@@ -2,6 +2,7 @@
 use crate::Run;
 use crate::Step;
 use answers::Written;
+use engine::count_block;
 use format::Form;
 use format::block::BODY;
 use table::write_row;
@@ -35,7 +36,7 @@ fn counted(run: Run, form: Form, n: usize, block: &[u8]) -> Run
     let source = before.source;
     let width = form.width();
     let end = BODY + n * width;
-    let totals = before.with_block(source.count_block(&block[BODY..end], width));
+    let totals = before.with_block(count_block(source, &block[BODY..end], width));
     Run {
         length: run.length,
         ssrc: run.ssrc,

@@ -131,7 +131,7 @@ marked-split n (suc m) f = ap (λ (x : ℕ). marked x f) (add-suc n m) ∙ omega
 
 -- ---- the ones of a word
 
-ones-pack : (n : ℕ) (f : ℕ → Bool) → ones (pack n f) ≡ marked n f
+pub ones-pack : (n : ℕ) (f : ℕ → Bool) → ones (pack n f) ≡ marked n f
 unfolding pack ones marked
 ones-pack zero f = refl
 ones-pack (suc n) f =

@@ -93,7 +93,7 @@ place-bit j k =
 -- ---- the two words of a history
 
 -- two words that have the row's places
-words-are : (recent older : ℕ) (row : ℕ → Bool) → recent < 2 ^ 64 → older < 2 ^ 36
+pub words-are : (recent older : ℕ) (row : ℕ → Bool) → recent < 2 ^ 64 → older < 2 ^ 36
     → ((k : ℕ) → k < 64 → place recent k ≡ row k) → ((k : ℕ) → k < 36 → place older k ≡ row (64 + k))
     → _≡_ {A = History} (record { recent = recent; older = older }) (history row)
 words-are recent older row fits-recent fits-older low high = λ i. record {
@@ -113,7 +113,7 @@ module _ (h : History) (fits-recent : h .recent < 2 ^ 64) (fits-older : h .older
       ∙ ap₂ _||_ (place-mod 64 (h .recent * 2 ^ up) k g ∙ place-mul up (h .recent) k ∙ ap (λ (t : Bool). leb up k && t) (sym (marks-recent h (k - up) (omega arith)))) (place-bit j k)
       ∙ or-comm (leb up k && marks h (k - up)) (eqb k j)
 
-  near-older : (up j : ℕ) → up < 64 → j < 64 → (k : ℕ) → k < 36
+  pub near-older : (up j : ℕ) → up < 64 → j < 64 → (k : ℕ) → k < 36
       → place (bitOr (h .older * 2 ^ up % 2 ^ 64) (h .recent / 2 / 2 ^ (63 - up)) % 2 ^ 36) k ≡ added j (moved up (marks h)) (64 + k)
   unfolding moved added
   near-older up j l m k g =

@@ -1,6 +1,6 @@
 // One RTP source: its arrivals counted by ECN mark (document 01, "Counting arrivals"). A record goes in and comes back by value.
 ghost use mathlib.Core.Path.{_≡_};
-ghost use Rattle.source.specs.Record.{freshRecord, lostAnswer};
+ghost use Rattle.source.specs.Record.{freshRecord, sound, lostAnswer};
 ghost use Rattle.source.specs.Arrivals.{arrival};
 ghost use Rattle.source.specs.Blocks.{blockCount};
 ghost use Rattle.source.specs.Totals.{freshTotals, withBlock};
@@ -94,6 +94,13 @@ impl Source {
             },
             remembered: Remembered::Nothing,
         }
+    }
+
+    // Whether the record is sound: fresh, or one that has counted.
+    pub fn is_sound(self) -> bool
+        ensures { λ r. ⌜ r ≡ sound self ⌝ }
+    {
+        soundness::is_sound(self)
     }
 
     // Counts one arrival. Refusals: 9 malformed record, 10 mark above 3, 8 full, 7 jump. A jump is remembered by the number that would follow it; a jump

@@ -1,0 +1,61 @@
+-- `engine::count_block` meets its contract. Assumes nothing.
+use borrow.Author.Needs.{needs}
+use mathlib.Core.Path.{_≡_, sym, _∙_}
+use native.Mathlib.Omega.{arith}
+use denote.Ref.{now}
+use Rattle.answers.proofs.Conditions.{was-false, was-true}
+use Rattle.source.specs.Blocks.{blockCount}
+use Rattle.engine.proofs.Counts.{no-block, a-block, roomy-of}
+use Rattle.engine.proofs.count_block.Statement.{statement}
+use Rattle.engine.proofs.count_block.Tie as tie
+
+is-sound-requires : tie.Need-is-sound-requires
+is-sound-requires c κs = search needs
+
+returns : tie.Need-returns
+unfolding blockCount
+returns c = rw (was-false (c .before .is-sound .ensures) (c .if1 .taken))
+
+records-in-requires : tie.Need-records-in-requires
+records-in-requires c κs = search needs
+
+returns-2 : tie.Need-returns-2
+unfolding blockCount
+returns-2 c =
+    let a = c .before .before .before .before .before .args in
+    rw (was-true (c .before .before .before .is-sound .ensures) (c .before .before .if1 .left), no-block (a .width) (now (a .records)) (sym (c .before .records-in .ensures) ∙ c .if2 .taken))
+
+has-room-requires : tie.Need-has-room-requires
+has-room-requires c κs =
+    let a = c .before .before .before .before .before .args in
+    (was-true (c .before .before .before .is-sound .ensures) (c .before .before .if1 .left), a-block (a .width) (now (a .records)) (c .before .records-in .ensures) (c .if2 .left) .few)
+
+count-block-requires : tie.Need-count-block-requires
+count-block-requires c κs = search needs
+
+returns-3 : tie.Need-returns-3
+returns-3 c = search needs
+
+count-requires : tie.Need-count-requires
+count-requires c κs =
+    let a = c .before .before .before .before .before .before .before .args in (
+      a-block (a .width) (now (a .records)) (c .before .before .before .records-in .ensures) (c .before .before .if2 .left),
+      roomy-of (a .s) (c .before .before .before .records-in .result) (was-true (c .before .before .before .before .before .is-sound .ensures) (c .before .before .before .before .if1 .left)) (was-true (c .before .has-room .ensures) (c .if3 .left)),
+    )
+
+returns-4 : tie.Need-returns-4
+returns-4 c = search needs
+
+pub count-block-spec : {M : Type 1} → statement M
+count-block-spec =
+    tie.close
+    (tie.spec
+    is-sound-requires
+    returns
+    records-in-requires
+    returns-2
+    has-room-requires
+    count-block-requires
+    returns-3
+    count-requires
+    returns-4)

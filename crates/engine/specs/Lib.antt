@@ -1,0 +1,5 @@
+pub mod Limits
+pub mod Windows
+pub mod Settled
+pub mod Scans
+pub mod Blocks
