@@ -1,0 +1,53 @@
+-- `numbers::big_endian::read48` meets its contract. Assumes nothing.
+use borrow.Author.Needs.{needs}
+use mathlib.Core.Path.{sym, ap₂, _∙_}
+use Prim.Native.Nat.{ℕ, _+_, _*_}
+use denote.Ref.{now}
+use Rattle.numbers.proofs.BigEndian.{word-add, word-out}
+use Rattle.numbers.proofs.big_endian.read48.Statement.{statement}
+use Rattle.numbers.proofs.big_endian.read48.Tie as tie
+
+returns : tie.Need-returns
+returns c =
+    let a = c .before .before .args in
+    sym (word-out (now (a .s)) (a .at) 6 (c .if1 .taken))
+
+read16-requires : tie.Need-read16-requires
+read16-requires c κs = search needs
+
+add-read32 : tie.Need-add-read32
+add-read32 c = search needs
+
+read32-requires : tie.Need-read32-requires
+read32-requires c κs = search needs
+
+cast-result : tie.Need-cast-result
+cast-result c = search needs
+
+mul-result : tie.Need-mul-result
+mul-result c = search needs
+
+cast-result-2 : tie.Need-cast-result-2
+cast-result-2 c = search needs
+
+add-result : tie.Need-add-result
+add-result c = search needs
+
+returns-2 : tie.Need-returns-2
+returns-2 c =
+    let a = c .before .before .before .before .args in
+    ap₂ (λ (x y : ℕ). x * 4294967296 + y) (c .before .read16 .ensures) (c .read32 .ensures) ∙ sym (word-add (now (a .s)) (a .at) 2 4)
+
+pub read48-spec : {M : Type 1} → statement M
+read48-spec =
+    tie.close
+    (tie.spec
+    returns
+    read16-requires
+    add-read32
+    read32-requires
+    cast-result
+    mul-result
+    cast-result-2
+    add-result
+    returns-2)

@@ -1,0 +1,53 @@
+-- `numbers::big_endian::write48` meets its contract. Assumes nothing.
+use borrow.Author.Needs.{needs}
+use mathlib.Core.Path.{sym, ap, _∙_}
+use Prim.Native.Nat.{ℕ, _+_, _/_}
+use denote.Ref.{now}
+use Rattle.numbers.proofs.BigEndian.{bytes-add, bytes-mod, length-bytes}
+use Rattle.numbers.specs.BigEndian.{bytes}
+use Rattle.answers.proofs.Stores.{sets-out, sets-step}
+use Rattle.numbers.proofs.big_endian.write48.Statement.{statement}
+use Rattle.numbers.proofs.big_endian.write48.Tie as tie
+
+returns : tie.Need-returns
+returns c =
+    let a = c .before .before .args in
+    sym (sets-out (now (a .out)) (a .at) (bytes 6 (a .n)) (c .if1 .taken))
+
+cast-write16 : tie.Need-cast-write16
+cast-write16 c = search needs
+
+write16-requires : tie.Need-write16-requires
+write16-requires c κs = search needs
+
+cast-write32 : tie.Need-cast-write32
+cast-write32 c = search needs
+
+add-write32 : tie.Need-add-write32
+add-write32 c = search needs
+
+write32-requires : tie.Need-write32-requires
+write32-requires c κs = search needs
+
+same-length : tie.Need-same-length
+same-length c = search needs
+
+returns-2 : tie.Need-returns-2
+returns-2 c =
+    let a = c .before .before .before .before .before .before .before .before .before .before .args in
+    let high = rw (bytes-mod 2 (a .n / 4294967296)) at (c .before .before .before .before .before .before .write16 .ensures) in
+    let low = c .before .before .write32 .ensures in
+    low ∙ rw (bytes-mod 4 (a .n)) (sets-step (now (a .out)) (a .at) (bytes 2 (a .n / 4294967296)) (bytes 4 (a .n)) (bytes-add 2 4 (a .n)) high (ap (λ (k : ℕ). a .at + k) (sym (length-bytes 2 (a .n / 4294967296)))))
+
+pub write48-spec : {M : Type 1} → statement M
+write48-spec =
+    tie.close
+    (tie.spec
+    returns
+    cast-write16
+    write16-requires
+    cast-write32
+    add-write32
+    write32-requires
+    same-length
+    returns-2)
