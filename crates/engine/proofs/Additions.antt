@@ -1,17 +1,16 @@
 -- Sums over the records of a part: what is left of them at a place. Assumes nothing.
-use mathlib.Core.Path.{_≡_, refl, sym, ap, ap₂, _∙_}
-use mathlib.Core.Bool.{Bool, true, false, not}
-use mathlib.Core.List.{List, [], _∷_}
-use Prim.Native.Nat.{ℕ, zero, suc, _+_, _-_, _*_, _/_, _%_, _≤_, _<_}
+use mathlib.Core.Path.{_≡_, sym, ap, _∙_}
+use mathlib.Core.Bool.{not}
+use mathlib.Core.List.{List, _∷_}
+use Prim.Native.Nat.{ℕ, suc, _+_, _*_, _/_, _%_, _≤_, _<_}
 use native.Mathlib.Nat.{add-zero, zero-add, add-assoc}
 use native.Mathlib.Omega.{arith}
 use lib.Dec.{eqb}
 use lib.ListN.{length}
 use Rattle.source.specs.Places.{bit}
-use Rattle.source.specs.Blocks.{Packet, packets}
+use Rattle.source.specs.Blocks.{Packet}
 use Rattle.source.proofs.Rows.{bit-le}
 use Rattle.source.proofs.Packets.{packet, Left, rest, all-left, none-left, Next, one-left}
-use Rattle.engine.specs.declared.scans.Sums.{Sums}
 use Rattle.engine.specs.Limits.{Held}
 use Rattle.engine.specs.Windows.{held, turned, Ending, strays}
 use Rattle.engine.specs.Settled.{total}
@@ -120,3 +119,35 @@ module _ (width : ℕ) (s : List ℕ) (first : ℕ) where
         fours = sym (add-zero fours) ∙ ap (λ (l : List Packet). fours + total (λ t. t / 4) l) (sym none) ∙ c .is-fours;
         strays = sym (add-zero off) ∙ ap (λ (l : List Packet). off + strays expected l) (sym none) ∙ c .is-off;
       }
+
+  -- ---- one sum alone
+
+  pub record AddingFours (at fours : ℕ) : Type 0 where
+    pub left : Left width s at
+    pub is-fours : fours + total (λ t. t / 4) (rest width s at left) ≡ total (λ t. t / 4) (held width s)
+    pub few-fours : fours + 255 * left .k ≤ 7905
+
+  pub fours-start : {n : ℕ} → Held width s n → AddingFours 0 0
+  unfolding all-left
+  fours-start h =
+      let few : length s / width ≤ 31 = omega (arith, h .count, h .few) in
+      record { left = all-left width s (h .whole); is-fours = zero-add _; few-fours = omega arith }
+
+  pub fours-end : {at fours : ℕ} → AddingFours at fours → 1 ≤ width → length s ≤ at → fours ≡ total (λ t. t / 4) (held width s)
+  unfolding total
+  fours-end {at} {fours} c w h =
+      sym (add-zero fours) ∙ ap (λ (l : List Packet). fours + total (λ t. t / 4) l) (sym (none-left width s at (c .left) w h)) ∙ c .is-fours
+
+  module _ {at fours : ℕ} (c : AddingFours at fours) (h : at < length s) where
+    pub fours-room : fours ≤ 7650
+    fours-room = omega (arith, c .few-fours, one-left width s at (c .left) h .one-less)
+
+    pub fours-next : (word n : ℕ) → Ending word n (packet width s at .mark) → AddingFours (at + width) (fours + markIn word / 4)
+    fours-next word n e =
+        let one = one-left width s at (c .left) h in
+        let m : markIn word ≤ 255 = omega arith in
+        record {
+          left = one .after;
+          is-fours = one-value (λ t. t / 4) fours (markIn word) _ (packet width s at) (rest width s at (c .left)) (rest width s (at + width) (one .after)) (one .is) (e .mark) (c .is-fours);
+          few-fours = omega (arith, c .few-fours, one .one-less, m);
+        }

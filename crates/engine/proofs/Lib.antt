@@ -10,3 +10,8 @@ pub mod InRow
 pub mod Shifting
 pub mod Placing
 pub mod Parting
+pub mod Bytes
+pub mod Spots
+pub mod Chosen
+pub mod Simulated
+pub mod Turns

@@ -1,19 +1,16 @@
 -- One packet within the window of a record that has counted: it is accepted, and what it leaves. Assumes nothing.
 use mathlib.Core.Path.{_≡_, refl, sym, ap, ap₂, _∙_}
 use mathlib.Core.Bool.{Bool, true}
-use Prim.Native.Nat.{ℕ, zero, suc, _+_, _-_, _*_, _%_, _^_, _≤_, _<_, min}
+use Prim.Native.Nat.{ℕ, _+_, _-_, _*_, _%_, _^_, _≤_, _<_, min}
 use native.Mathlib.Nat.{min-eq-left, min-eq-right, add-zero}
 use native.Mathlib.Decide.{decLe}
 use native.Mathlib.Omega.{arith}
 use lib.IntN.{ℤ, pos, _+ℤ_, _-ℤ_, +ℤ-idr}
 use Rattle.numbers.specs.Integers.{modulo}
 use Rattle.numbers.proofs.Integers.{minus-pos, minus-neg}
-use Rattle.format.specs.declared.Wire.{Wire}
 use Rattle.source.specs.declared.Extended.{Extended}
 use Rattle.source.specs.declared.Source.{Source}
-use Rattle.source.specs.declared.Arrival.{Arrival}
 use Rattle.source.specs.declared.Arrival.the-variants.{Accepted}
-use Rattle.source.specs.declared.distances.Reach.{Reach}
 use Rattle.source.specs.declared.distances.Reach.the-variants as reach
 use Rattle.source.specs.Distances.{reachOf}
 use Rattle.source.specs.Places.{bit, history, marks, moved, added}
@@ -46,7 +43,7 @@ module _ (s : Source) (mark : ℕ) where
       (ap extended (sym (+ℤ-idr (s .highest .0)))) (sym (moved-none (marks (s .history))))
 
 -- the distance from a highest number that is natural
-distance-nat : (w h : ℕ) → w < 65536 → modulo 65536 (pos w -ℤ pos h) ≡ (w + 65536 - h % 65536) % 65536
+pub distance-nat : (w h : ℕ) → w < 65536 → modulo 65536 (pos w -ℤ pos h) ≡ (w + 65536 - h % 65536) % 65536
 distance-nat w h l = go (decLe h w)
   where
     go : Dec (h ≤ w) → modulo 65536 (pos w -ℤ pos h) ≡ (w + 65536 - h % 65536) % 65536

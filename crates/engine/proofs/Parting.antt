@@ -1,35 +1,32 @@
 -- A block in parts: what is left of it. Assumes nothing.
 use mathlib.Core.Path.{_≡_, refl, sym, ap, ap₂, subst, _∙_}
 use mathlib.Core.Bool.{Bool, true, false, not, cond, _&&_, and-assoc}
-use mathlib.Core.List.{List, [], _∷_, _++_}
+use mathlib.Core.List.{List, [], _∷_, _++_, append-nil}
 use Prim.Native.Nat.{ℕ, zero, suc, _+_, _-_, _*_, _/_, _%_, _^_, _≤_, _<_, min}
-use native.Mathlib.Nat.{add-mul, zero-add, suc-mul, zero-mul, mul-mod-left, mul-div-cancel, min-le-left, min-le-right, mul-le-mul-right}
+use native.Mathlib.Nat.{add-mul, add-zero, add-assoc, zero-add, suc-mul, zero-mul, mul-mod-left, mul-div-cancel, mul-le-mul-right}
 use native.Mathlib.Omega.{arith}
-use borrow.Author.Tests.{le-leb, eq-eqb}
+use borrow.Author.Tests.{le-leb}
 use lib.Dec.{leb}
 use lib.IntN.{pos, natAbs}
 use lib.ListN.{length, getD, take, drop, length-drop}
 use Rattle.numbers.specs.BigEndian.{word}
-use lib.Seq.{drop-drop, length-take-le, take-all}
+use lib.Seq.{drop-drop, length-take-le}
 use Rattle.answers.specs.declared.Refusal.the-variants as refusal
-use Rattle.answers.specs.Conditions.{all}
-use Rattle.answers.proofs.Conditions.{and-left}
 use Rattle.source.specs.declared.Source.{Source}
 use Rattle.source.specs.declared.BlockCount.{BlockCount}
 use Rattle.source.specs.declared.BlockCount.the-variants.{Counted, Refused}
 use Rattle.source.specs.Record.{arrivals, sound}
 use Rattle.source.specs.Arrivals.{arrival, after}
-use Rattle.source.specs.Blocks.{Packet, packets, marksFit, inLimits, jump, restart, countAll, blockCount}
+use Rattle.source.specs.Blocks.{Packet, packets, marksFit, jump, restart, countAll, blockCount}
 use Rattle.source.proofs.Facts.{Facts, facts, some-has-counted}
 use Rattle.source.proofs.Packets.{packets-take}
 use Rattle.source.proofs.Totalled.{length-packets}
-use Rattle.engine.specs.declared.stretches.Part.{Part}
-use Rattle.engine.specs.declared.stretches.Part.the-variants as part
 use Rattle.engine.specs.Limits.{Held}
 use Rattle.engine.specs.Windows.{held, within, wired}
-use Rattle.engine.specs.Settled.{settled, topOf, placedOf, partOf, Roomy}
-use Rattle.engine.specs.Blocks.{Block, answeredBy}
-use Rattle.engine.proofs.Settles.{Open, Settles, settles, settled-recent}
+use Rattle.engine.specs.Settled.{settled, topOf, Roomy}
+use Rattle.engine.specs.Blocks.{Block, PartSize}
+use Rattle.engine.specs.Lean.{Behind}
+use Rattle.engine.proofs.Settles.{Open, settles, settled-recent}
 
 -- ---- two parts of a list
 
@@ -50,14 +47,14 @@ fit-both (p ∷ ps) qs = ap (λ (t : Bool). leb (p .mark) 3 && t) (fit-both ps q
 -- ---- the answer to a block
 
 -- what remains of the answer when the record is sound and the records are whole
-abbrev pub answer : Source → Source → List Packet → BlockCount
-answer start next ps = cond (marksFit ps) (countAll ps next 0 0) (Refused refusal.Limits start)
+abbrev pub answer : Source → Source → ℕ → ℕ → List Packet → BlockCount
+answer start next jumps restarts ps = cond (marksFit ps) (countAll ps next jumps restarts) (Refused refusal.Limits start)
 
 turn : (b : Bool) (x y : BlockCount) → cond (not b) x y ≡ cond b y x
 turn true x y = refl
 turn false x y = refl
 
-pub block-answer : (s : Source) (width : ℕ) (bytes : List ℕ) (n : ℕ) → sound s ≡ true → Block width bytes n → blockCount s width bytes ≡ answer s s (packets width n bytes)
+pub block-answer : (s : Source) (width : ℕ) (bytes : List ℕ) (n : ℕ) → sound s ≡ true → Block width bytes n → blockCount s width bytes ≡ answer s s 0 0 (packets width n bytes)
 unfolding blockCount
 block-answer s width bytes n g b =
     let count : length bytes / width ≡ n = rw (b .whole) (mul-div-cancel n (omega (arith, b .wide))) in
@@ -69,24 +66,24 @@ block-answer s width bytes n g b =
     fits true = refl
     fits false = refl
 
--- a count is never a refusal
-counted-stays : (t : Source) (ps : List Packet) (s : Source) (jumps restarts : ℕ) → answeredBy t (countAll ps s jumps restarts) ≡ countAll ps s jumps restarts
+-- the count of two lists, from that of the first
+pub count-append : (ps qs : List Packet) (s : Source) (jumps restarts a b : ℕ) {t : Source} {c d : ℕ} → countAll ps s a b ≡ Counted t c d
+    → countAll (ps ++ qs) s (jumps + a) (restarts + b) ≡ countAll qs t (jumps + c) (restarts + d)
 unfolding countAll
-counted-stays t [] s jumps restarts = refl
-counted-stays t (p ∷ ps) s jumps restarts =
-    let a = arrival s (p .wire) (p .mark) in counted-stays t ps (after a) (jumps + jump a) (restarts + restart a)
-
-pub answered-is : (start next : Source) (ps : List Packet) → answeredBy start (answer next next ps) ≡ answer start next ps
-answered-is start next ps = go (marksFit ps)
-  where
-    go : (m : Bool) → answeredBy start (cond m (countAll ps next 0 0) (Refused refusal.Limits next)) ≡ cond m (countAll ps next 0 0) (Refused refusal.Limits start)
-    go true = counted-stays start ps next 0 0
-    go false = refl
+count-append [] qs s jumps restarts a b {t} {c} {d} e =
+    let p : s ≡ t = cc in
+    let q : a ≡ c = cc in
+    let r : b ≡ d = cc in
+    λ i. countAll qs (p i) (jumps + q i) (restarts + r i)
+count-append (p ∷ ps) qs s jumps restarts a b e =
+    let x = arrival s (p .wire) (p .mark) in
+    ap₂ (λ (m n : ℕ). countAll (ps ++ qs) (after x) m n) (add-assoc jumps a (jump x)) (add-assoc restarts b (restart x))
+    ∙ count-append ps qs (after x) jumps restarts (a + jump x) (b + restart x) e
 
 -- ---- what is left
 
 module _ (width : ℕ) (s : List ℕ) (start : Source) where
-  pub record Parting (at left : ℕ) (next : Source) : Type 0 where
+  pub record Parting (at left : ℕ) (next : Source) (jumps restarts : ℕ) : Type 0 where
     pub wide : 4 ≤ width
     pub whole : at + left * width ≡ length s
     pub few : left ≤ 62
@@ -94,9 +91,11 @@ module _ (width : ℕ) (s : List ℕ) (start : Source) where
     pub some : 1 ≤ arrivals next
     pub room : arrivals next + left ≤ 2 ^ 48
     pub recent : next .history .recent < 2 ^ 64
-    pub same : answer start next (packets width left (drop at s)) ≡ blockCount start width s
+    pub few-jumps : jumps + left ≤ 62
+    pub few-restarts : restarts + left ≤ 62
+    pub same : answer start next jumps restarts (packets width left (drop at s)) ≡ blockCount start width s
 
-  pub parting-start : {n : ℕ} → Block width s n → Roomy start n → start .history .recent < 2 ^ 64 → Parting 0 n start
+  pub parting-start : {n : ℕ} → Block width s n → Roomy start n → start .history .recent < 2 ^ 64 → Parting 0 n start 0 0
   parting-start {n} b r f = record {
     wide = b .wide;
     whole = sym (b .whole ∙ sym (zero-add (n * width)));
@@ -105,25 +104,31 @@ module _ (width : ℕ) (s : List ℕ) (start : Source) where
     some = r .some;
     room = r .room;
     recent = f;
+    few-jumps = omega (arith, b .few);
+    few-restarts = omega (arith, b .few);
     same = sym (block-answer start width s n (r .good) b);
   }
 
-  pub parting-end : {at left : ℕ} {next : Source} → Parting at left next → left ≤ 0 → Counted next 0 0 ≡ blockCount start width s
+  pub parting-same : (at left : ℕ) {x y : Source} {m m′ n n′ : ℕ} → x ≡ y → m ≡ m′ → n ≡ n′ → Parting at left y m′ n′ → Parting at left x m n
+  parting-same at left {x} {y} {m} {m′} {n} {n′} a b e p =
+      subst (λ (z : Source). Parting at left z m n) (sym a) (subst (λ (i : ℕ). Parting at left y i n) (sym b) (subst (λ (i : ℕ). Parting at left y m′ i) (sym e) p))
+
+  pub parting-end : {at left : ℕ} {next : Source} {jumps restarts : ℕ} → Parting at left next jumps restarts → left ≤ 0 → Counted next jumps restarts ≡ blockCount start width s
   unfolding packets countAll
-  parting-end {at} {left} {next} c h =
+  parting-end {at} {left} {next} {jumps} {restarts} c h =
       let none : 0 ≡ left = omega arith in
-      ap (λ (n : ℕ). answer start next (packets width n (drop at s))) none ∙ c .same
+      ap (λ (n : ℕ). answer start next jumps restarts (packets width n (drop at s))) none ∙ c .same
 
   -- the next part: k records
-  module _ {at left : ℕ} {next : Source} (c : Parting at left next) (k : ℕ) (min-is : k ≡ min left 31) (h : 0 < left) where
+  module _ {at left : ℕ} {next : Source} {jumps restarts : ℕ} (c : Parting at left next jumps restarts) (k : ℕ) (z : PartSize left k) where
     pub part-some : 1 ≤ k
-    part-some = omega arith
+    part-some = z .some
 
     pub part-few : k ≤ 31
-    part-few = omega arith
+    part-few = z .few
 
     pub part-left : k ≤ left
-    part-left = omega arith
+    part-left = z .fits
 
     -- its bytes, and those behind it
     pub part-room : at + k * width ≤ length s
@@ -164,29 +169,42 @@ module _ (width : ℕ) (s : List ℕ) (start : Source) where
     fit-here : marksFit (packets width left (drop at s)) ≡ (marksFit here && marksFit behind)
     fit-here = ap marksFit rest-is ∙ fit-both here behind
 
+    pub part-size : length here ≡ k
+    part-size = length-packets width (length bytes / width) bytes ∙ part-held .count
+
     -- a mark above 3
-    pub part-misfit : part.Misfit ≡ partOf next here → Refused refusal.Limits start ≡ blockCount start width s
-    part-misfit e = go (marksFit here) refl (within (topOf next) here) refl
+    pub part-misfit : marksFit here ≡ false → Refused refusal.Limits start ≡ blockCount start width s
+    part-misfit f =
+        let none : marksFit (packets width left (drop at s)) ≡ false = fit-here ∙ rw f refl in
+        sym (ap (λ (m : Bool). cond m (countAll (packets width left (drop at s)) next jumps restarts) (Refused refusal.Limits start)) none) ∙ c .same
+
+    -- the record behind it
+    pub part-behind : marksFit here ≡ true → {t : Source} {more again : ℕ} → Behind next here t more again → t .history .recent < 2 ^ 64
+        → Parting (at + k * width) (left - k) t (jumps + more) (restarts + again)
+    part-behind f {t} {more} {again} b l =
+        let n = part-size in
+        let fit : marksFit behind ≡ marksFit (packets width left (drop at s)) = sym (fit-here ∙ rw f refl) in
+        let counted : countAll behind t (jumps + more) (restarts + again) ≡ countAll (packets width left (drop at s)) next jumps restarts =
+        sym (count-append here behind next jumps restarts 0 0 (b .same)) ∙ ap₂ (λ (x y : ℕ). countAll (here ++ behind) next x y) (add-zero jumps) (add-zero restarts)
+        ∙ ap (λ (ps : List Packet). countAll ps next jumps restarts) (sym rest-is) in
+        record {
+          wide = c .wide;
+          whole = together (left - k) (omega (arith, part-left)) ∙ c .whole;
+          few = omega (arith, c .few);
+          good = b .good;
+          some = b .some;
+          room = omega (arith, b .more, n, c .room, part-left);
+          recent = l;
+          few-jumps = omega (arith, b .few-jumps, n, c .few-jumps, part-left);
+          few-restarts = omega (arith, b .few-restarts, n, c .few-restarts, part-left);
+          same = ap₂ (λ (m : Bool) (x : BlockCount). cond m x (Refused refusal.Limits start)) fit counted ∙ c .same;
+        }
       where
-        go : (m : Bool) → marksFit here ≡ m → (w : Bool) → within (topOf next) here ≡ w → Refused refusal.Limits start ≡ blockCount start width s
-        go true f true w =
-            let no : part.Misfit ≡ part.Counted (settled (topOf next) 40 next here) = e ∙ rw (f, w) refl in
-            let z : _≡_ {A = ℕ} 0 1 = cc in absurd (omega arith)
-        go true f false w =
-            let no : part.Misfit ≡ part.Outside = e ∙ rw (f, w) refl in
-            let z : _≡_ {A = ℕ} 0 1 = cc in absurd (omega arith)
-        go false f w g =
-            let none : marksFit (packets width left (drop at s)) ≡ false = fit-here ∙ rw f refl in
-            sym (ap (λ (m : Bool). cond m (countAll (packets width left (drop at s)) next 0 0) (Refused refusal.Limits start)) none) ∙ c .same
+        together : (m : ℕ) → k + m ≡ left → at + k * width + m * width ≡ at + left * width
+        together m e = omega (arith, ap (λ (x : ℕ). x * width) (sym e), add-mul k m width)
 
-    -- a number outside the window
-    pub part-outside : answeredBy start (blockCount next width (drop at s)) ≡ blockCount start width s
-    part-outside =
-        let b : Block width (drop at s) left = record { wide = c .wide; whole = rw length-drop (omega (arith, c .whole)); some = h; few = c .few } in
-        ap (answeredBy start) (block-answer next width (drop at s) left (c .good) b) ∙ answered-is start next (packets width left (drop at s)) ∙ c .same
-
-    -- counted
-    module _ (wires : wired here ≡ true) where
+    -- all in the window
+    module _ (wires : wired here ≡ true) (fit : marksFit here ≡ true) (near : within (topOf next) here ≡ true) where
       known : Facts next
       known = facts next (some-has-counted next (c .good) (c .some))
 
@@ -195,14 +213,13 @@ module _ (width : ℕ) (s : List ℕ) (start : Source) where
 
       open-here : Open (topOf next) (natAbs (next .highest .0) / 65536) 40 (natAbs (next .highest .0)) (length here) next
       open-here =
-          let n : length here ≡ k = length-packets width (length bytes / width) bytes ∙ part-held .count in
           record {
             small = omega arith;
             high = high;
             anchor = anchored (natAbs (next .highest .0));
             good = c .good;
             some = c .some;
-            room = omega (arith, n, part-roomy .room);
+            room = omega (arith, part-size, part-roomy .room);
             recent = c .recent;
             older = known .fits;
           }
@@ -210,39 +227,20 @@ module _ (width : ℕ) (s : List ℕ) (start : Source) where
           anchored : (x : ℕ) → x + 40 ≡ x % 65536 + 40 + 65536 * (x / 65536)
           anchored x = omega arith
 
-      pub part-counted : {t : Source} → part.Counted t ≡ partOf next here → Parting (at + k * width) (left - k) t
-      part-counted {t} e = go (marksFit here) refl (within (topOf next) here) refl
-        where
-          together : (m : ℕ) → k + m ≡ left → at + k * width + m * width ≡ at + left * width
-          together m e = omega (arith, ap (λ (x : ℕ). x * width) (sym e), add-mul k m width)
+      pub settled-behind : Behind next here (settled (topOf next) 40 next here) 0 0
+      unfolding countAll
+      settled-behind =
+          let by = settles (topOf next) (natAbs (next .highest .0) / 65536) here [] 40 (natAbs (next .highest .0)) next open-here wires fit near in
+          record {
+            same = ap (λ (ps : List Packet). countAll ps next 0 0) (sym (append-nil here)) ∙ by .same;
+            good = by .good;
+            some = omega (arith, by .more, c .some);
+            more = omega (arith, by .more);
+            few-jumps = omega arith;
+            few-restarts = omega arith;
+          }
 
-          next-one : t ≡ settled (topOf next) 40 next here → Settles (topOf next) 40 next here behind → marksFit here ≡ true → Parting (at + k * width) (left - k) t
-          next-one same by f =
-              let n : length here ≡ k = length-packets width (length bytes / width) bytes ∙ part-held .count in
-              let total : arrivals t ≡ arrivals next + k = ap arrivals same ∙ by .more ∙ ap (λ (x : ℕ). arrivals next + x) n in
-              let fit : marksFit behind ≡ marksFit (packets width left (drop at s)) = sym (fit-here ∙ rw f refl) in
-              record {
-                wide = c .wide;
-                whole = together (left - k) (omega (arith, part-left)) ∙ c .whole;
-                few = omega (arith, c .few);
-                good = ap sound same ∙ by .good;
-                some = omega (arith, total, c .some);
-                room = omega (arith, total, c .room, part-left);
-                recent = subst (λ (x : Source). x .history .recent < 2 ^ 64) (sym same) (settled-recent (topOf next) 40 next here);
-                same = ap₂ (λ (m : Bool) (x : BlockCount). cond m x (Refused refusal.Limits start)) fit
-                    (ap (λ (x : Source). countAll behind x 0 0) same ∙ sym (by .same) ∙ ap (λ (l : List Packet). countAll l next 0 0) (sym rest-is))
-                    ∙ c .same;
-              }
-
-          go : (m : Bool) → marksFit here ≡ m → (w : Bool) → within (topOf next) here ≡ w → Parting (at + k * width) (left - k) t
-          go true f true w =
-              let is : part.Counted t ≡ part.Counted (settled (topOf next) 40 next here) = e ∙ rw (f, w) refl in
-              let same : t ≡ settled (topOf next) 40 next here = cc in
-              let by = settles (topOf next) (natAbs (next .highest .0) / 65536) here behind 40 (natAbs (next .highest .0)) next open-here wires f w in
-              next-one same by f
-          go true f false w =
-              let no : part.Counted t ≡ part.Outside = e ∙ rw (f, w) refl in
-              let z : _≡_ {A = ℕ} 0 1 = cc in absurd (omega arith)
-          go false f w g =
-              let no : part.Counted t ≡ part.Misfit = e ∙ rw f refl in
-              let z : _≡_ {A = ℕ} 0 1 = cc in absurd (omega arith)
+      pub part-counted : {t : Source} → t ≡ settled (topOf next) 40 next here → Parting (at + k * width) (left - k) t jumps restarts
+      part-counted {t} e =
+          let on = part-behind fit settled-behind (settled-recent (topOf next) 40 next here) in
+          parting-same (at + k * width) (left - k) e (sym (add-zero jumps)) (sym (add-zero restarts)) on

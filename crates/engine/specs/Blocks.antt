@@ -3,9 +3,7 @@ use mathlib.Core.Path.{_≡_}
 use mathlib.Core.List.{List}
 use Prim.Native.Nat.{ℕ, _*_, _≤_}
 use lib.ListN.{length}
-use Rattle.source.specs.declared.Source.{Source}
-use Rattle.source.specs.declared.BlockCount.{BlockCount}
-use Rattle.source.specs.declared.BlockCount.the-variants.{Counted, Refused}
+use Rattle.engine.specs.Limits.{mostInPart}
 
 -- n whole records, as a block holds them
 pub record Block (width : ℕ) (s : List ℕ) (n : ℕ) : Type 0 where
@@ -14,7 +12,8 @@ pub record Block (width : ℕ) (s : List ℕ) (n : ℕ) : Type 0 where
   pub some : 1 ≤ n
   pub few : n ≤ 62
 
--- the answer to a block, from that to its last records: a refusal hands back the record that the block began with
-abbrev pub answeredBy : Source → BlockCount → BlockCount
-answeredBy s (Counted next jumps restarts) = Counted next jumps restarts
-answeredBy s (Refused refusal next) = Refused refusal s
+-- the next part of the records that are left
+pub record PartSize (left k : ℕ) : Type 0 where
+  pub some : 1 ≤ k
+  pub few : k ≤ mostInPart
+  pub fits : k ≤ left

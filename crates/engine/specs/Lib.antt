@@ -3,3 +3,4 @@ pub mod Windows
 pub mod Settled
 pub mod Scans
 pub mod Blocks
+pub mod Lean

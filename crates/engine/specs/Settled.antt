@@ -1,7 +1,7 @@
 -- A record that has counted, after packets that all lie in its window, in whatever order: a union of places, and sums.
-use Prim.Native.Nat.{ℕ, zero, suc, _+_, _-_, _%_, _^_, _≤_}
+use Prim.Native.Nat.{ℕ, _+_, _-_, _%_, _^_, _≤_}
 use mathlib.Core.Path.{_≡_}
-use mathlib.Core.Bool.{Bool, true, false, _||_, cond, not}
+use mathlib.Core.Bool.{Bool, true, false, _||_}
 use mathlib.Core.List.{List, [], _∷_}
 use lib.Bits.{bitOr}
 use lib.Count.{ones, trailingZeros}
@@ -92,12 +92,11 @@ scannedOnto s n scan shifted = record {
 abbrev pub topOf : Source → ℕ
 topOf s = natAbs (s .highest .0) % 65536 + ahead
 
--- the record behind the packets, or that some lie outside its window
-abbrev pub placedOf : Source → List Packet → Part
-placedOf s ps = cond (within (topOf s) ps) (part.Counted (settled (topOf s) ahead s ps)) part.Outside
-
-abbrev pub partOf : Source → List Packet → Part
-partOf s ps = cond (marksFit ps) (placedOf s ps) part.Misfit
+-- what an answer to a part says: the record behind the packets, all of which lie in its window; that a mark is above 3; or that none is, and nothing is counted
+abbrev pub PartIs : Source → List Packet → Part → Type 0
+PartIs s ps (part.Counted t) = (marksFit ps ≡ true) × (within (topOf s) ps ≡ true) × (t ≡ settled (topOf s) ahead s ps)
+PartIs s ps part.Misfit = marksFit ps ≡ false
+PartIs s ps (part.Outside ordered) = marksFit ps ≡ true
 
 -- a record that has counted and can count n arrivals more
 pub record Roomy (s : Source) (n : ℕ) : Type 0 where

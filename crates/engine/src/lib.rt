@@ -2,11 +2,15 @@
 ghost use mathlib.Core.Path.{_≡_};
 ghost use Rattle.source.specs.Blocks.{blockCount};
 
+mod lean;
 mod limits;
 mod parts;
+mod places;
 mod records;
+mod runs;
 mod scans;
 mod shifts;
+mod steps;
 mod stretches;
 mod window;
 

@@ -12,13 +12,19 @@ ghost use Rattle.engine.specs.Limits.{recordsIn};
 // The most arrivals that are counted.
 const MOST: u64 = 0x1_0000_0000_0000;
 
-// The bytes of a record of form 1: the compiler makes its own code for them.
+// The bytes of a record of form 1, and of form 2: the compiler makes its own code for them.
 pub const USUAL: usize = 8;
 
-// The most records of a part, and its bytes in form 1.
+pub const LONG: usize = 10;
+
+// The most records of a part, and the bytes of so many: half a full block of the form.
 pub const PART: usize = 31;
 
 pub const WHOLE: usize = 248;
+
+pub const PART_LONG: usize = 25;
+
+pub const WHOLE_LONG: usize = 250;
 
 fn whole_records(size: usize, width: usize) -> usize
     requires { ⌜ 4 ≤ width ⌝ }
@@ -44,6 +50,9 @@ pub fn records_in(size: usize, width: usize) -> usize
     }
     if width == USUAL {
         return whole_records(size, USUAL);
+    }
+    if width == LONG {
+        return whole_records(size, LONG);
     }
     whole_records(size, width)
 }

@@ -1,6 +1,8 @@
 // Where the packets of a part lie in a window of 64 numbers: bit k stands for the number k below its top.
+use crate::limits::LONG;
 use crate::limits::USUAL;
 use crate::limits::WHOLE;
+use crate::limits::WHOLE_LONG;
 use crate::records::number;
 ghost use mathlib.Core.Path.{_≡_};
 ghost use Prim.Native.Nat.{_-_, _≤_, _<_};
@@ -53,6 +55,12 @@ fn seen_in(records: &[u8], width: usize, n: usize, top: u64) -> Seen
             return seen_along(records, USUAL, WHOLE, n, top);
         }
         return seen_along(records, USUAL, size, n, top);
+    }
+    if width == LONG {
+        if size == WHOLE_LONG {
+            return seen_along(records, LONG, WHOLE_LONG, n, top);
+        }
+        return seen_along(records, LONG, size, n, top);
     }
     seen_along(records, width, size, n, top)
 }

@@ -23,9 +23,17 @@ whole-records-requires-2 : tie.Need-whole-records-requires-2
 whole-records-requires-2 c κs = search needs
 
 returns-3 : tie.Need-returns-3
-returns-3 c = search needs
+returns-3 c =
+    let a = c .before .before .before .before .args in
+    c .whole-records2 .ensures ∙ ap (λ (w : ℕ). recordsIn w (a .size)) (sym (c .before .if3 .taken))
+
+whole-records-requires-3 : tie.Need-whole-records-requires-3
+whole-records-requires-3 c κs = search needs
+
+returns-4 : tie.Need-returns-4
+returns-4 c = search needs
 
 pub records-in-spec : {M : Type 1} → statement M
 records-in-spec =
     tie.close
-    (tie.spec returns whole-records-requires returns-2 whole-records-requires-2 returns-3)
+    (tie.spec returns whole-records-requires returns-2 whole-records-requires-2 returns-3 whole-records-requires-3 returns-4)

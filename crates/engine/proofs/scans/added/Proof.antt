@@ -30,10 +30,30 @@ returns-2 c =
     subst (λ (w : ℕ). SumsOf (p .args .turned) (held w (now (p .args .records))) (c .added-up2 .result)) (sym (c .before .before .if1 .taken)) (c .added-up2 .ensures)
 
 added-up-requires-3 : tie.Need-added-up-requires-3
-added-up-requires-3 c κs = search needs
+added-up-requires-3 c κs =
+    let p = c .before .before .before .before in
+    (subst (λ (w : ℕ). Held w (now (p .args .records)) (p .args .n)) (c .before .if3 .taken) (p .pre .0), sym (c .if4 .taken), p .pre .1)
 
 returns-3 : tie.Need-returns-3
-returns-3 c = search needs
+returns-3 c =
+    let p = c .before .before .before .before .before in
+    subst (λ (w : ℕ). SumsOf (p .args .turned) (held w (now (p .args .records))) (c .added-up3 .result)) (sym (c .before .before .if3 .taken)) (c .added-up3 .ensures)
+
+added-up-requires-4 : tie.Need-added-up-requires-4
+added-up-requires-4 c κs =
+    let p = c .before .before .before .before in
+    (subst (λ (w : ℕ). Held w (now (p .args .records)) (p .args .n)) (c .before .if3 .taken) (p .pre .0), refl, p .pre .1)
+
+returns-4 : tie.Need-returns-4
+returns-4 c =
+    let p = c .before .before .before .before .before in
+    subst (λ (w : ℕ). SumsOf (p .args .turned) (held w (now (p .args .records))) (c .added-up4 .result)) (sym (c .before .before .if3 .taken)) (c .added-up4 .ensures)
+
+added-up-requires-5 : tie.Need-added-up-requires-5
+added-up-requires-5 c κs = search needs
+
+returns-5 : tie.Need-returns-5
+returns-5 c = search needs
 
 pub added-spec : {M : Type 1} → statement M
 added-spec =
@@ -44,4 +64,8 @@ added-spec =
     added-up-requires-2
     returns-2
     added-up-requires-3
-    returns-3)
+    returns-3
+    added-up-requires-4
+    returns-4
+    added-up-requires-5
+    returns-5)

@@ -1,8 +1,8 @@
 -- `engine::stretches::count_part` meets its contract. Assumes nothing.
 use borrow.Author.Needs.{needs}
-use mathlib.Core.Path.{_≡_, refl, sym, ap, _∙_}
+use mathlib.Core.Path.{_≡_, sym, ap, _∙_}
 use native.Mathlib.Omega.{arith}
-use Prim.Native.Nat.{ℕ, _+_, _-_, _/_}
+use Prim.Native.Nat.{_+_, _-_, _/_}
 use lib.ListN.{length}
 use denote.Ref.{now}
 use Rattle.numbers.specs.BigEndian.{word}
@@ -11,7 +11,7 @@ use Rattle.source.proofs.Packets.{all-left, room-left}
 use Rattle.engine.specs.Windows.{held, turned}
 use Rattle.engine.proofs.Counts.{part-some, misfit-of}
 use Rattle.engine.proofs.InRow.{packets-wired}
-use Rattle.engine.proofs.Placing.{scan-fit}
+use Rattle.engine.proofs.Marked.{no-fours, some-fours}
 use Rattle.engine.proofs.stretches.count_part.Statement.{statement}
 use Rattle.engine.proofs.stretches.count_part.Tie as tie
 
@@ -31,6 +31,33 @@ number-requires c κs =
     let h = p .pre .0 in
     (h .wide, room-left (p .args .width) (now (p .args .records)) 0 (all-left (p .args .width) (now (p .args .records)) (h .whole)) (part-some (p .args .width) (now (p .args .records)) (p .args .n) h))
 
+magnitude-requires : tie.Need-magnitude-requires
+magnitude-requires c κs = search needs
+
+add-top : tie.Need-add-top
+add-top c = search needs
+
+add-below : tie.Need-add-below
+add-below c = search needs
+
+sub-below : tie.Need-sub-below
+sub-below c = search needs
+
+fours-requires : tie.Need-fours-requires
+fours-requires c κs = search needs
+
+returns : tie.Need-returns
+returns c =
+    let a = c .before .before .before .before .before .before .before .before .args in
+    let s = now (a .records) in
+    (some-fours (held (a .width) s) (omega (arith, c .if2 .taken, c .before .fours .ensures)), packets-wired (a .width) (length s / a .width) s (octets (c .before .before .before .before .before .before .before)))
+
+returns-2 : tie.Need-returns-2
+returns-2 c =
+    let a = c .before .before .before .before .before .before .before .before .args in
+    let s = now (a .records) in
+    (no-fours (held (a .width) s) (omega (arith, c .if2 .left, c .before .fours .ensures)), packets-wired (a .width) (length s / a .width) s (octets (c .before .before .before .before .before .before .before)))
+
 mul-turned : tie.Need-mul-turned
 mul-turned c = search needs
 
@@ -48,33 +75,36 @@ enum-known-scan c = search needs
 
 placed-requires : tie.Need-placed-requires
 placed-requires c κs =
-    let p = c .before .before .before .before .before .before in
-    ((p .pre .0, p .pre .1), (first-is (c .before .before .before .before), sym (c .before .scan .given .1) ∙ c .before .before .before .marks .ensures))
+    let p = c .before .before .before .before .before .before .before .before .before .before in
+    ((p .pre .0, p .pre .1), (first-is (c .before .before .before .before .before .before .before .before), sym (c .before .scan .given .1) ∙ c .before .before .before .marks .ensures))
 
 enum-told : tie.Need-enum-told
 enum-told c = search needs
 
-returns : tie.Need-returns
-returns c =
-    let p = c .before .before .before .before .before .before .before in
-    let a = p .args in
+returns-3 : tie.Need-returns-3
+returns-3 c =
+    let a = c .before .before .before .before .before .before .before .before .before .before .before .args in
     let s = now (a .records) in
-    let fit = scan-fit (a .width) s (a .n) (turned (c .before .before .before .before .before .number .result)) (p .pre .0) _ (sym (c .before .before .scan .given .1) ∙ c .before .before .before .before .marks .ensures) in
-    (rw fit (c .placed .ensures), packets-wired (a .width) (length s / a .width) s (octets (c .before .before .before .before .before .before)))
+    (c .placed .ensures, packets-wired (a .width) (length s / a .width) s (octets (c .before .before .before .before .before .before .before .before .before .before)))
 
-returns-2 : tie.Need-returns-2
-returns-2 c =
-    let a = c .before .before .before .before .before .args in
-    let s = now (a .records) in (
-      rw (misfit-of (turned (c .before .before .before .number .result)) (held (a .width) s) (sym (c .enum-told .given .1) ∙ c .before .before .marks .ensures)) refl,
-      packets-wired (a .width) (length s / a .width) s (octets (c .before .before .before .before)),
-    )
+returns-4 : tie.Need-returns-4
+returns-4 c =
+    let a = c .before .before .before .before .before .before .before .before .before .args in
+    let s = now (a .records) in
+    (misfit-of (turned (c .before .before .before .before .before .before .before .number .result)) (held (a .width) s) (sym (c .enum-told .given .1) ∙ c .before .before .marks .ensures), packets-wired (a .width) (length s / a .width) s (octets (c .before .before .before .before .before .before .before .before)))
 
 pub count-part-spec : {M : Type 1} → statement M
 count-part-spec =
     tie.close
     (tie.spec
     number-requires
+    magnitude-requires
+    add-top
+    add-below
+    sub-below
+    fours-requires
+    returns
+    returns-2
     mul-turned
     add-turned
     cast-marks
@@ -82,5 +112,5 @@ count-part-spec =
     enum-known-scan
     placed-requires
     enum-told
-    returns
-    returns-2)
+    returns-3
+    returns-4)

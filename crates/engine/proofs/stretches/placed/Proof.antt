@@ -1,19 +1,15 @@
 -- `engine::stretches::placed` meets its contract. Assumes nothing.
 use borrow.Author.Needs.{needs}
-use mathlib.Core.Path.{_≡_, refl, sym, ap, subst, _∙_}
-use mathlib.Core.Bool.{true}
+use mathlib.Core.Path.{_≡_, sym, ap, subst, _∙_}
 use native.Mathlib.Omega.{arith}
 use Prim.Native.Nat.{ℕ, _+_, _%_}
 use lib.IntN.{natAbs}
 use denote.Ref.{now}
 use Rattle.numbers.proofs.Signed.{seen-is}
 use Rattle.source.proofs.Facts.{facts, some-has-counted}
-use Rattle.source.specs.Places.{pack}
-use Rattle.engine.specs.declared.window.Found.{Found}
-use Rattle.engine.specs.declared.stretches.Part.the-variants.{Counted}
-use Rattle.engine.specs.Windows.{held, turned, within, hits, foundIn}
+use Rattle.engine.specs.Windows.{held, turned, foundIn}
 use Rattle.engine.specs.Settled.{topOf, ShiftedBy}
-use Rattle.engine.proofs.Placing.{scan-of, scan-strays, found-at, found-outside, up-few, more-few, settled-is}
+use Rattle.engine.proofs.Placing.{scan-fit, scan-of, scan-strays, found-at, up-few, more-few, settled-is}
 use Rattle.engine.proofs.stretches.placed.Statement.{statement}
 use Rattle.engine.proofs.stretches.placed.Tie as tie
 
@@ -44,8 +40,8 @@ enum-told c = search needs
 
 returns : tie.Need-returns
 returns c =
-    let a = c .before .before .before .before .before .before .before .args in
-    rw (found-outside (topOf (a .s)) (held (a .width) (now (a .records))) (sym (c .enum-told .given .1) ∙ told (c .before .before)))
+    let p = c .before .before .before .before .before .before .before .before in
+    scan-fit (p .args .width) (now (p .args .records)) (p .args .n) (turned (p .args .first)) (p .pre .0 .0) (p .args .scan) (p .pre .1 .1)
 
 moved-on-requires : tie.Need-moved-on-requires
 moved-on-requires c κs =
@@ -77,9 +73,11 @@ returns-2 c =
     let top = topOf (p .args .s) in
     let at = found-at top _ ps (sym (c .before .before .before .before .found .given .1) ∙ told (c .before .before .before .before .before .before)) in
     let of = scan-of (p .args .width) s (p .args .n) (turned (p .args .first)) (p .pre .0 .0) (p .args .scan) (p .pre .1 .1) in
-    let by = subst (λ (b : ℕ). ShiftedBy (p .args .s .history) b (c .before .moved-on .result)) (at .1) (c .before .moved-on .ensures) in
-    let all : within top ps ≡ true = at .0 in
-    rw all (ap Counted (c .settled .ensures ∙ settled-is top (p .args .s) (p .args .n) (p .args .scan) (c .before .moved-on .result) ps all of by))
+    let by = subst (λ (b : ℕ). ShiftedBy (p .args .s .history) b (c .before .moved-on .result)) (at .1) (c .before .moved-on .ensures) in (
+      scan-fit (p .args .width) s (p .args .n) (turned (p .args .first)) (p .pre .0 .0) (p .args .scan) (p .pre .1 .1),
+      at .0,
+      c .settled .ensures ∙ settled-is top (p .args .s) (p .args .n) (p .args .scan) (c .before .moved-on .result) ps (at .0) of by,
+    )
 
 pub placed-spec : {M : Type 1} → statement M
 placed-spec =

@@ -29,10 +29,30 @@ returns-2 c =
     subst (λ (w : ℕ). SeenIn (p .args .top) (held w (now (p .args .records))) (c .seen-along2 .result)) (sym (c .before .before .if1 .taken)) (c .seen-along2 .ensures)
 
 seen-along-requires-3 : tie.Need-seen-along-requires-3
-seen-along-requires-3 c κs = search needs
+seen-along-requires-3 c κs =
+    let p = c .before .before .before .before in
+    (subst (λ (w : ℕ). Held w (now (p .args .records)) (p .args .n)) (c .before .if3 .taken) (p .pre .0), sym (c .if4 .taken), p .pre .1)
 
 returns-3 : tie.Need-returns-3
-returns-3 c = search needs
+returns-3 c =
+    let p = c .before .before .before .before .before in
+    subst (λ (w : ℕ). SeenIn (p .args .top) (held w (now (p .args .records))) (c .seen-along3 .result)) (sym (c .before .before .if3 .taken)) (c .seen-along3 .ensures)
+
+seen-along-requires-4 : tie.Need-seen-along-requires-4
+seen-along-requires-4 c κs =
+    let p = c .before .before .before .before in
+    (subst (λ (w : ℕ). Held w (now (p .args .records)) (p .args .n)) (c .before .if3 .taken) (p .pre .0), refl, p .pre .1)
+
+returns-4 : tie.Need-returns-4
+returns-4 c =
+    let p = c .before .before .before .before .before in
+    subst (λ (w : ℕ). SeenIn (p .args .top) (held w (now (p .args .records))) (c .seen-along4 .result)) (sym (c .before .before .if3 .taken)) (c .seen-along4 .ensures)
+
+seen-along-requires-5 : tie.Need-seen-along-requires-5
+seen-along-requires-5 c κs = search needs
+
+returns-5 : tie.Need-returns-5
+returns-5 c = search needs
 
 pub seen-in-spec : {M : Type 1} → statement M
 seen-in-spec =
@@ -43,4 +63,8 @@ seen-in-spec =
     seen-along-requires-2
     returns-2
     seen-along-requires-3
-    returns-3)
+    returns-3
+    seen-along-requires-4
+    returns-4
+    seen-along-requires-5
+    returns-5)
