@@ -2,6 +2,7 @@
 mod arrivals;
 mod breaker;
 mod compound;
+mod form;
 mod library;
 mod medians;
 mod random;
@@ -25,7 +26,7 @@ type Run<'a> = Box<dyn FnMut() + 'a>;
 
 /// One line of the table for each of the others; `units` calls or records are one run.
 fn lines(call: &str, input: &str, others: &[&str], units: usize, mut runs: Vec<Run>) {
-    let times = medians::medians(PROCESSOR, medians::setting("ROUNDS", 11), &mut runs);
+    let times = medians::medians(PROCESSOR, medians::setting("ROUNDS", 11), || (), &mut runs);
     let ns = |i: usize| times[i] * 1e9 / units as f64;
     for (i, other) in others.iter().enumerate() {
         let ratio = ns(i + 1) / ns(0);
@@ -85,10 +86,10 @@ fn run<'a, T>(give: impl Fn() -> T + 'a) -> Run<'a> {
 fn counting() {
     let rings = ["ring of 100 flags", "ring of 128 flags"];
     for (link, name) in LINKS.into_iter().chain(WORST) {
-        let units = BLOCKS * records::MOST_RECORDS;
+        let units = BLOCKS * form::ONE.most;
         let list: Vec<_> = Arrivals::new(link, 1).take(units).collect();
         let mut again = list.iter().copied();
-        let whole: Vec<_> = (0..BLOCKS).map(|_| records::records(0, &mut again)).collect();
+        let whole: Vec<_> = (0..BLOCKS).map(|_| records::records(form::ONE, 0, &mut again)).collect();
         let answer = arrive_ours(&list);
         let others = [arrive_other::<Hundred>(&list), arrive_other::<PowerOfTwo>(&list)];
         let in_blocks = [blocks_ours(&whole), blocks_other::<Hundred>(&whole), blocks_other::<PowerOfTwo>(&whole)];

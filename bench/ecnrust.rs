@@ -1,8 +1,12 @@
-//! The other program: document 01's table with document 02's restarts (L5) in straightforward Rust, with the same checks and the same output as
-//! ecntable.
-use std::io::{self, BufReader, BufWriter, Read, Write};
+//! The other program: document 01's table with document 02's restarts (L5) and forms (L10) in straightforward Rust, with the same checks and the
+//! same output as ecntable.
+mod blocks;
+mod form;
+mod trace;
 
-const BLOCK: usize = 512;
+use blocks::{BLOCK, BODY};
+use std::io::{self, BufReader, BufWriter, Write};
+
 const BUFFER: usize = 65_536;
 const MOST: u64 = 1 << 48;
 
@@ -80,56 +84,6 @@ impl Source {
     }
 }
 
-fn short(b: &[u8], at: usize) -> u16 {
-    u16::from_be_bytes([b[at], b[at + 1]])
-}
-
-fn check_is_right(b: &[u8]) -> bool {
-    let mut sum: u32 = b.chunks_exact(2).map(|word| u32::from(short(word, 0))).sum();
-    while sum > 0xffff {
-        sum = (sum & 0xffff) + (sum >> 16);
-    }
-    sum == 0xffff && short(b, 510) != 0xffff
-}
-
-fn is_label(body: &[u8], n: usize) -> bool {
-    n <= 502 && body[..n].iter().all(|&c| matches!(c, 32..=126 | 10 | 13)) && body[n..].iter().all(|&c| c == 0)
-}
-
-fn are_arrivals(body: &[u8], n: usize) -> bool {
-    (1..=62).contains(&n)
-        && body[..8 * n].chunks_exact(8).all(|record| record[6] <= 3 && record[7] == 0)
-        && body[8 * n..].iter().all(|&c| c == 0)
-}
-
-/// The count and the SSRC of a block of the given kind, or its refusal.
-fn read(b: &[u8], kind: u16) -> Result<(usize, u32), u8> {
-    if b.len() != BLOCK {
-        return Err(1);
-    }
-    if !check_is_right(b) {
-        return Err(13);
-    }
-    let n = usize::from(short(b, 2));
-    let fits = if kind == 1 { is_label(&b[8..510], n) } else { are_arrivals(&b[8..510], n) };
-    if short(b, 0) != kind || !fits {
-        return Err(14);
-    }
-    Ok((n, u32::from_be_bytes([b[4], b[5], b[6], b[7]])))
-}
-
-/// Reads up to a whole block.
-fn next_block(input: &mut impl Read, b: &mut [u8; BLOCK]) -> io::Result<usize> {
-    let mut n = 0;
-    while n < BLOCK {
-        match input.read(&mut b[n..])? {
-            0 => break,
-            more => n += more,
-        }
-    }
-    Ok(n)
-}
-
 fn quoted(label: &[u8]) -> String {
     let text = String::from_utf8_lossy(label);
     if text.contains(['"', ',', '\r', '\n']) { format!("\"{}\"", text.replace('"', "\"\"")) } else { text.into_owned() }
@@ -141,31 +95,40 @@ fn write_row(out: &mut impl Write, label: &str, ssrc: u32, s: &Source) -> io::Re
     write!(out, "{label},{ssrc},{highest},{ect0},{ect1},{ce},{notect},{lost},{},{},{}\r\n", s.duplicates, s.jumped, s.restarts)
 }
 
+/// Takes a block's records, of WIDTH bytes each.
+fn arrive_all<const WIDTH: usize>(source: &mut Source, ring: &mut Ring, records: &[u8]) {
+    for record in records.chunks_exact(WIDTH) {
+        source.arrive(ring, trace::short(record, WIDTH - 4), record[WIDTH - 2]);
+    }
+}
+
 fn main() -> io::Result<()> {
     let mut input = BufReader::with_capacity(BUFFER, io::stdin().lock());
     let mut out = BufWriter::with_capacity(BUFFER, io::stdout().lock());
     let (mut b, mut source, mut ring) = ([0; BLOCK], Source::default(), Ring([false; 100]));
     write!(out, "label,ssrc,highest,ect0,ect1,ce,notect,lost,dup,jumped,restarts\r\n")?;
-    let size = next_block(&mut input, &mut b)?;
-    let (length, ssrc) = match read(&b[..size], 1) {
+    let size = trace::next_block(&mut input, &mut b)?;
+    let found = match trace::zeroth(&b[..size]) {
         Ok(found) => found,
         Err(refusal) => return write!(out, "refused {refusal} block 0\r\n"),
     };
-    let label = quoted(&b[8..8 + length]);
+    let label = quoted(&b[BODY..BODY + found.count]);
     for i in 1u64.. {
-        let size = next_block(&mut input, &mut b)?;
+        let size = trace::next_block(&mut input, &mut b)?;
         if size == 0 {
             break;
         }
-        let n = match read(&b[..size], 2) {
-            Ok((n, own)) if own == ssrc => n,
-            Ok(_) => return write!(out, "refused 14 block {i}\r\n"),
+        let n = match trace::later(&found, &b[..size]) {
+            Ok(n) => n,
             Err(refusal) => return write!(out, "refused {refusal} block {i}\r\n"),
         };
-        for record in b[8..8 + 8 * n].chunks_exact(8) {
-            source.arrive(&mut ring, short(record, 4), record[6]);
+        let records = &b[BODY..BODY + n * found.form.width];
+        if found.form == form::ONE {
+            arrive_all::<8>(&mut source, &mut ring, records);
+        } else {
+            arrive_all::<10>(&mut source, &mut ring, records);
         }
-        write_row(&mut out, &label, ssrc, &source)?;
+        write_row(&mut out, &label, found.ssrc, &source)?;
     }
     out.flush()
 }

@@ -23,11 +23,13 @@ pub fn setting(name: &str, default: usize) -> usize {
     std::env::var(name).ok().and_then(|text| text.parse().ok()).unwrap_or(default)
 }
 
-/// Runs all in turn, `rounds` times, and gives the median of each in seconds. A first round is not counted.
-pub fn medians(clock: Clock, rounds: usize, runs: &mut [Box<dyn FnMut() + '_>]) -> Vec<f64> {
+/// Runs all in turn, `rounds` times, and gives the median of each in seconds. A first round is not counted, and what is done before each run is not
+/// timed.
+pub fn medians(clock: Clock, rounds: usize, before: impl Fn(), runs: &mut [Box<dyn FnMut() + '_>]) -> Vec<f64> {
     let mut times = vec![Vec::new(); runs.len()];
     for round in 0..=rounds {
         for (run, taken) in runs.iter_mut().zip(&mut times) {
+            before();
             let begin = clock.now();
             run();
             let time = (clock.now() - begin).as_secs_f64();

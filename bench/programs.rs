@@ -1,14 +1,17 @@
-//! Times `cat`, ecntable and the Rust program on three traces. Arguments: ecntable, the Rust program, a folder for traces and outputs.
+//! Times `cat`, our programs and the other ones on traces. Arguments: the folder of ours, that of the others, the traces and the outputs, and the
+//! machine's word.
 mod arrivals;
 mod blocks;
+mod form;
 mod medians;
 mod random;
 mod records;
 
 use arrivals::{Arrivals, LINKS, Link};
+use form::{Form, ONE, TWO};
 use std::fs::{self, File};
 use std::io::{self, BufWriter, Write};
-use std::path::Path;
+use std::path::{Path, PathBuf};
 use std::process::{Command, Stdio};
 
 /// The time on the wall.
@@ -17,27 +20,27 @@ const SSRC: u32 = 3_735_928_559;
 const LABEL: &[u8] = b"probe 2, left";
 
 /// Writes a trace of so many MB, block by block.
-fn write_trace(path: &Path, link: Link, megabytes: usize) -> io::Result<()> {
+fn write_trace(path: &Path, form: Form, link: Link, megabytes: usize) -> io::Result<()> {
     let mut out = BufWriter::new(File::create(path)?);
     let mut list = Arrivals::new(link, 1);
-    out.write_all(&blocks::label(LABEL, SSRC))?;
+    out.write_all(&blocks::label(form, LABEL, SSRC))?;
     for i in 1..megabytes * 1_000_000 / blocks::BLOCK {
-        let records = records::records(1_240 * i as u32, &mut list);
-        out.write_all(&blocks::arrivals(&records, SSRC))?;
+        let records = records::records(form, (20 * form.most * i) as u64, &mut list);
+        out.write_all(&blocks::arrivals(form, &records, SSRC))?;
     }
     out.flush()
 }
 
-fn convert(program: &str, trace: &Path, out: &Path) {
+fn convert(program: &Path, trace: &Path, out: &Path) {
     let input = File::open(trace).expect("a trace");
     let output = File::create(out).expect("an output");
     let status = Command::new(program).stdin(Stdio::from(input)).stdout(Stdio::from(output)).status();
-    assert!(status.expect("a program that starts").success(), "{program} failed");
+    assert!(status.expect("a program that starts").success(), "{} failed", program.display());
 }
 
-/// The medians of `cat`, ours and the other on one trace; the last two have to write the same. `cat` has rounds of its own: what runs right
-/// behind it finds the trace pushed out of the processor's cache by its output.
-fn measure(programs: &[String; 3], trace: &Path, folder: &Path, rounds: usize) -> Vec<f64> {
+/// The medians of `cat`, ours and the other on one trace, each to a new file; the last two have to write the same. `cat` has rounds of its own:
+/// what runs right behind it finds the trace pushed out of the processor's cache by its output.
+fn measure(programs: &[PathBuf; 3], trace: &Path, folder: &Path, rounds: usize) -> Vec<f64> {
     let outs = ["cat.out", "ours.out", "other.out"].map(|name| folder.join(name));
     let mut runs: Vec<Box<dyn FnMut()>> = Vec::new();
     for (program, out) in programs.iter().zip(&outs) {
@@ -46,24 +49,29 @@ fn measure(programs: &[String; 3], trace: &Path, folder: &Path, rounds: usize) -
     }
     let same = fs::read(&outs[1]).expect("our output") == fs::read(&outs[2]).expect("the other output");
     assert!(same, "the outputs differ on {}", trace.display());
+    let remove = || outs.iter().for_each(|out| drop(fs::remove_file(out)));
     let (cat, converters) = runs.split_at_mut(1);
-    [medians::medians(WALL, rounds, cat), medians::medians(WALL, rounds, converters)].concat()
+    [medians::medians(WALL, rounds, remove, cat), medians::medians(WALL, rounds, remove, converters)].concat()
 }
 
 fn main() -> io::Result<()> {
     let mut words = std::env::args().skip(1);
-    let mut word = || words.next().expect("programs OURS OTHER FOLDER MACHINE");
-    let programs = ["cat".to_string(), word(), word()];
-    let (folder, machine) = (word(), word());
+    let mut word = || words.next().expect("programs OURS FOLDER MACHINE");
+    let (ours, folder, machine) = (PathBuf::from(word()), PathBuf::from(word()), word());
     let (megabytes, rounds) = (medians::setting("SIZE", 200), medians::setting("ROUNDS", 11));
     println!("Programs on traces of {megabytes} MB, in ms; {machine}, median of {rounds} interleaved rounds.\n");
-    println!("| trace | `cat` | ecntable | Rust program | Rust program / ecntable |\n|---|---|---|---|---|");
-    for (link, name) in LINKS {
-        let trace = Path::new(&folder).join("trace");
-        write_trace(&trace, link, megabytes)?;
-        let times = measure(&programs, &trace, Path::new(&folder), rounds);
-        let [cat, ours, other] = [0, 1, 2].map(|i| times[i] * 1e3);
-        println!("| {name} | {cat:.0} | {ours:.0} | {other:.0} | {:.2} |", other / ours);
+    println!("| program | trace | `cat` | ours | Rust program | Rust program / ours |\n|---|---|---|---|---|---|");
+    for (form, of_form) in [(ONE, "form 1"), (TWO, "form 2")] {
+        for (program, other, links) in [("ecntable", "ecnrust", &LINKS[..]), ("ecnforms", "formsrust", &LINKS[1..2])] {
+            let programs = [PathBuf::from("cat"), ours.join(program), folder.join(other)];
+            for &(link, name) in links {
+                let trace = folder.join("trace");
+                write_trace(&trace, form, link, megabytes)?;
+                let times = measure(&programs, &trace, &folder, rounds);
+                let [cat, ours, other] = [0, 1, 2].map(|i| times[i] * 1e3);
+                println!("| {program} | {of_form}, {name} | {cat:.0} | {ours:.0} | {other:.0} | {:.2} |", other / ours);
+            }
+        }
     }
     Ok(())
 }

@@ -1,7 +1,7 @@
 /* Flasknib: ECN counting, reports, the compound RTCP reader, the circuit breaker, trace blocks and table rows.
  *
  * Every function returns on every input. Records are lent as arrays of 64-bit words in the layouts below; a signed number is stored as its
- * two's complement. A refusal is its number in document 01's table (1 to 14), and a refused call changes no word and no byte of what it
+ * two's complement. A refusal is its number below, and a refused call changes no word and no byte of what it
  * was lent, with one exception: refusal 7 of flasknib_arrive changes the record's last word. A record in another number of words than its
  * layout has is refused with 9, as malformed. A function that writes bytes says with refusal 12 how many it needs.
  */
@@ -27,7 +27,8 @@ enum {
                                  * packet earlier than these */
     FLASKNIB_ROOM = 12,         /* the output is too small; where bytes are written, the answer has their number, the size */
     FLASKNIB_CHECKSUM = 13,     /* a block's checksum */
-    FLASKNIB_CONTENTS = 14      /* a block's contents */
+    FLASKNIB_CONTENTS = 14,     /* a block's contents */
+    FLASKNIB_FORM_TWO = 17      /* a time needs form 2: printed by the program ecnforms, answered by no function here */
 };
 
 /* ---- what a writer answers -------------------------------------------------------------------------------------------------------
@@ -154,23 +155,32 @@ uint16_t flasknib_breaker_tick(uint64_t *breaker, size_t words, uint64_t time);
  * stopped breaker answers its stop. */
 uint16_t flasknib_breaker_heard(uint64_t *breaker, size_t words, uint64_t time);
 
-/* ---- trace blocks and table rows -------------------------------------------------------------------------------------------------*/
+/* ---- trace blocks and table rows -------------------------------------------------------------------------------------------------
+ * A trace has one of two forms, and each of its blocks says which. Form 1: 1 to 62 arrivals to a block, with times below 2^32 ms (49 days). Form
+ * 2: 1 to 50, with times below 2^48 ms. A record is the time, of 4 or 6 bytes, then the wire number (2), the mark and a zero.
+ */
 
-/* 3 words of a block: 1 for a label or 2 for arrivals; the label's length or the number of records; the SSRC. */
+/* 3 words of a block: its kind; the label's length or the number of records; the SSRC. */
 #define FLASKNIB_BLOCK_WORDS 3
+
+/* The kinds of a block. Those of form 1 are 1 and 2, those of form 2 are 3 and 4. */
+enum { FLASKNIB_LABEL_ONE = 1, FLASKNIB_ARRIVALS_ONE = 2, FLASKNIB_LABEL_TWO = 3, FLASKNIB_ARRIVALS_TWO = 4 };
 
 /* The bytes of every block. */
 #define FLASKNIB_BLOCK_BYTES 512
 
-/* Reads a block of 512 bytes. Gives 0 and 3 words at the front of `found`, or refusal 1, 13 or 14, or 12 where `found` has fewer words. */
+/* Reads a block of 512 bytes, of either form. Gives 0 and 3 words at the front of `found`, or refusal 1, 13 or 14, or 12 where `found` has fewer
+ * words. */
 uint8_t flasknib_read_block(const uint8_t *block, size_t length, uint64_t *found, size_t words);
 
-/* Writes a label block, 512 bytes. Gives its length, or minus refusal 10, or 12 with its size. */
-int64_t flasknib_write_label(const uint8_t *label, size_t length, uint32_t ssrc, uint8_t *out, size_t room);
+/* Writes a label block of form 1 or 2, 512 bytes. Gives its length, or minus refusal 10 for a label outside the trace's rules or another form, or
+ * 12 with its size. */
+int64_t flasknib_write_label(uint8_t form, const uint8_t *label, size_t length, uint32_t ssrc, uint8_t *out, size_t room);
 
-/* Writes an arrivals block, 512 bytes. Gives its length, or minus refusal 10, or 12 with its size. */
-int64_t flasknib_write_arrivals(const uint32_t *times, size_t n_times, const uint16_t *numbers, size_t n_numbers, const uint8_t *marks,
-                                size_t n_marks, uint32_t ssrc, uint8_t *out, size_t room);
+/* Writes an arrivals block of form 1 or 2, 512 bytes. Gives its length, or minus refusal 10 for records outside the form's rules, lists of unequal
+ * length or another form, or 12 with its size. */
+int64_t flasknib_write_arrivals(uint8_t form, const uint64_t *times, size_t n_times, const uint16_t *numbers, size_t n_numbers,
+                                const uint8_t *marks, size_t n_marks, uint32_t ssrc, uint8_t *out, size_t room);
 
 /* Writes the table's head line, 65 bytes. Gives its length, or minus refusal 12 with its size. */
 #define FLASKNIB_HEAD_BYTES 65

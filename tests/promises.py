@@ -2,7 +2,7 @@
 """tests/promises.py: every public function of the proved libraries has a promise, and none asks anything of its caller.
 
 A crate's public functions are those of its root and of its public modules, and the methods of every `impl`, wherever it stands. What is excepted
-stands in EXCEPTED: the test programs' own libraries, and of the program shell the two calls of which no contract can say anything. A copy
+stands in EXCEPTED: the test programs' own libraries, and of the program shell the three calls of which no contract can say anything. A copy
 of the crates is then broken in three ways, and each must be found.
 """
 import os
@@ -15,7 +15,7 @@ TOP = os.path.dirname(os.path.dirname(os.path.abspath(__file__)))
 CRATES = os.path.join(TOP, "crates")
 
 # crate: its functions with no promise; None: all of them
-EXCEPTED = {"show": None, "cases": None, "shell": {"tell", "has_arguments"}}
+EXCEPTED = {"show": None, "cases": None, "shell": {"tell", "tell_reading", "has_arguments"}}
 
 FUNCTION = re.compile(r'^(?P<indent> *)pub (?:extern "C" )?fn (?P<name>\w+)', re.M)
 

@@ -13,8 +13,8 @@ pub trait Calls {
     fn breaker_tick(&self, breaker: &mut [u64], time: u64) -> u16;
     fn breaker_heard(&self, breaker: &mut [u64], time: u64) -> u16;
     fn read_block(&self, block: &[u8], found: &mut [u64]) -> u8;
-    fn write_label(&self, label: &[u8], ssrc: u32, out: &mut [u8]) -> i64;
-    fn write_arrivals(&self, times: &[u32], numbers: &[u16], marks: &[u8], ssrc: u32, out: &mut [u8]) -> i64;
+    fn write_label(&self, form: u8, label: &[u8], ssrc: u32, out: &mut [u8]) -> i64;
+    fn write_arrivals(&self, form: u8, times: &[u64], numbers: &[u16], marks: &[u8], ssrc: u32, out: &mut [u8]) -> i64;
     fn write_head(&self, out: &mut [u8]) -> i64;
     fn write_row(&self, label: &[u8], ssrc: u32, source: &[u64], jumped: u64, restarts: u64, out: &mut [u8]) -> i64;
 }

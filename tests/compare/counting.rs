@@ -60,11 +60,11 @@ fn wire(draw: &Draw, words: &[u64]) -> u16 {
     }
 }
 
-/// Records of 4 to 12 bytes, mostly 8, mostly 1 to 62 of them; now and then cut, or with a width that does not fit. Their numbers are each drawn
-/// near the record, or those of a sender that jumps and begins again.
+/// Records of 4 to 12 bytes, mostly those of a form, mostly 1 to 62 of them; now and then cut, or with a width that does not fit. Their numbers are
+/// each drawn near the record, or those of a sender that jumps and begins again.
 fn count_any_block(compare: &Compare, draw: &Draw) {
     let words = sources::any(draw);
-    let width = draw.of(&[8, 8, 8, 4, 5, 12]);
+    let width = draw.of(&[8, 8, 10, 10, 4, 5, 12]);
     let count = if draw.one_in(20) { draw.of(&[0, 63, 64, 124]) } else { draw.edge(1, 62) };
     let numbers = if draw.one_in(2) {
         (0..count).map(|_| wire(draw, &words)).collect()

@@ -5,7 +5,7 @@ use model::breaker::{Answer, Breaker, Report};
 use model::compound::Profile;
 use model::refusal::{put, require, Refusal, Written, JUMP, LIMITS, ROOM};
 use model::source::{count_block, Counted, Source};
-use model::trace::{arrivals_block, label_block, Contents, Record};
+use model::trace::{arrivals_block, label_block, Contents, Form, Record};
 use model::{compound, report, table, trace};
 
 pub struct Expected;
@@ -119,26 +119,26 @@ impl Calls for Expected {
     }
 
     fn read_block(&self, block: &[u8], found: &mut [u64]) -> u8 {
-        let words = trace::read(block).map(|(ssrc, contents)| {
+        let words = trace::read(block).map(|(form, ssrc, contents)| {
             let (kind, count) = match contents {
-                Contents::Label(label) => (1, label.len()),
-                Contents::Arrivals(records) => (2, records.len()),
+                Contents::Label(label) => (form.kinds().0, label.len()),
+                Contents::Arrivals(records) => (form.kinds().1, records.len()),
             };
-            [kind, count as u64, u64::from(ssrc)]
+            [u64::from(kind), count as u64, u64::from(ssrc)]
         });
         put_words(words, found)
     }
 
-    fn write_label(&self, label: &[u8], ssrc: u32, out: &mut [u8]) -> i64 {
-        length(put(label_block(label, ssrc), out))
+    fn write_label(&self, form: u8, label: &[u8], ssrc: u32, out: &mut [u8]) -> i64 {
+        length(put(Form::from_number(form).and_then(|form| label_block(form, label, ssrc)), out))
     }
 
-    fn write_arrivals(&self, times: &[u32], numbers: &[u16], marks: &[u8], ssrc: u32, out: &mut [u8]) -> i64 {
+    fn write_arrivals(&self, form: u8, times: &[u64], numbers: &[u16], marks: &[u8], ssrc: u32, out: &mut [u8]) -> i64 {
         let together = times.iter().zip(numbers).zip(marks);
         let records: Vec<Record> = together.map(|((&time, &wire), &mark)| Record { time, wire, mark }).collect();
         let same_length = times.len() == numbers.len() && numbers.len() == marks.len();
-        let block = require(same_length, LIMITS).and_then(|()| arrivals_block(&records, ssrc));
-        length(put(block, out))
+        let form = require(same_length, LIMITS).and_then(|()| Form::from_number(form));
+        length(put(form.and_then(|form| arrivals_block(form, &records, ssrc)), out))
     }
 
     fn write_head(&self, out: &mut [u8]) -> i64 {

@@ -19,9 +19,9 @@ extern "C" {
     fn flasknib_breaker_tick(breaker: *mut u64, words: usize, time: u64) -> u16;
     fn flasknib_breaker_heard(breaker: *mut u64, words: usize, time: u64) -> u16;
     fn flasknib_read_block(block: *const u8, length: usize, found: *mut u64, words: usize) -> u8;
-    fn flasknib_write_label(label: *const u8, length: usize, ssrc: u32, out: *mut u8, room: usize) -> i64;
-    fn flasknib_write_arrivals(times: *const u32, n_times: usize, numbers: *const u16, n_numbers: usize, marks: *const u8, n_marks: usize,
-                               ssrc: u32, out: *mut u8, room: usize) -> i64;
+    fn flasknib_write_label(form: u8, label: *const u8, length: usize, ssrc: u32, out: *mut u8, room: usize) -> i64;
+    fn flasknib_write_arrivals(form: u8, times: *const u64, n_times: usize, numbers: *const u16, n_numbers: usize, marks: *const u8,
+                               n_marks: usize, ssrc: u32, out: *mut u8, room: usize) -> i64;
     fn flasknib_write_head(out: *mut u8, room: usize) -> i64;
     fn flasknib_write_row(label: *const u8, length: usize, ssrc: u32, source: *const u64, words: usize, jumped: u64,
                           restarts: u64, out: *mut u8, room: usize) -> i64;
@@ -85,15 +85,15 @@ impl Calls for Library {
         unsafe { flasknib_read_block(block.as_ptr(), block.len(), found.as_mut_ptr(), found.len()) }
     }
 
-    fn write_label(&self, label: &[u8], ssrc: u32, out: &mut [u8]) -> i64 {
-        unsafe { flasknib_write_label(label.as_ptr(), label.len(), ssrc, out.as_mut_ptr(), out.len()) }
+    fn write_label(&self, form: u8, label: &[u8], ssrc: u32, out: &mut [u8]) -> i64 {
+        unsafe { flasknib_write_label(form, label.as_ptr(), label.len(), ssrc, out.as_mut_ptr(), out.len()) }
     }
 
-    fn write_arrivals(&self, times: &[u32], numbers: &[u16], marks: &[u8], ssrc: u32, out: &mut [u8]) -> i64 {
+    fn write_arrivals(&self, form: u8, times: &[u64], numbers: &[u16], marks: &[u8], ssrc: u32, out: &mut [u8]) -> i64 {
         let (times_at, numbers_at, marks_at) = (times.as_ptr(), numbers.as_ptr(), marks.as_ptr());
         let (n_times, n_numbers, n_marks) = (times.len(), numbers.len(), marks.len());
         let (at, room) = (out.as_mut_ptr(), out.len());
-        unsafe { flasknib_write_arrivals(times_at, n_times, numbers_at, n_numbers, marks_at, n_marks, ssrc, at, room) }
+        unsafe { flasknib_write_arrivals(form, times_at, n_times, numbers_at, n_numbers, marks_at, n_marks, ssrc, at, room) }
     }
 
     fn write_head(&self, out: &mut [u8]) -> i64 {

@@ -10,6 +10,7 @@ mod circuit;
 mod compare;
 mod counting;
 mod expected;
+mod forms;
 mod lent;
 mod library;
 mod lists;
@@ -38,6 +39,7 @@ fn main() {
     let draw = &Draw::seeded(seed);
     worked::examples(compare);
     restarts::examples(compare);
+    forms::examples(compare);
     counting::calls(compare, draw);
     reports::calls(compare, draw);
     let mutations = reading::calls(compare, draw);

@@ -34,31 +34,49 @@ pub fn any_label(draw: &Draw) -> Vec<u8> {
     label
 }
 
-pub fn records(draw: &Draw) -> Vec<Record> {
+/// The number of records of a block.
+pub fn count(draw: &Draw, form: Form) -> usize {
+    draw.edge(1, form.most_records() as u64) as usize
+}
+
+/// A time below a limit, often where 32 bits or the limit end.
+pub fn time(draw: &Draw, below: u64) -> u64 {
+    let near = draw.below(900);
+    match draw.below(6) {
+        0 => near,
+        1 => below - 1 - near,
+        2 => ((1 << 32) - 450 + near) % below,
+        3 => draw.below(below),
+        _ => draw.below(1 << 32),
+    }
+}
+
+/// The records of a block of the form, with times below a limit.
+pub fn records(draw: &Draw, form: Form, below: u64) -> Vec<Record> {
     let mut wire = draw.u64() as u16;
     let ahead = draw.of(&[2, 40, 4_000]);
-    let wires = (0..draw.edge(1, 62)).map(|_| {
+    let wires = (0..count(draw, form)).map(|_| {
         wire = wire.wrapping_add(draw.below(ahead) as u16).wrapping_sub(draw.below(3) as u16);
         wire
     });
-    with_times(draw, &wires.collect::<Vec<u16>>())
+    with_times(draw, below, &wires.collect::<Vec<u16>>())
 }
 
-/// Records of these wire numbers.
-pub fn with_times(draw: &Draw, wires: &[u16]) -> Vec<Record> {
-    let mut time = draw.u64() as u32;
+/// Records of these wire numbers. Their times go on, and wrap at the limit.
+pub fn with_times(draw: &Draw, below: u64, wires: &[u16]) -> Vec<Record> {
+    let mut time = time(draw, below);
     let record = |&wire| {
-        time = time.wrapping_add(draw.below(30) as u32);
+        time = (time + draw.below(30)) % below;
         Record { time, wire, mark: draw.below(4) as u8 }
     };
     wires.iter().map(record).collect()
 }
 
 pub fn sound(draw: &Draw) -> Vec<u8> {
-    let ssrc = draw.u64() as u32;
+    let (form, ssrc) = (draw.of(&FORMS), draw.u64() as u32);
     match draw.one_in(2) {
-        true => label_block(&label(draw), ssrc).unwrap(),
-        false => arrivals_block(&records(draw), ssrc).unwrap(),
+        true => label_block(form, &label(draw), ssrc).unwrap(),
+        false => arrivals_block(form, &records(draw, form, form.times()), ssrc).unwrap(),
     }
 }
 
@@ -92,15 +110,17 @@ pub fn check_of_ones(draw: &Draw, block: &mut [u8]) {
 
 /// Damages what the check covers, and sets the check that fits.
 pub fn damage_contents(draw: &Draw, block: &mut [u8]) {
-    let count = usize::from(block[3]);
-    let arrivals = block[1] == 2;
+    let form = if block[1] < 3 { Form::One } else { Form::Two };
+    let arrivals = block[1] % 2 == 0;
+    // Where one of the records ends, or could end.
+    let end = 8 + form.width() * draw.within(1, u64::from(block[3]).clamp(1, form.most_records() as u64)) as usize;
     match draw.below(8) {
-        0 => block[1] = draw.below(4) as u8,
+        0 => block[1] = draw.below(6) as u8,
         1 => block[0] = draw.below(2) as u8,
-        2 => block[3] = draw.of(&[0, 1, 61, 62, 63, 245, 246, 247]),
+        2 => block[3] = draw.of(&[0, 1, 49, 50, 51, 61, 62, 63, 245, 246, 247]),
         3 => block[2] = draw.below(3) as u8,
-        4 if arrivals => block[8 * draw.within(1, count.clamp(1, 62) as u64) as usize + 6] = draw.edge(2, 255) as u8,
-        5 if arrivals => block[8 * draw.within(1, count.clamp(1, 62) as u64) as usize + 7] = draw.below(2) as u8,
+        4 if arrivals => block[end - 2] = draw.edge(2, 255) as u8,
+        5 if arrivals => block[end - 1] = draw.below(2) as u8,
         6 => block[CHECK - 1 - draw.index(12)] = draw.below(3) as u8,
         _ => {
             let place = 8 + draw.index(BODY);

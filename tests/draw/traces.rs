@@ -1,21 +1,27 @@
-//! Whole traces, sound and damaged.
+//! Whole traces of both forms, sound and damaged.
 use crate::{arrivals, blocks, Draw};
-use model::trace::{arrivals_block, label_block, set_check, BLOCK};
+use model::trace::*;
+
+/// The times of a trace are below this: half of those of form 2 fit form 1 too.
+pub fn times(draw: &Draw, form: Form) -> u64 {
+    draw.of(&[Form::One, form]).times()
+}
 
 /// The blocks have numbers of their own, or those of one sender, which jumps and begins again within them and over their ends.
 pub fn sound(draw: &Draw, most_blocks: u64) -> Vec<u8> {
-    let ssrc = draw.u64() as u32;
-    let mut trace = label_block(&blocks::label(draw), ssrc).unwrap();
+    let (form, ssrc) = (draw.of(&FORMS), draw.u64() as u32);
+    let below = times(draw, form);
+    let mut trace = label_block(form, &blocks::label(draw), ssrc).unwrap();
     let count = draw.below(most_blocks + 1);
     if draw.one_in(2) {
-        (0..count).for_each(|_| trace.extend(arrivals_block(&blocks::records(draw), ssrc).unwrap()));
+        (0..count).for_each(|_| trace.extend(arrivals_block(form, &blocks::records(draw, form, below), ssrc).unwrap()));
         return trace;
     }
-    let wires = arrivals::wires(draw, draw.u64() as u16, 62 * count as usize);
+    let wires = arrivals::wires(draw, draw.u64() as u16, form.most_records() * count as usize);
     let mut rest = &wires[..];
     for _ in 0..count {
-        let (block, behind) = rest.split_at(draw.edge(1, 62) as usize);
-        trace.extend(arrivals_block(&blocks::with_times(draw, block), ssrc).unwrap());
+        let (block, behind) = rest.split_at(blocks::count(draw, form));
+        trace.extend(arrivals_block(form, &blocks::with_times(draw, below, block), ssrc).unwrap());
         rest = behind;
     }
     trace
@@ -35,7 +41,7 @@ fn damage(draw: &Draw, trace: &mut Vec<u8>) {
         return;
     }
     let at = BLOCK * draw.index(trace.len() / BLOCK);
-    match draw.below(9) {
+    match draw.below(12) {
         0 => trace.truncate(draw.index(trace.len() + 1)),
         1 => trace.extend(draw.bytes(1 + draw.index(BLOCK))),
         2 | 3 => blocks::flip(draw, &mut trace[at..at + BLOCK]),
@@ -46,11 +52,33 @@ fn damage(draw: &Draw, trace: &mut Vec<u8>) {
             trace[at + 4 + draw.index(4)] ^= 1 << draw.below(8);
             set_check(&mut trace[at..at + BLOCK]);
         }
-        _ => {
+        8 => {
             // A block again at another place: a label behind the first block, or arrivals in front.
             let block = trace[at..at + BLOCK].to_vec();
             let place = BLOCK * draw.index(trace.len() / BLOCK + 1);
             trace.splice(place..place, block);
         }
+        9 | 10 => other_form(draw, &mut trace[at..at + BLOCK]),
+        _ => long_time(draw, &mut trace[at..at + BLOCK]),
+    }
+}
+
+/// In place of a sound block a sound one of the other form and the same SSRC.
+fn other_form(draw: &Draw, block: &mut [u8]) {
+    if let Ok((form, ssrc, contents)) = read(block) {
+        let form = form.other();
+        block.copy_from_slice(&match contents {
+            Contents::Label(label) => label_block(form, &label, ssrc).unwrap(),
+            Contents::Arrivals(_) => arrivals_block(form, &blocks::records(draw, form, form.times()), ssrc).unwrap(),
+        });
+    }
+}
+
+/// In a sound block of form 2 one record has a time at an end of 32 or 48 bits.
+pub fn long_time(draw: &Draw, block: &mut [u8]) {
+    if let Ok((Form::Two, ssrc, Contents::Arrivals(mut records))) = read(block) {
+        let place = draw.index(records.len());
+        records[place].time = draw.of(&[(1 << 32) - 1, 1 << 32, (1 << 32) + 1, 1 << 40, (1 << 48) - 1]);
+        block.copy_from_slice(&arrivals_block(Form::Two, &records, ssrc).unwrap());
     }
 }

@@ -44,8 +44,10 @@ static int fails(const char *kind, long call, long from, long count, size_t *mos
     return strcmp(kind, "fail") == 0 && call < from + count;
 }
 
+/* A call that does not fail leaves errno as it was: sscanf would not. */
 static ssize_t moved(const char *name, int number, long call, int fd, uintptr_t bytes, size_t most)
 {
+    int before = errno;
     const char *list = getenv("FAULTS");
     char which[8], kind[8];
     long from, error, count;
@@ -59,6 +61,7 @@ static ssize_t moved(const char *name, int number, long call, int fd, uintptr_t 
         list += length;
         list += *list == ';';
     }
+    errno = before;
     return most == 0 && asked > 0 ? 0 : syscall(number, fd, bytes, most);
 }
 

@@ -1,8 +1,9 @@
-"""run.py ECNTABLE FAULTS.so FOLDER: ecntable where a read or a write fails, is interrupted, is not ready or moves few bytes.
+"""run.py ECNTABLE ECNFORMS FAULTS.so FOLDER: the programs where a read or a write fails, is interrupted, is not ready or moves few bytes.
 
-A trace of 400 arrivals blocks. Where the calls can be made again the table is that of an undisturbed run and standard error is empty. Where a
-read fails, the rows of the whole blocks before it are followed by `refused 1 block I`; where a write fails, standard output is the table cut
-off. Both say so in one line on standard error. Each check that does not hold is printed; the last line says how many runs there were.
+A trace of 400 arrivals blocks. Where the calls can be made again the output is that of an undisturbed run and standard error is empty. Where a
+read fails, the output is that of the whole blocks before it, and `refused 1 block I` follows, on standard output by ecntable and on standard error
+by ecnforms; where a write fails, standard output is cut off. Both say so in one line on standard error. Each check that does not hold is printed;
+the last line says how many runs there were.
 """
 import errno
 import os
@@ -15,9 +16,10 @@ import sys
 import threading
 import time
 
-BLOCK, PIECE, BLOCKS, RECORDS, SSRC = 512, 65536, 401, 62, 7
+BLOCK, BLOCKS, SSRC = 512, 401, 7
 LABEL = b"ward 3, bed 12: " + b"x" * 300
-USAGE = b"usage: ecntable <TRACE >TABLE\n"
+# By form: the records of a full block, and how the first part of one, its time, is packed
+FORMS = {1: (62, lambda time: struct.pack(">I", time)), 2: (50, lambda time: struct.pack(">HI", time >> 32, time & 0xFFFFFFFF))}
 
 
 def block(kind, count, body):
@@ -29,26 +31,64 @@ def block(kind, count, body):
     return data + struct.pack(">H", 0xFFFF - total)
 
 
-def trace():
-    blocks = [block(1, len(LABEL), LABEL)]
-    for i in range(BLOCKS - 1):
-        numbers = range(i * RECORDS, (i + 1) * RECORDS)
-        blocks.append(block(2, RECORDS, b"".join(struct.pack(">IHBB", 20 * n, n % 65536, n % 4, 0) for n in numbers)))
+def trace(form, records):
+    """A trace of so many records, each block full but perhaps the last."""
+    most, packed_time = FORMS[form]
+    blocks = [block(2 * form - 1, len(LABEL), LABEL)]
+    for first in range(0, records, most):
+        numbers = range(first, min(first + most, records))
+        body = (packed_time(20 * n) + struct.pack(">HBB", n % 65536, n % 4, 0) for n in numbers)
+        blocks.append(block(2 * form, len(numbers), b"".join(body)))
     return b"".join(blocks)
 
 
-class Tried:
-    """The runs of a program on the trace, and the checks that did not hold."""
+class Ecntable:
+    """What is printed behind so many whole blocks, and where a read fails there."""
 
-    def __init__(self, program, library, folder):
-        self.program, self.library = program, library
+    name, form, usage = "ecntable", 1, b"usage: ecntable <TRACE >TABLE\n"
+    # How many blocks are read at a time behind block 0; the first write that brings more than 1,000 bytes, and what those before it bring.
+    piece, write, before = 128, 1, 0
+
+    def learn(self, table):
+        self.rows = table.splitlines(keepends=True)
+
+    def printed(self, whole):
+        return b"".join(self.rows[: max(whole, 1)])
+
+    def unread(self, whole):
+        return self.printed(whole) + b"refused 1 block %d\r\n" % whole, b""
+
+
+class Ecnforms:
+    name, usage = "ecnforms", b"usage: ecnforms <TRACE >TRACE\n"
+    piece, write, before = 400, 2, BLOCK
+
+    def __init__(self, form):
+        self.form = form
+
+    def learn(self, converted):
+        pass
+
+    def printed(self, whole):
+        return trace(3 - self.form, (whole - 1) * FORMS[self.form][0]) if whole else b""
+
+    def unread(self, whole):
+        return self.printed(whole), b"refused 1 block %d\r\n" % whole
+
+
+class Tried:
+    """The runs of a program on a trace, and the checks that did not hold."""
+
+    def __init__(self, program, path, library, folder):
+        self.program, self.command, self.library = program, path, library
         self.path, self.out = pathlib.Path(folder, "faults.trace"), pathlib.Path(folder, "faults.out")
-        self.path.write_bytes(trace())
+        self.path.write_bytes(trace(program.form, (BLOCKS - 1) * FORMS[program.form][0]))
         self.runs, self.wrong = 0, []
-        self.table, told = self.run("undisturbed")
-        self.rows = self.table.splitlines(keepends=True)
-        if len(self.rows) != BLOCKS or b"refused" in self.rows[-1] or told:
-            self.wrong.append(f"undisturbed: {len(self.rows)} lines, {told!r}")
+        self.whole, told = self.run("undisturbed")
+        program.learn(self.whole)
+        self.hold("undisturbed", self.whole, told, program.printed(BLOCKS), b"")
+        if self.whole.count(b"\n") < BLOCKS - 1 or b"refused" in self.whole:
+            self.wrong.append("undisturbed: not the whole trace")
 
     def run(self, name, faults="", words=(), **kept):
         """Standard output and error of a run; a file as standard input and a pipe as output unless the caller says otherwise."""
@@ -56,7 +96,7 @@ class Tried:
         environment = dict(os.environ, LC_ALL="C", LD_PRELOAD=os.path.abspath(self.library), FAULTS=faults)
         with open(self.path, "rb") as opened:
             options = dict(dict(stdin=opened, stdout=subprocess.PIPE, stderr=subprocess.PIPE), **kept)
-            with subprocess.Popen([self.program, *words], env=environment, **options) as child:
+            with subprocess.Popen([self.command, *words], env=environment, **options) as child:
                 try:
                     out, told = child.communicate(timeout=30)
                 except subprocess.TimeoutExpired:
@@ -69,28 +109,27 @@ class Tried:
             self.wrong.append(f"{name}: ends with status {child.returncode}")
         return out, told
 
-    def hold(self, name, out, told, table, line):
-        if out != table:
-            self.wrong.append(f"{name}: {out.count(b'%c' % 10)} lines and {len(out)} bytes in place of {table.count(b'%c' % 10)} and {len(table)}")
+    def hold(self, name, out, told, wanted, line):
+        if out != wanted:
+            self.wrong.append(f"{self.program.name}, {name}: {len(out)} bytes in place of {len(wanted)}, or others")
         if told != line:
-            self.wrong.append(f"{name}: on standard error {told!r} in place of {line!r}")
+            self.wrong.append(f"{self.program.name}, {name}: on standard error {told!r} in place of {line!r}")
+
+    def told(self, what, error):
+        return f"{self.program.name}: {what}: {os.strerror(error)}\n".encode()
 
     def same(self, name, faults="", **kept):
-        self.hold(name, *self.run(name, faults, **kept), self.table, b"")
+        self.hold(name, *self.run(name, faults, **kept), self.whole, b"")
 
     def read_fails(self, name, whole, error, faults="", **kept):
         """A read fails behind so many whole blocks."""
-        rows = b"".join(self.rows[: max(whole, 1)]) + b"refused 1 block %d\r\n" % whole
-        self.hold(name, *self.run(name, faults, **kept), rows, told("reading standard input", error))
+        out, refused = self.program.unread(whole)
+        self.hold(name, *self.run(name, faults, **kept), out, refused + self.told("reading standard input", error))
 
     def write_fails(self, name, size, error, faults="", **kept):
-        """A write fails behind so many bytes of the table."""
+        """A write fails behind so many bytes of the output."""
         out, line = self.run(name, faults, **kept)
-        self.hold(name, self.table[:size] if out is None else out, line, self.table[:size], told("writing standard output", error))
-
-
-def told(what, error):
-    return f"ecntable: {what}: {os.strerror(error)}\n".encode()
+        self.hold(name, self.whole[:size] if out is None else out, line, self.whole[:size], self.told("writing standard output", error))
 
 
 def injected_reads(tried):
@@ -102,11 +141,12 @@ def injected_reads(tried):
     for size in (1, 511, 700):
         tried.same(f"each read brings at most {size} bytes", f"read short 1 0 {size}")
     tried.same("short reads, interrupted and not ready", f"read short 1 0 700; read fail 9 {errno.EINTR} 3; read wait 30 {errno.EAGAIN} 50")
-    for call, whole in ((1, 0), (2, 1), (3, 129), (4, 257), (5, 385), (6, 401)):
+    piece = tried.program.piece
+    for call, whole in enumerate([0, *range(1, BLOCKS, piece), BLOCKS], 1):
         for error in (errno.EIO, errno.EISDIR):
             tried.read_fails(f"read {call} fails with errno {error}", whole, error, f"read fail {call} {error} 1")
     tried.read_fails("read 20 of 700 bytes fails", (BLOCK + 18 * 700) // BLOCK, errno.EIO, f"read short 1 0 700; read fail 20 {errno.EIO} 1")
-    tried.read_fails("interrupted, and then it fails", 129, errno.EIO, f"read fail 3 {errno.EINTR} 2; read fail 5 {errno.EIO} 1")
+    tried.read_fails("interrupted, and then it fails", min(1 + piece, BLOCKS), errno.EIO, f"read fail 3 {errno.EINTR} 2; read fail 5 {errno.EIO} 1")
 
 
 def injected_writes(tried):
@@ -118,10 +158,20 @@ def injected_writes(tried):
         tried.same(f"each write takes at most {size} bytes", f"write short 1 0 {size}")
     for error in (errno.ENOSPC, errno.EIO):
         tried.write_fails(f"write 1 fails with errno {error}", 0, error, f"write fail 1 {error} 1")
-        tried.write_fails(f"a write fails with errno {error} behind 1,000 bytes", 1000, error, f"write cut 1 {error} 1000")
+        size, call = tried.program.before + 1000, tried.program.write
+        tried.write_fails(f"a write fails with errno {error} behind {size} bytes", size, error, f"write cut {call} {error} 1000")
+    both_fail(tried)
     out, line = tried.run("no write takes anything", "write zero 2 0 0")
-    if not tried.table.startswith(out) or line.count(b"\n") != 1 or not line.startswith(b"ecntable: writing standard output: "):
+    if not tried.whole.startswith(out) or line.count(b"\n") != 1 or not line.startswith(f"{tried.program.name}: writing standard output: ".encode()):
         tried.wrong.append(f"no write takes anything: {len(out)} bytes, on standard error {line!r}")
+
+
+def both_fail(tried):
+    """A read fails behind whole blocks of its piece, and then the write of what they give: each is told with its own error."""
+    program, whole = tried.program, (BLOCK + 18 * 700) // BLOCK
+    faults = f"read short 1 0 700; read fail 20 {errno.EIO} 1; write fail {program.write} {errno.ENOSPC} 1"
+    line = program.unread(whole)[1] + tried.told("reading standard input", errno.EIO) + tried.told("writing standard output", errno.ENOSPC)
+    tried.hold("a read and then a write fails", *tried.run("a read and then a write fails", faults), tried.whole[: program.before], line)
 
 
 def limited():
@@ -139,8 +189,8 @@ def real_files(tried):
         tried.write_fails("the disk is full", 0, errno.ENOSPC, stdout=full)
     with open(tried.out, "wb") as out:
         tried.write_fails("the file grows too large", 100_000, errno.EFBIG, stdout=out, preexec_fn=limited)
-    if tried.out.read_bytes() != tried.table[:100_000]:
-        tried.wrong.append(f"the file grows too large: {tried.out.stat().st_size} bytes that are not the table's")
+    if tried.out.read_bytes() != tried.whole[:100_000]:
+        tried.wrong.append(f"the file grows too large: {tried.out.stat().st_size} bytes that are not the output's")
     reading, writing = os.pipe()
     os.close(reading)
     tried.write_fails("nobody reads", 0, errno.EPIPE, stdout=writing, preexec_fn=lambda: signal.signal(signal.SIGPIPE, signal.SIG_IGN))
@@ -163,7 +213,7 @@ def real_pipes(tried):
                     time.sleep(0.3)
                     pipe.write(piece)
         except BrokenPipeError:
-            pass  # a run that ends too early is told from its table
+            pass  # a run that ends too early is told from its output
 
     feeder = threading.Thread(target=feed)
     feeder.start()
@@ -185,24 +235,28 @@ def real_pipes(tried):
     _, line = tried.run("a pipe is full for 0.3 s", stdout=writing)
     os.close(writing)
     drainer.join()
-    tried.hold("a pipe is full for 0.3 s", drained[0], line, tried.table, b"")
+    tried.hold("a pipe is full for 0.3 s", drained[0], line, tried.whole, b"")
 
 
 def arguments(tried):
     for words in (["x"], [""], ["--help"], ["a", "b"], [str(tried.path)]):
         name = f"started with {words}"
-        tried.hold(name, *tried.run(name, words=words), b"", USAGE)
+        tried.hold(name, *tried.run(name, words=words), b"", tried.program.usage)
 
 
-def main(program, library, folder):
-    tried = Tried(program, library, folder)
-    for part in (injected_reads, injected_writes, real_files, real_pipes, arguments):
-        part(tried)
-    for line in tried.wrong:
+def main(ecntable, ecnforms, library, folder):
+    runs, wrong = 0, []
+    parts = (injected_reads, injected_writes, real_files, real_pipes, arguments)
+    for program, path, tries in ((Ecntable(), ecntable, parts), (Ecnforms(1), ecnforms, parts), (Ecnforms(2), ecnforms, parts[:2])):
+        tried = Tried(program, path, library, folder)
+        for part in tries:
+            part(tried)
+        runs, wrong = runs + tried.runs, wrong + tried.wrong
+    for line in wrong:
         print("faults: FAILED,", line)
-    if tried.wrong:
+    if wrong:
         return 1
-    print(f"faults: {tried.runs} runs with calls that fail, are interrupted, are not ready or move few bytes: no cut of a table is unseen")
+    print(f"faults: {runs} runs with calls that fail, are interrupted, are not ready or move few bytes: no cut of an output is unseen")
     return 0
 
 

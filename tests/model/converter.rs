@@ -2,12 +2,12 @@
 use crate::refusal::*;
 use crate::source::{Counted, Source, MOST_ARRIVALS};
 use crate::table::{row, HEAD};
-use crate::trace::{read, Contents, BLOCK};
+use crate::trace::{blocks, later, refused, zeroth, Label};
 
 /// What a run has after some blocks.
 #[derive(Default)]
 pub struct Run {
-    pub label: Option<(u32, Vec<u8>)>,
+    pub label: Option<Label>,
     pub source: Source,
     pub jumped: u64,
     pub restarts: u64,
@@ -16,29 +16,23 @@ pub struct Run {
 impl Run {
     /// Takes the next block; gives whether a row follows.
     pub fn block(&mut self, bytes: &[u8]) -> Result<bool, Refusal> {
-        let (ssrc, contents) = read(bytes)?;
-        match (&self.label, contents) {
-            (None, Contents::Label(label)) => {
-                self.label = Some((ssrc, label));
-                Ok(false)
+        let Some(label) = &self.label else {
+            self.label = Some(zeroth(bytes)?);
+            return Ok(false);
+        };
+        for record in later(label, bytes)? {
+            match self.source.arrive(record.wire, record.mark) {
+                Err(JUMP) => self.jumped = MOST_ARRIVALS.min(self.jumped + 1),
+                Ok(Counted::Restarted) => self.restarts = MOST_ARRIVALS.min(self.restarts + 1),
+                _ => {}
             }
-            (Some((first, _)), Contents::Arrivals(records)) if *first == ssrc => {
-                for record in records {
-                    match self.source.arrive(record.wire, record.mark) {
-                        Err(JUMP) => self.jumped = MOST_ARRIVALS.min(self.jumped + 1),
-                        Ok(Counted::Restarted) => self.restarts = MOST_ARRIVALS.min(self.restarts + 1),
-                        _ => {}
-                    }
-                }
-                Ok(true)
-            }
-            _ => Err(CONTENTS),
         }
+        Ok(true)
     }
 
     pub fn row(&self) -> Vec<u8> {
-        let (ssrc, label) = self.label.as_ref().unwrap();
-        row(label, *ssrc, &self.source, self.jumped, self.restarts).unwrap()
+        let Label { ssrc, text, .. } = self.label.as_ref().unwrap();
+        row(text, *ssrc, &self.source, self.jumped, self.restarts).unwrap()
     }
 }
 
@@ -46,13 +40,12 @@ impl Run {
 pub fn table(trace: &[u8]) -> Vec<u8> {
     let mut table = HEAD.to_vec();
     let mut run = Run::default();
-    let blocks: Vec<&[u8]> = if trace.is_empty() { vec![trace] } else { trace.chunks(BLOCK).collect() };
-    for (index, block) in blocks.into_iter().enumerate() {
+    for (index, block) in blocks(trace).into_iter().enumerate() {
         match run.block(block) {
             Ok(true) => table.extend(run.row()),
             Ok(false) => {}
             Err(refusal) => {
-                table.extend(format!("refused {} block {index}\r\n", refusal.number()).bytes());
+                table.extend(refused(refusal, index));
                 break;
             }
         }

@@ -4,6 +4,7 @@ pub mod breaker;
 pub mod bytes;
 pub mod compound;
 pub mod converter;
+pub mod forms;
 pub mod refusal;
 pub mod report;
 pub mod source;

@@ -1,4 +1,4 @@
-//! Document 01, "Refusal numbers".
+//! Document 01, "Refusal numbers", and those of document 02 that have landed.
 
 /// A refusal other than 12. Its values are the constants below and no others: 12 is given by `put` with its size, or alone as `ROOM`.
 #[derive(Clone, Copy, Debug, PartialEq)]
@@ -23,6 +23,7 @@ pub const LIMITS: Refusal = Refusal(10);
 pub const TIME: Refusal = Refusal(11);
 pub const CHECKSUM: Refusal = Refusal(13);
 pub const CONTENTS: Refusal = Refusal(14);
+pub const FORM_TWO: Refusal = Refusal(17);
 
 /// The output is too small.
 pub const ROOM: u8 = 12;

@@ -1,15 +1,63 @@
-//! Document 01, "Trace file": one block read and written. RFC 1071 has the sum.
+//! Document 01, "Trace file", and document 02, L10: one block of either form read and written, and the blocks of a trace in turn. RFC 1071 has the sum.
 use crate::bytes::{u16_at, u32_at};
 use crate::refusal::*;
 
 pub const BLOCK: usize = 512;
 pub const BODY: usize = 502;
 pub const CHECK: usize = 510;
-pub const MOST_RECORDS: usize = 62;
+
+/// Form 1 is document 01's, form 2 has longer times.
+#[derive(Clone, Copy, Debug, PartialEq)]
+pub enum Form {
+    One,
+    Two,
+}
+
+pub const FORMS: [Form; 2] = [Form::One, Form::Two];
+
+impl Form {
+    pub fn from_number(number: u8) -> Result<Form, Refusal> {
+        match number {
+            1 => Ok(Form::One),
+            2 => Ok(Form::Two),
+            _ => Err(LIMITS),
+        }
+    }
+
+    pub fn other(self) -> Form {
+        self.either(Form::Two, Form::One)
+    }
+
+    /// The kinds of a label block and of an arrivals block.
+    pub fn kinds(self) -> (u16, u16) {
+        self.either((1, 2), (3, 4))
+    }
+
+    /// The bytes of a record.
+    pub fn width(self) -> usize {
+        self.either(8, 10)
+    }
+
+    pub fn most_records(self) -> usize {
+        self.either(62, 50)
+    }
+
+    /// The first time that is too long.
+    pub fn times(self) -> u64 {
+        self.either(1 << 32, 1 << 48)
+    }
+
+    fn either<T>(self, one: T, two: T) -> T {
+        match self {
+            Form::One => one,
+            Form::Two => two,
+        }
+    }
+}
 
 #[derive(Clone, Copy, Debug, PartialEq)]
 pub struct Record {
-    pub time: u32,
+    pub time: u64,
     pub wire: u16,
     pub mark: u8,
 }
@@ -20,17 +68,20 @@ pub enum Contents {
     Arrivals(Vec<Record>),
 }
 
-pub fn read(block: &[u8]) -> Result<(u32, Contents), Refusal> {
+/// The form, the SSRC and the contents of a block.
+pub fn read(block: &[u8]) -> Result<(Form, u32, Contents), Refusal> {
     require(block.len() == BLOCK, INCOMPLETE)?;
     require(sum(block) == 65_535 && u16_at(block, CHECK) != 65_535, CHECKSUM)?;
     let count = usize::from(u16_at(block, 2));
     let body = &block[8..CHECK];
-    let contents = match u16_at(block, 0) {
-        1 => read_label(body, count),
-        2 => read_arrivals(body, count),
-        _ => None,
+    let (form, contents) = match u16_at(block, 0) {
+        1 => (Form::One, read_label(body, count)),
+        2 => (Form::One, read_arrivals(Form::One, body, count)),
+        3 => (Form::Two, read_label(body, count)),
+        4 => (Form::Two, read_arrivals(Form::Two, body, count)),
+        _ => return Err(CONTENTS),
     };
-    Ok((u32_at(block, 4), contents.ok_or(CONTENTS)?))
+    Ok((form, u32_at(block, 4), contents.ok_or(CONTENTS)?))
 }
 
 fn read_label(body: &[u8], count: usize) -> Option<Contents> {
@@ -38,11 +89,20 @@ fn read_label(body: &[u8], count: usize) -> Option<Contents> {
     (is_label(label) && all_zero(unused)).then(|| Contents::Label(label.to_vec()))
 }
 
-fn read_arrivals(body: &[u8], count: usize) -> Option<Contents> {
-    let (records, unused) = body.split_at_checked(8 * count)?;
-    let fits = (1..=MOST_RECORDS).contains(&count) && all_zero(unused) && records.chunks(8).all(|record| record[6] <= 3 && record[7] == 0);
-    let read = |record: &[u8]| Record { time: u32_at(record, 0), wire: u16_at(record, 4), mark: record[6] };
-    fits.then(|| Contents::Arrivals(records.chunks(8).map(read).collect()))
+fn read_arrivals(form: Form, body: &[u8], count: usize) -> Option<Contents> {
+    let (records, unused) = body.split_at_checked(form.width() * count)?;
+    let records: Vec<(u64, &[u8])> = records.chunks(form.width()).map(|record| time_and_rest(form, record)).collect();
+    let fits = (1..=form.most_records()).contains(&count) && all_zero(unused) && records.iter().all(|(_, rest)| rest[2] <= 3 && rest[3] == 0);
+    let read = |(time, rest): (u64, &[u8])| Record { time, wire: u16_at(rest, 0), mark: rest[2] };
+    fits.then(|| Contents::Arrivals(records.into_iter().map(read).collect()))
+}
+
+/// The time of a record, 4 or 6 bytes, and what stands behind it.
+fn time_and_rest(form: Form, record: &[u8]) -> (u64, &[u8]) {
+    match form {
+        Form::One => (u64::from(u32_at(record, 0)), &record[4..]),
+        Form::Two => (u64::from(u16_at(record, 0)) << 32 | u64::from(u32_at(record, 2)), &record[6..]),
+    }
 }
 
 fn all_zero(bytes: &[u8]) -> bool {
@@ -53,20 +113,25 @@ pub fn is_label(label: &[u8]) -> bool {
     label.len() <= BODY && label.iter().all(|&byte| matches!(byte, 32..=126 | 10 | 13))
 }
 
-pub fn label_block(label: &[u8], ssrc: u32) -> Result<Vec<u8>, Refusal> {
+pub fn label_block(form: Form, label: &[u8], ssrc: u32) -> Result<Vec<u8>, Refusal> {
     require(is_label(label), LIMITS)?;
-    Ok(block(1, label.len(), ssrc, label))
+    Ok(block(form.kinds().0, label.len(), ssrc, label))
 }
 
-pub fn arrivals_block(records: &[Record], ssrc: u32) -> Result<Vec<u8>, Refusal> {
-    require((1..=MOST_RECORDS).contains(&records.len()) && records.iter().all(|record| record.mark <= 3), LIMITS)?;
+pub fn arrivals_block(form: Form, records: &[Record], ssrc: u32) -> Result<Vec<u8>, Refusal> {
+    require((1..=form.most_records()).contains(&records.len()), LIMITS)?;
+    require(records.iter().all(|record| record.time < form.times() && record.mark <= 3), LIMITS)?;
     let mut body = Vec::new();
     for record in records {
-        body.extend(record.time.to_be_bytes());
+        let time = record.time.to_be_bytes();
+        body.extend(match form {
+            Form::One => &time[4..],
+            Form::Two => &time[2..],
+        });
         body.extend(record.wire.to_be_bytes());
         body.extend([record.mark, 0]);
     }
-    Ok(block(2, records.len(), ssrc, &body))
+    Ok(block(form.kinds().1, records.len(), ssrc, &body))
 }
 
 /// A block with these contents, whether they keep to the rules or not, and its check.
@@ -94,4 +159,43 @@ pub fn sum(block: &[u8]) -> u16 {
         sum = sum % 65_536 + sum / 65_536;
     }
     sum as u16
+}
+
+// ---- the blocks of a trace in turn
+
+/// What block 0 says.
+#[derive(Clone, Debug, PartialEq)]
+pub struct Label {
+    pub form: Form,
+    pub ssrc: u32,
+    pub text: Vec<u8>,
+}
+
+/// A tail is a block, and so is an empty trace.
+pub fn blocks(trace: &[u8]) -> Vec<&[u8]> {
+    if trace.is_empty() {
+        vec![trace]
+    } else {
+        trace.chunks(BLOCK).collect()
+    }
+}
+
+pub fn zeroth(block: &[u8]) -> Result<Label, Refusal> {
+    match read(block)? {
+        (form, ssrc, Contents::Label(text)) => Ok(Label { form, ssrc, text }),
+        _ => Err(CONTENTS),
+    }
+}
+
+/// The records of a later block, which has the label's form and SSRC.
+pub fn later(label: &Label, block: &[u8]) -> Result<Vec<Record>, Refusal> {
+    match read(block)? {
+        (form, ssrc, Contents::Arrivals(records)) if (form, ssrc) == (label.form, label.ssrc) => Ok(records),
+        _ => Err(CONTENTS),
+    }
+}
+
+/// What every program prints for the first refused block.
+pub fn refused(refusal: Refusal, index: usize) -> Vec<u8> {
+    format!("refused {} block {index}\r\n", refusal.number()).into_bytes()
 }

@@ -1,5 +1,6 @@
-//! program ECNTABLE SAMPLES FOLDER [SEED]: traces fed to ecntable, its standard output held to the model's byte for byte.
+//! program ECNTABLE ECNFORMS SAMPLES FOLDER [SEED]: traces fed to both programs, their outputs held to the model's byte for byte.
 //! program --tables FOLDER COUNT [SEED]: traces and the values of their tables, for table.py.
+mod back;
 mod feed;
 mod tables;
 mod tries;
@@ -10,21 +11,32 @@ use feed::Feed;
 const SEED: u64 = 20_260_802;
 
 fn main() {
-    let words: Vec<String> = std::env::args().skip(1).collect();
-    let seed = words.get(3).map_or(SEED, |seed| seed.parse().expect("the seed is a number"));
+    let mut words: Vec<String> = std::env::args().skip(1).collect();
+    let fixed = if words[0] == "--tables" { 3 } else { 4 };
+    let seed = words.drain(fixed..).next().map_or(SEED, |seed| seed.parse().expect("the seed is a number"));
     let draw = &Draw::seeded(seed);
     if words[0] == "--tables" {
         tables::write(draw, &words[1], words[2].parse().expect("the count is a number"));
         return;
     }
-    let feed = &Feed::new(&words[0], &words[2], seed);
-    let samples = tries::samples(feed, &words[1]);
-    let whole = tries::whole_traces(feed, draw);
-    let cut = tries::cut_tails(feed, draw);
-    let long = tries::long_traces(feed, draw);
-    let mutations = tries::mutations(feed, draw);
+    let ecntable = &Feed::ecntable(&words[0], &words[3], seed);
+    let ecnforms = &Feed::ecnforms(&words[1], &words[3], seed);
+    let samples = tries::samples(ecntable, &words[2]);
+    let times = back::long_times(ecnforms, draw) + back::other_faults_first(ecnforms, draw);
+    let (back, same) = back::there_and_back(ecntable, ecnforms, draw);
+    for (name, feed, possible) in [("ecntable", ecntable, &["1", "13", "14"][..]), ("ecnforms", ecnforms, &["1", "13", "14", "17"])] {
+        let whole = tries::whole_traces(feed, draw);
+        let cut = tries::cut_tails(feed, draw);
+        let long = tries::long_traces(feed, draw);
+        let mutations = tries::mutations(feed, draw);
+        println!(
+            "program: {name}: {whole} whole traces, {cut} cut at each length, {long} long ones, {mutations} mutations, seed {seed}: each ends \
+             with status 0 and prints what the model says (refused with {})",
+            feed.refusals(possible)
+        );
+    }
     println!(
-        "program: {samples} samples, {whole} whole traces, {cut} cut at each length, {long} long ones, {mutations} mutations, seed {seed}: \
-         each ends with status 0 and the model's table"
+        "program: {samples} samples, {times} traces with a time that needs form 2; {back} traces go there and back with one last line of the \
+         table, {same} of them byte for byte"
     );
 }

@@ -2,7 +2,7 @@
 use draw::{traces, Draw};
 use model::converter::Run;
 use model::table::numbers;
-use model::trace::BLOCK;
+use model::trace::{Label, BLOCK};
 use std::fs::write as write_file;
 
 pub fn write(draw: &Draw, folder: &str, count: u64) {
@@ -18,8 +18,8 @@ fn rows(trace: &[u8]) -> String {
     let mut lines = String::new();
     for block in trace.chunks(BLOCK) {
         if run.block(block) == Ok(true) {
-            let (ssrc, label) = run.label.as_ref().unwrap();
-            let hexadecimal: String = label.iter().map(|byte| format!("{byte:02x}")).collect();
+            let Label { ssrc, text, .. } = run.label.as_ref().unwrap();
+            let hexadecimal: String = text.iter().map(|byte| format!("{byte:02x}")).collect();
             let numbers = numbers(*ssrc, &run.source, run.jumped, run.restarts).map(|number| number.to_string()).join(",");
             lines += &format!("{hexadecimal},{numbers}\n");
         }

@@ -1,8 +1,8 @@
-//! The traces that are tried; each function gives how many.
+//! The traces of both forms that are tried; each function gives how many.
 use crate::feed::Feed;
 use draw::{blocks, traces, Draw};
-use model::trace::{arrivals_block, label_block, set_check, BLOCK};
-use std::fs::{read, read_dir};
+use model::trace::*;
+use std::fs::{read as file, read_dir};
 
 /// Each .trace of the folder has its table beside it, and the model makes the same.
 pub fn samples(feed: &Feed, folder: &str) -> u64 {
@@ -10,8 +10,8 @@ pub fn samples(feed: &Feed, folder: &str) -> u64 {
     for entry in read_dir(folder).expect("the folder of samples") {
         let path = entry.expect("a file").path();
         if path.extension().is_some_and(|extension| extension == "trace") {
-            let trace = read(&path).expect("a trace");
-            feed.expect(&trace, &read(path.with_extension("csv")).expect("a table beside the trace"));
+            let trace = file(&path).expect("a trace");
+            feed.expect(&trace, &(file(path.with_extension("csv")).expect("a table beside the trace"), Vec::new()));
             feed.file(&trace);
             count += 1;
         }
@@ -24,34 +24,39 @@ pub fn whole_traces(feed: &Feed, draw: &Draw) -> u64 {
     feed.file(&[]);
     feed.pipe(draw, &[]);
     for label in ["", "plain", ",", "\"", "\"\"", "\r", "\n", "a\r\nb", " lead", "trail ", ",\"\r\n~"] {
-        feed.file(&label_block(label.as_bytes(), 1).unwrap());
+        FORMS.iter().for_each(|&form| drop(feed.file(&label_block(form, label.as_bytes(), 1).unwrap())));
     }
     for _ in 0..400 {
         feed.file(&traces::sound(draw, 12));
         feed.pipe(draw, &traces::sound(draw, 40));
     }
-    2 + 11 + 800
+    2 + 2 * 11 + 800
 }
 
-/// One trace of four blocks, cut at each length.
+/// A trace of a label and so many blocks of one form.
+fn trace_of(draw: &Draw, form: Form, label: &[u8], ssrc: u32, blocks: usize) -> Vec<u8> {
+    let mut trace = label_block(form, label, ssrc).unwrap();
+    (0..blocks).for_each(|_| trace.extend(arrivals_block(form, &blocks::records(draw, form, Form::One.times()), ssrc).unwrap()));
+    trace
+}
+
+/// One trace of three blocks in each form, cut at each length.
 pub fn cut_tails(feed: &Feed, draw: &Draw) -> u64 {
-    let mut trace = label_block(b"cut, short", 5).unwrap();
-    for _ in 0..3 {
-        trace.extend(arrivals_block(&blocks::records(draw), 5).unwrap());
+    let mut count = 0;
+    for form in FORMS {
+        let trace = trace_of(draw, form, b"cut, short", 5, 2);
+        (0..=trace.len()).for_each(|length| drop(feed.file(&trace[..length])));
+        count += trace.len() as u64 + 1;
     }
-    (0..=trace.len()).for_each(|length| feed.file(&trace[..length]));
-    trace.len() as u64 + 1
+    count
 }
 
-/// Traces around the ends of pieces of 64 KiB, with the longest labels, whole, cut and with one block damaged.
+/// Traces around the ends of pieces of 64 KiB and of 200 KiB, with the longest labels, whole, cut and with one block damaged.
 pub fn long_traces(feed: &Feed, draw: &Draw) -> u64 {
     let mut count = 0;
-    for length in [127, 128, 129, 255, 256, 257, 384, 3_000] {
+    for length in [127, 128, 129, 255, 256, 257, 384, 400, 401, 402, 800, 801, 802, 3_000] {
         let label = if draw.one_in(2) { vec![b'"'; 502] } else { vec![b'x'; 502] };
-        let mut trace = label_block(&label, 77).unwrap();
-        for _ in 1..length {
-            trace.extend(arrivals_block(&blocks::records(draw), 77).unwrap());
-        }
+        let mut trace = trace_of(draw, draw.of(&FORMS), &label, 77, length - 1);
         feed.file(&trace);
         feed.pipe(draw, &trace);
         for block in [length - 2, length - 1] {

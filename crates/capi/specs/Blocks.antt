@@ -1,10 +1,14 @@
 -- What the functions of trace blocks and table rows give and leave (include/flasknib.h, "trace blocks and table rows").
 use Prim.Native.Nat.{ℕ}
+use mathlib.Core.Bool.{Bool, cond, _||_}
 use mathlib.Core.List.{List, [], _∷_}
 use mathlib.Core.Option.{Option, none, some}
+use lib.Dec.{eqb}
 use lib.IntN.{ℤ}
 use Rattle.answers.specs.declared.Refusal.{Refusal}
+use Rattle.answers.specs.declared.Refusal.the-variants.{Limits}
 use Rattle.format.specs.declared.Form.{Form}
+use Rattle.format.specs.declared.Form.the-variants.{One, Two}
 use Rattle.format.specs.Forms.{shapeOf}
 use Rattle.source.specs.declared.Totals.{Totals}
 use Rattle.trace.specs.declared.Block.{Block}
@@ -25,10 +29,10 @@ blockFault (Label form length ssrc) = none
 blockFault (Arrivals form count ssrc) = none
 blockFault (Refused refusal) = some refusal
 
--- 1 for a label or 2 for arrivals; the label's length or the number of records; the SSRC
+-- its kind, 1 to 4; the label's length or the number of records; the SSRC
 abbrev pub foundWords : Block → List ℕ
-foundWords (Label form length ssrc) = 1 ∷ length ∷ ssrc ∷ []
-foundWords (Arrivals form count ssrc) = 2 ∷ count ∷ ssrc ∷ []
+foundWords (Label form length ssrc) = shapeOf form .label ∷ length ∷ ssrc ∷ []
+foundWords (Arrivals form count ssrc) = shapeOf form .arrivals ∷ count ∷ ssrc ∷ []
 foundWords (Refused refusal) = []
 
 -- "Trace file": 1, 13, 14, 12; or 0 and the three words
@@ -41,20 +45,31 @@ ReadsBlock block old r found =
 
 -- ---- flasknib_write_label, flasknib_write_arrivals
 
+-- form 1 or 2; another is 10
+abbrev pub isForm : ℕ → Bool
+isForm number = eqb number 1 || eqb number 2
+
+abbrev pub formOf : ℕ → Form
+formOf number = cond (eqb number 2) Two One
+
+-- 10 for another form
+abbrev pub formFault : ℕ → Option Refusal → Option Refusal
+formFault number fault = cond (isForm number) fault (some Limits)
+
 -- "Trace file", block 0: 10, 12; or the block's 512 bytes
-abbrev pub WritesLabel : List ℕ → ℕ → List ℕ → ℤ → List ℕ → Type 0
-WritesLabel label ssrc old r out =
+abbrev pub WritesLabel : ℕ → List ℕ → ℕ → List ℕ → ℤ → List ℕ → Type 0
+WritesLabel form label ssrc old r out =
     Gives lengthCode
-    (labelFault label)
-    (labelBlock (shapeOf Form.One) label ssrc)
+    (formFault form (labelFault label))
+    (labelBlock (shapeOf (formOf form)) label ssrc)
     old r out
 
 -- "Trace file", the others: 10, 12; or the block's 512 bytes
-abbrev pub WritesArrivals : List ℕ → List ℕ → List ℕ → ℕ → List ℕ → ℤ → List ℕ → Type 0
-WritesArrivals times numbers marks ssrc old r out =
+abbrev pub WritesArrivals : ℕ → List ℕ → List ℕ → List ℕ → ℕ → List ℕ → ℤ → List ℕ → Type 0
+WritesArrivals form times numbers marks ssrc old r out =
     Gives lengthCode
-    (arrivalsFault (shapeOf Form.One) times numbers marks)
-    (arrivalsBlock (shapeOf Form.One) (recordsOf times numbers marks) ssrc)
+    (formFault form (arrivalsFault (shapeOf (formOf form)) times numbers marks))
+    (arrivalsBlock (shapeOf (formOf form)) (recordsOf times numbers marks) ssrc)
     old r out
 
 -- ---- flasknib_write_head, flasknib_write_row

@@ -1,15 +1,18 @@
 // One block of a trace.
 use crate::codes;
 use answers::ROOM;
+use answers::Refusal;
+use answers::Written;
 use format::Form;
 use trace::Block;
 use trace::read::read_block;
 use trace::write::write_arrivals;
 use trace::write::write_label;
+ghost use mathlib.Core.Path.{_≡_};
 ghost use mathlib.Core.List.{[], _∷_};
 ghost use mathlib.Core.Option.{none};
 ghost use Rattle.capi.specs.Codes.{refusalCode, Gives};
-ghost use Rattle.capi.specs.Blocks.{ReadsBlock, WritesLabel, WritesArrivals};
+ghost use Rattle.capi.specs.Blocks.{isForm, formOf, ReadsBlock, WritesLabel, WritesArrivals};
 
 // Stores the three words of a block at the front of found. Gives 0, or refusal 12.
 fn put_found(kind: u64, count: usize, ssrc: u32, found: &mut [u64]) -> u8
@@ -30,38 +33,59 @@ pub extern "C" fn flasknib_read_block(block: &[u8], found: &mut [u64]) -> u8
     ensures { λ r. ⌜ ReadsBlock (now (block .entry)) (now (found .entry)) r (now (found .exit)) ⌝ }
 {
     match read_block(block) {
-        Block::Label {
-            form: _,
-            length,
-            ssrc,
-        } => put_found(1, length, ssrc, found),
-        Block::Arrivals {
-            form: _,
-            count,
-            ssrc,
-        } => put_found(2, count, ssrc, found),
+        Block::Label { form, length, ssrc } => put_found(form.label() as u64, length, ssrc, found),
+        Block::Arrivals { form, count, ssrc } => {
+            put_found(form.arrivals() as u64, count, ssrc, found)
+        }
         Block::Refused(refusal) => refusal.number(),
     }
 }
 
-// Writes a label block. Gives its length, or minus refusal 10 or 12.
-#[no_mangle]
-pub extern "C" fn flasknib_write_label(label: &[u8], ssrc: u32, out: &mut [u8]) -> i64
-    ensures { λ r. ⌜ WritesLabel (now (label .entry)) ssrc (now (out .entry)) r (now (out .exit)) ⌝ }
+// Whether a form has the number.
+fn is_form(number: u8) -> bool
+    ensures { λ r. ⌜ r ≡ isForm number ⌝ }
 {
-    codes::length(write_label(Form::One, label, ssrc, out))
+    if number == 1 {
+        return true;
+    }
+    number == 2
 }
 
-// Writes an arrivals block. Gives its length, or minus refusal 10 or 12.
+// The form of 2, or of 1.
+fn form_of(number: u8) -> Form
+    ensures { λ r. ⌜ r ≡ formOf number ⌝ }
+{
+    if number == 2 {
+        return Form::Two;
+    }
+    Form::One
+}
+
+// Writes a label block of form 1 or 2. Gives its length, or minus refusal 10 or 12.
+#[no_mangle]
+pub extern "C" fn flasknib_write_label(form: u8, label: &[u8], ssrc: u32, out: &mut [u8]) -> i64
+    ensures { λ r. ⌜ WritesLabel form (now (label .entry)) ssrc (now (out .entry)) r (now (out .exit)) ⌝ }
+{
+    if !is_form(form) {
+        return codes::length(Written::Refused(Refusal::Limits));
+    }
+    codes::length(write_label(form_of(form), label, ssrc, out))
+}
+
+// Writes an arrivals block of form 1 or 2. Gives its length, or minus refusal 10 or 12.
 #[no_mangle]
 pub extern "C" fn flasknib_write_arrivals(
-    times: &[u32],
+    form: u8,
+    times: &[u64],
     numbers: &[u16],
     marks: &[u8],
     ssrc: u32,
     out: &mut [u8],
 ) -> i64
-    ensures { λ r. ⌜ WritesArrivals (now (times .entry)) (now (numbers .entry)) (now (marks .entry)) ssrc (now (out .entry)) r (now (out .exit)) ⌝ }
+    ensures { λ r. ⌜ WritesArrivals form (now (times .entry)) (now (numbers .entry)) (now (marks .entry)) ssrc (now (out .entry)) r (now (out .exit)) ⌝ }
 {
-    codes::length(write_arrivals(Form::One, times, numbers, marks, ssrc, out))
+    if !is_form(form) {
+        return codes::length(Written::Refused(Refusal::Limits));
+    }
+    codes::length(write_arrivals(form_of(form), times, numbers, marks, ssrc, out))
 }

@@ -1,6 +1,6 @@
 -- A run that a block gives is sound. Assumes nothing.
 use mathlib.Core.Path.{_≡_, refl, sym, ap, _∙_, subst}
-use mathlib.Core.Bool.{Bool, true, false, cond, and-true}
+use mathlib.Core.Bool.{Bool, true, false, cond, _&&_, and-true}
 use mathlib.Core.List.{List, [], _∷_}
 use mathlib.Core.Option.{none}
 use Prim.Native.Nat.{ℕ, _+_, _*_, _≤_}
@@ -13,10 +13,7 @@ use Rattle.answers.specs.declared.Refusal.the-variants.{Contents}
 use Rattle.answers.proofs.Conditions.{all-true}
 use Rattle.numbers.proofs.BigEndian.{Octets}
 use Rattle.format.specs.Blocks.{blockBytes, bodyAt, bodyBytes}
-use Rattle.format.specs.Forms.{shapeOf, width, kindOf}
-use Rattle.format.specs.declared.Form.{Form}
-use Rattle.format.specs.declared.Kind.the-variants as kind
-use Rattle.format.proofs.Fits.{kind-label}
+use Rattle.format.specs.Forms.{shapeOf, width, sameForm}
 use Rattle.numbers.specs.BigEndian.{word}
 use Rattle.source.specs.declared.BlockCount.{BlockCount}
 use Rattle.source.specs.declared.BlockCount.the-variants.{Counted, Refused}
@@ -35,7 +32,7 @@ use Rattle.table.specs.Lines.{rowFault}
 use Rattle.table.proofs.Faults.{fault-none}
 use Rattle.convert.specs.declared.Run.{Run}
 use Rattle.convert.specs.declared.Begin.the-variants as begin
-use Rattle.convert.specs.Runs.{labelOf, startBy, startOf, arrived, goes, refuses, nextBy, nextOf, isLabel, ownLabel, soundTotals, runConditions, soundRun}
+use Rattle.convert.specs.Runs.{labelOf, startBy, startOf, arrived, goes, refuses, nextBy, nextOf, ownLabel, soundTotals, runConditions, soundRun}
 
 -- ---- what is known of a sound run
 
@@ -83,9 +80,9 @@ module _ {run : Run} {zeroth : List ℕ} where
 -- ---- the last condition decides
 
 module _ (run : Run) (zeroth : List ℕ) where
-  pub own-last : length zeroth ≡ blockBytes → isLabel (kindOf (word 2 zeroth 0)) ≡ true → word 2 zeroth 2 ≡ run .length
+  pub own-last : length zeroth ≡ blockBytes → word 2 zeroth 0 ≡ shapeOf (run .form) .label → word 2 zeroth 2 ≡ run .length
       → eqb (word 4 zeroth 4) (run .ssrc) ≡ all (ownLabel run zeroth)
-  own-last h k n = rw (eq-eqb (length zeroth) blockBytes h, k, eq-eqb (word 2 zeroth 2) (run .length) n) (sym (and-true (eqb (word 4 zeroth 4) (run .ssrc))))
+  own-last h k n = rw (eq-eqb (length zeroth) blockBytes h, eq-eqb (word 2 zeroth 0) (shapeOf (run .form) .label) k, eq-eqb (word 2 zeroth 2) (run .length) n) (sym (and-true (eqb (word 4 zeroth 4) (run .ssrc))))
 
   pub sound-last : all (ownLabel run zeroth) ≡ true → run .length ≤ bodyBytes → labelOk (labelOf run zeroth) ≡ true
       → all (soundTotals (run .totals)) ≡ soundRun run zeroth
@@ -104,26 +101,26 @@ block-totals t w bytes o g = go (blockCount (t .source) w bytes) refl
     go (Counted next jumps restarts) e = record { good = next-sound (t .source) w bytes e o; jumped = omega arith; restarts = omega arith }
     go (Refused refusal same) e = g
 
-pub arrived-good : (run : Run) (zeroth : List ℕ) (form : Form) (n : ℕ) (b : List ℕ) → Octets b → Good run zeroth → Good (arrived run form n b) zeroth
+pub arrived-good : (run : Run) (zeroth : List ℕ) (n : ℕ) (b : List ℕ) → Octets b → Good run zeroth → Good (arrived run n b) zeroth
 unfolding arrived
-arrived-good run zeroth form n b o g = record {
+arrived-good run zeroth n b o g = record {
   own = g .own;
   short = g .short;
   label = g .label;
-  totals = block-totals (run .totals) (width (shapeOf form)) (take (n * width (shapeOf form)) (drop bodyAt b)) (octets-take (n * width (shapeOf form)) (drop bodyAt b) (octets-drop bodyAt b o)) (g .totals);
+  totals = block-totals (run .totals) (width (shapeOf (run .form))) (take (n * width (shapeOf (run .form))) (drop bodyAt b)) (octets-take (n * width (shapeOf (run .form))) (drop bodyAt b) (octets-drop bodyAt b o)) (g .totals);
 }
 
 pub next-good : (run : Run) (zeroth b : List ℕ) (next : Run) → Octets b → Good run zeroth → nextOf run b ≡ goes next → Good next zeroth
 unfolding nextOf
 next-good run zeroth b next o g e = go (blockOf b) e
   where
-    chosen : (t : Bool) (form : Form) (n : ℕ) → cond t (goes (arrived run form n b)) (refuses Contents) ≡ goes next → Good next zeroth
-    chosen true form n e = let same : arrived run form n b ≡ next = cc in subst (λ (r : Run). Good r zeroth) same (arrived-good run zeroth form n b o g)
-    chosen false form n e = let z : _≡_ {A = ℕ} 0 1 = cc in absurd (omega arith)
+    chosen : (t : Bool) (n : ℕ) → cond t (goes (arrived run n b)) (refuses Contents) ≡ goes next → Good next zeroth
+    chosen true n e = let same : arrived run n b ≡ next = cc in subst (λ (r : Run). Good r zeroth) same (arrived-good run zeroth n b o g)
+    chosen false n e = let z : _≡_ {A = ℕ} 0 1 = cc in absurd (omega arith)
 
     go : (r : Block) → nextBy run b r ≡ goes next → Good next zeroth
     go (read.Label form n ssrc) e = let z : _≡_ {A = ℕ} 0 1 = cc in absurd (omega arith)
-    go (read.Arrivals form n ssrc) e = chosen (eqb ssrc (run .ssrc)) form n e
+    go (read.Arrivals form n ssrc) e = chosen (sameForm form (run .form) && eqb ssrc (run .ssrc)) n e
     go (read.Refused refusal) e = let z : _≡_ {A = ℕ} 0 1 = cc in absurd (omega arith)
 
 -- ---- the run that block 0 starts
@@ -136,11 +133,10 @@ start-good zeroth run e = go (blockOf zeroth) refl e
     go (read.Label form n ssrc) q e =
         let a = accepted zeroth q in
         let b = a .block in
-        let same : _≡_ {A = Run} (record { length = n; ssrc = ssrc; totals = freshTotals }) run = cc in
-        let told : kindOf (word 2 zeroth 0) ≡ kind.Label form = ap kindOf (b .its-kind) ∙ kind-label form in
+        let same : _≡_ {A = Run} (record { form = form; length = n; ssrc = ssrc; totals = freshTotals }) run = cc in
         subst (λ (r : Run). Good r zeroth) same
         (record {
-          own = rw (eq-eqb (length zeroth) blockBytes (b .whole), told, eq-eqb (word 2 zeroth 2) n (b .its-count), eq-eqb (word 4 zeroth 4) ssrc (b .its-ssrc));
+          own = rw (eq-eqb (length zeroth) blockBytes (b .whole), eq-eqb (word 2 zeroth 0) (shapeOf form .label) (b .its-kind), eq-eqb (word 2 zeroth 2) n (b .its-count), eq-eqb (word 4 zeroth 4) ssrc (b .its-ssrc));
           short = b .room;
           label = ap labelOk (sym (b .place)) ∙ a .label;
           totals = fresh-totals;

@@ -1,13 +1,14 @@
 -- What a block does to a run, case by case. Assumes nothing.
-use mathlib.Core.Path.{_≡_, refl, sym, ap, _∙_}
-use mathlib.Core.Bool.{true, false}
+use mathlib.Core.Path.{_≡_, refl, sym, ap, ap₂, _∙_}
+use mathlib.Core.Bool.{true, false, _&&_}
 use mathlib.Core.Logic.{⊎-elim}
 use mathlib.Core.List.{List, [], _∷_}
 use mathlib.Core.Option.{none}
 use Prim.Native.Nat.{ℕ, _≤_}
 use native.Mathlib.Omega.{arith}
-use borrow.Author.Tests.{eq-eqb, ne-eqb}
+use borrow.Author.Tests.{eqb-true}
 use denote.Enum.Declared.{tagOf}
+use lib.Dec.{eqb}
 use lib.ListN.{length}
 use types.Run.{OneOf}
 use Rattle.answers.specs.Writers.{written, stored, Wrote}
@@ -15,9 +16,12 @@ use Rattle.answers.specs.declared.Refusal.{Refusal}
 use Rattle.answers.specs.declared.Refusal.the-variants.{Malformed, Contents}
 use Rattle.answers.specs.declared.Written.{Written}
 use Rattle.answers.specs.declared.Written.the-variants as answer
+use Rattle.answers.proofs.Conditions.{and-left, and-right}
 use Rattle.answers.proofs.Stores.{wrote-fits, room-is-exact}
+use Rattle.format.specs.Forms.{sameForm}
 use Rattle.format.specs.declared.Form.{Form}
-use Rattle.trace.specs.Reading.{blockOf}
+use Rattle.format.proofs.Same.{same-form}
+use Rattle.trace.specs.Reading.{blockOf, faultOf}
 use Rattle.trace.specs.declared.Block.{Block}
 use Rattle.trace.specs.declared.Block.the-variants as read
 use Rattle.trace.proofs.Block.{the-type}
@@ -26,13 +30,7 @@ use Rattle.convert.specs.declared.Begin.the-variants as begin
 use Rattle.convert.specs.declared.Step.{Step}
 use Rattle.convert.specs.declared.Step.the-variants as step
 use Rattle.convert.specs.Theorems.{RoomForRow, RowRoomIsExact}
-use Rattle.convert.specs.Runs.{rowOf, soundRun, faultOf, startBy, startOf, arrived, Next, goes, refuses, nextBy, nextOf, callNext, faultIn, rowIn, takenBy, stepBy, Stepped}
-
--- a block that was read is of the wrong kind
-pub fault-other : (r : Block) → OneOf (0 ∷ 1 ∷ []) (tagOf the-type r) → Contents ≡ faultOf r
-fault-other (read.Label form n ssrc) h = refl
-fault-other (read.Arrivals form n ssrc) h = refl
-fault-other (read.Refused refusal) h = ⊎-elim (λ z. absurd (omega arith)) (λ z. absurd (omega arith)) h
+use Rattle.convert.specs.Runs.{rowOf, soundRun, startBy, startOf, arrived, Next, goes, refuses, nextBy, nextOf, callNext, faultIn, rowIn, takenBy, stepBy, Stepped}
 
 -- ---- block 0
 
@@ -51,6 +49,11 @@ module _ (b : List ℕ) where
   start-label e = ap startBy e
 
 -- ---- a later block
+
+-- arrivals of the trace's form and SSRC
+pub of-trace : (run : Run) (form : Form) (n ssrc : ℕ) → (sameForm form (run .form) && eqb ssrc (run .ssrc)) ≡ true → read.Arrivals form n ssrc ≡ read.Arrivals (run .form) n (run .ssrc)
+of-trace run form n ssrc h =
+    ap₂ (λ (f : Form) (k : ℕ). read.Arrivals f n k) (same-form form (run .form) (and-left (sameForm form (run .form)) (eqb ssrc (run .ssrc)) h)) (eqb-true ssrc (run .ssrc) (and-right (sameForm form (run .form)) (eqb ssrc (run .ssrc)) h))
 
 module _ (run : Run) (zeroth b : List ℕ) where
   pub call-malformed : soundRun run zeroth ≡ false → callNext run zeroth b ≡ refuses Malformed
@@ -71,11 +74,11 @@ module _ (run : Run) (zeroth b : List ℕ) where
         go (read.Refused refusal) h = refl
 
     module _ {form : Form} {n ssrc : ℕ} (e : blockOf b ≡ read.Arrivals form n ssrc) where
-      pub call-source : (ssrc ≡ run .ssrc → ⊥) → callNext run zeroth b ≡ refuses Contents
-      call-source h = call-by e (rw (ne-eqb ssrc (run .ssrc) h))
+      pub call-foreign : (sameForm form (run .form) && eqb ssrc (run .ssrc)) ≡ false → callNext run zeroth b ≡ refuses Contents
+      call-foreign h = call-by e (rw h)
 
-      pub call-goes : ssrc ≡ run .ssrc → callNext run zeroth b ≡ goes (arrived run form n b)
-      call-goes h = call-by e (rw (eq-eqb ssrc (run .ssrc) h))
+      pub call-goes : (sameForm form (run .form) && eqb ssrc (run .ssrc)) ≡ true → callNext run zeroth b ≡ goes (arrived run n b)
+      call-goes h = call-by e (rw h)
 
 -- ---- what the call gives
 

@@ -14,8 +14,9 @@ use Rattle.trace.proofs.Octets.{octets-take, octets-drop}
 use Rattle.answers.specs.Refusals.{numberOf}
 use Rattle.answers.specs.declared.Refusal.{Refusal}
 use Rattle.table.specs.Lines.{headBytes, refusedLine}
-use Rattle.walk.specs.Blocks.{Blocks, cut, blocksOf}
+use Rattle.walk.specs.Blocks.{Blocks, blocksOf}
 use Rattle.walk.specs.Programs.{Printed, both, Run as Runs, turned, onward, walk, walked, closed, printedBy}
+use Rattle.walk.proofs.Cuts.{Each, cut-each}
 use Rattle.walk.proofs.Walks.{closed-goes, closed-ends}
 use Rattle.convert.specs.declared.Run.{Run}
 use Rattle.convert.specs.declared.Begin.{Begin}
@@ -24,19 +25,6 @@ use Rattle.convert.specs.Runs.{rowOf, startOf, Next, goes, refuses, next
 use Rattle.convert.specs.Tables.{Kept, toOutput, begun, taken, ecntable, printed}
 use Rattle.convert.specs.Theorems.{calls, callsBy, Enough, ends, refused, taken as has-room, EnoughBy, CallsPrint}
 use Rattle.convert.proofs.Kept.{Good, sound-good, next-good, start-good}
-
--- ---- a trace's bytes
-
-AllOctets : List (List ℕ) → Type 0
-AllOctets [] = Unit {0}
-AllOctets (b ∷ bs) = Octets b × AllOctets bs
-
-cut-octets : (most : ℕ) (s : List ℕ) → Octets s → AllOctets (cut most s)
-unfolding cut AllOctets
-cut-octets zero s o = tt
-cut-octets (suc most) [] o = tt
-cut-octets (suc most) (c ∷ s) o =
-    (octets-take blockBytes (c ∷ s) o, cut-octets most (drop blockBytes (c ∷ s)) (octets-drop blockBytes (c ∷ s) o))
 
 -- ---- the calls
 
@@ -96,9 +84,9 @@ prints-both : (front : List ℕ) {back : List ℕ} {p q : Printed} → p ≡ bot
 prints-both front {back} {p} {q} e h = rw e (ap (λ (l : List ℕ). front ++ l) (h .0), h .1)
 
 module _ (outs : ℕ → List ℕ) (zeroth : List ℕ) where
-  rest-prints : (i : ℕ) (bs : List (List ℕ)) (run : Run) → AllOctets bs → Good run zeroth → Enough outs zeroth i bs run
+  rest-prints : (i : ℕ) (bs : List (List ℕ)) (run : Run) → Each Octets bs → Good run zeroth → Enough outs zeroth i bs run
       → Prints (calls outs zeroth i bs run) (rest i bs run zeroth)
-  unfolding AllOctets calls walk closed
+  unfolding calls walk closed
   rest-prints i [] run o g ends = (refl, refl)
   rest-prints i (b ∷ bs) run o g (refused refusal n) =
       let e = rest-ends zeroth i b bs run n in
@@ -129,7 +117,7 @@ calls-print outs trace o enough = go (startOf (blocksOf trace .zeroth)) refl eno
     go : (r : Begin) → startOf (bs .zeroth) ≡ r → EnoughBy outs bs r → Prints (headBytes ++ callsBy outs bs r) (printed trace)
     go (begin.Started run) e room =
         prints-both headBytes (printed-started trace run e)
-        (rest-prints outs (bs .zeroth) 1 (bs .others) run (cut-octets (length trace) (drop blockBytes trace) o) (start-good (bs .zeroth) run e) room)
+        (rest-prints outs (bs .zeroth) 1 (bs .others) run (cut-each Octets octets-take octets-drop (length trace) (drop blockBytes trace) o) (start-good (bs .zeroth) run e) room)
     go (begin.Refused refusal) e room =
         let q = printed-by trace (begin.Refused refusal) e ∙ closed-ends ecntable (turned 0 (begun (bs .zeroth) (begin.Refused refusal))) (walk ecntable 1 (bs .others)) (record { refusal = refusal; block = 0 }) refl in
         (ap (λ (p : Printed). p .out) (sym q), ap (λ (p : Printed). p .err) q)

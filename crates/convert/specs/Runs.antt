@@ -1,7 +1,7 @@
 -- One run of the program ecntable (document 01, "Trace file" and "Table"): what each block does to it. `zeroth` is block 0.
 use mathlib.Core.Path.{_≡_}
 use Prim.Native.Nat.{ℕ, _*_}
-use mathlib.Core.Bool.{Bool, true, false, cond}
+use mathlib.Core.Bool.{Bool, cond, _&&_}
 use mathlib.Core.List.{List, [], _∷_}
 use mathlib.Core.Option.{Option, none, some}
 use lib.Dec.{eqb, leb}
@@ -13,10 +13,7 @@ use Rattle.answers.specs.declared.Refusal.the-variants.{Malformed, Contents}
 use Rattle.answers.specs.declared.Written.{Written}
 use Rattle.answers.specs.declared.Written.the-variants as answer
 use Rattle.format.specs.Blocks.{blockBytes, bodyAt, bodyBytes}
-use Rattle.format.specs.Forms.{shapeOf, width, kindOf}
-use Rattle.format.specs.declared.Form.{Form}
-use Rattle.format.specs.declared.Kind.{Kind}
-use Rattle.format.specs.declared.Kind.the-variants as kind
+use Rattle.format.specs.Forms.{shapeOf, width, sameForm}
 use Rattle.source.specs.declared.Totals.{Totals}
 use Rattle.source.specs.Record.{sound}
 use Rattle.source.specs.Blocks.{blockCount}
@@ -41,29 +38,24 @@ rowOf run zeroth = rowBytes (labelOf run zeroth) (run .ssrc) (run .totals)
 
 -- ---- block 0: a label
 
--- the refusal of a block of the wrong kind for its place, 14, or of one that cannot be read
-abbrev pub faultOf : Block → Refusal
-faultOf (read.Label form n ssrc) = Contents
-faultOf (read.Arrivals form n ssrc) = Contents
-faultOf (read.Refused refusal) = refusal
-
 -- 14 for arrivals
 abbrev pub startBy : Block → Begin
-startBy (read.Label form n ssrc) = begin.Started (record { length = n; ssrc = ssrc; totals = freshTotals })
+startBy (read.Label form n ssrc) = begin.Started (record { form = form; length = n; ssrc = ssrc; totals = freshTotals })
 startBy (read.Arrivals form n ssrc) = begin.Refused Contents
 startBy (read.Refused refusal) = begin.Refused refusal
 
 unfoldable pub startOf : List ℕ → Begin
 startOf zeroth = startBy (blockOf zeroth)
 
--- ---- the others: arrivals of the label's SSRC
+-- ---- the others: arrivals of the label's form and SSRC
 
 -- the run with the n arrivals of a block
-unfoldable pub arrived : Run → Form → ℕ → List ℕ → Run
-arrived run form n b = record {
+unfoldable pub arrived : Run → ℕ → List ℕ → Run
+arrived run n b = record {
+  form = run .form;
   length = run .length;
   ssrc = run .ssrc;
-  totals = withBlock (run .totals) (blockCount (run .totals .source) (width (shapeOf form)) (take (n * width (shapeOf form)) (drop bodyAt b)));
+  totals = withBlock (run .totals) (blockCount (run .totals .source) (width (shapeOf (run .form))) (take (n * width (shapeOf (run .form))) (drop bodyAt b)));
 }
 
 -- what a block does: the next run, or a refusal
@@ -71,9 +63,9 @@ pub data Next : Type 0 where
   goes : Run → Next
   refuses : Refusal → Next
 
--- 14 for another SSRC, and for a label
+-- 14 for another form or SSRC, and for a label
 abbrev pub nextBy : Run → List ℕ → Block → Next
-nextBy run b (read.Arrivals form n ssrc) = cond (eqb ssrc (run .ssrc)) (goes (arrived run form n b)) (refuses Contents)
+nextBy run b (read.Arrivals form n ssrc) = cond (sameForm form (run .form) && eqb ssrc (run .ssrc)) (goes (arrived run n b)) (refuses Contents)
 nextBy run b (read.Label form n ssrc) = refuses Contents
 nextBy run b (read.Refused refusal) = refuses refusal
 
@@ -82,16 +74,11 @@ nextOf run b = nextBy run b (blockOf b)
 
 -- ---- the call on a later block: 9, the block's refusal, 12
 
--- block 0 is the run's own: a label block with its length and SSRC
-abbrev pub isLabel : Kind → Bool
-isLabel (kind.Label form) = true
-isLabel (kind.Arrivals form) = false
-isLabel kind.Unknown = false
-
+-- block 0 is the run's own: a label block with its form, length and SSRC
 abbrev pub ownLabel : Run → List ℕ → List Bool
 ownLabel run zeroth =
     eqb (length zeroth) blockBytes
-    ∷ isLabel (kindOf (kindIn zeroth))
+    ∷ eqb (kindIn zeroth) (shapeOf (run .form) .label)
     ∷ eqb (countIn zeroth) (run .length)
     ∷ eqb (ssrcIn zeroth) (run .ssrc)
     ∷ []

@@ -3,6 +3,7 @@ use Prim.Native.Nat.{ℕ}
 use mathlib.Core.List.{List, []}
 use mathlib.Core.Option.{Option, none, some}
 use Rattle.answers.specs.Refusals.{numberOf}
+use Rattle.format.specs.declared.Form.the-variants.{One}
 use Rattle.source.specs.Totals.{freshTotals}
 use Rattle.table.specs.Lines.{headBytes, refusedLine}
 use Rattle.walk.specs.Blocks.{blocksOf}
@@ -24,7 +25,7 @@ toOutput bytes = record { out = bytes; err = [] }
 abbrev pub begun : List ℕ → Begin → Turn Kept
 begun zeroth (Started run) = record { state = record { run = run; zeroth = zeroth }; printed = toOutput headBytes; refusal = none }
 begun zeroth (Refused refusal) = record {
-  state = record { run = record { length = 0; ssrc = 0; totals = freshTotals }; zeroth = zeroth };
+  state = record { run = record { form = One; length = 0; ssrc = 0; totals = freshTotals }; zeroth = zeroth };
   printed = toOutput headBytes;
   refusal = some refusal;
 }

@@ -3,7 +3,6 @@ use crate::Run;
 use crate::Step;
 use answers::Written;
 use engine::count_block;
-use format::Form;
 use format::block::BODY;
 use table::write_row;
 ghost use mathlib.Core.Path.{_≡_};
@@ -28,16 +27,18 @@ fn row(run: Run, next: Run, zeroth: &[u8], out: &mut [u8]) -> Step
 }
 
 // The run with the n arrivals of a block.
-fn counted(run: Run, form: Form, n: usize, block: &[u8]) -> Run
-    requires { ⌜ blockOf (now block) ≡ Block.Arrivals form n (run .ssrc) ⌝ }
-    ensures { λ r. ⌜ r ≡ arrived run form n (now (block .entry)) ⌝ }
+fn counted(run: Run, n: usize, block: &[u8]) -> Run
+    requires { ⌜ blockOf (now block) ≡ Block.Arrivals (run .form) n (run .ssrc) ⌝ }
+    ensures { λ r. ⌜ r ≡ arrived run n (now (block .entry)) ⌝ }
 {
     let before = run.totals;
     let source = before.source;
+    let form = run.form;
     let width = form.width();
     let end = BODY + n * width;
     let totals = before.with_block(count_block(source, &block[BODY..end], width));
     Run {
+        form,
         length: run.length,
         ssrc: run.ssrc,
         totals,
@@ -45,10 +46,10 @@ fn counted(run: Run, form: Form, n: usize, block: &[u8]) -> Run
 }
 
 // Counts the n arrivals of a block and writes the row after it.
-pub fn arrivals(run: Run, zeroth: &[u8], form: Form, n: usize, block: &[u8], out: &mut [u8]) -> Step
-    requires { ⌜ (soundRun run (now zeroth) ≡ true) × (blockOf (now block) ≡ Block.Arrivals form n (run .ssrc)) ⌝ }
-    ensures { λ r. ⌜ Stepped run (goes (arrived run form n (now (block .entry)))) (now (zeroth .entry)) (now (out .entry)) r (now (out .exit)) ⌝ }
+pub fn arrivals(run: Run, zeroth: &[u8], n: usize, block: &[u8], out: &mut [u8]) -> Step
+    requires { ⌜ (soundRun run (now zeroth) ≡ true) × (blockOf (now block) ≡ Block.Arrivals (run .form) n (run .ssrc)) ⌝ }
+    ensures { λ r. ⌜ Stepped run (goes (arrived run n (now (block .entry)))) (now (zeroth .entry)) (now (out .entry)) r (now (out .exit)) ⌝ }
 {
-    let next = counted(run, form, n, block);
+    let next = counted(run, n, block);
     row(run, next, zeroth, out)
 }

@@ -1,6 +1,6 @@
 // When a run is sound.
 use crate::Run;
-use format::Kind;
+use format::Form;
 use format::block::BLOCK;
 use format::block::BODY;
 use format::block::BODY_BYTES;
@@ -14,19 +14,20 @@ use source::Totals;
 use trace::label::is_label;
 ghost use mathlib.Core.Path.{_≡_};
 ghost use Rattle.answers.specs.Conditions.{all};
-ghost use Rattle.format.specs.Forms.{kindOf};
-ghost use Rattle.trace.specs.Reading.{kindIn};
-ghost use Rattle.convert.specs.Runs.{isLabel, ownLabel, soundTotals, soundRun};
+ghost use mathlib.Core.Bool.{_&&_};
+ghost use lib.Dec.{eqb};
+ghost use Rattle.format.specs.Forms.{sameForm};
+ghost use Rattle.convert.specs.Runs.{ownLabel, soundTotals, soundRun};
 
-// Whether a block says that it holds a label.
-fn is_label_kind(zeroth: &[u8]) -> bool
-    ensures { λ r. ⌜ r ≡ isLabel (kindOf (kindIn (now (zeroth .entry)))) ⌝ }
+// Whether arrivals of a form and an SSRC belong to the run's trace.
+pub fn is_of_trace(run: Run, form: Form, ssrc: u32) -> bool
+    ensures { λ r. ⌜ r ≡ (sameForm form (run .form) && eqb ssrc (run .ssrc)) ⌝ }
 {
-    match Kind::of(read16(zeroth, KIND)) {
-        Kind::Label(_) => true,
-        Kind::Arrivals(_) => false,
-        Kind::Unknown => false,
+    let own = run.form;
+    if form.label() != own.label() {
+        return false;
     }
+    ssrc == run.ssrc
 }
 
 // Whether block 0 is the run's own. (Its header says so: no checksum is taken per call.)
@@ -36,7 +37,8 @@ fn is_own(run: Run, zeroth: &[u8]) -> bool
     if zeroth.len() != BLOCK {
         return false;
     }
-    if !is_label_kind(zeroth) {
+    let form = run.form;
+    if read16(zeroth, KIND) != form.label() {
         return false;
     }
     if read16(zeroth, COUNT) as usize != run.length {

@@ -7,6 +7,8 @@ pub mod Runs
 pub mod Demand
 pub mod Traces
 pub mod PrintedTable
+pub mod LastRow
+pub mod BothForms
 pub mod ReadBack
 pub mod WorkedExamples
 pub mod Between

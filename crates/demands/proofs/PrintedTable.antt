@@ -67,24 +67,24 @@ split (x ∷ xs) ys (v ∷ vs) e =
     }
 
 -- all marks of a trace's records are at most 3
-trace-marks : (ssrc : ℕ) (bs : List (List ℕ)) (vs : List TruePacket) → AllArrivals ssrc bs → map inRecord (together bs) ≡ map ofArrival vs → Marks vs
-trace-marks ssrc [] [] a e = tt
-trace-marks ssrc [] (v ∷ vs) a e = let z : _≡_ {A = ℕ} 0 1 = cc in absurd (omega arith)
-trace-marks ssrc (b ∷ bs) vs a e =
-    let is = a .2 in
+trace-marks : (form : Form) (ssrc : ℕ) (bs : List (List ℕ)) (vs : List TruePacket) → AllArrivals form ssrc bs → map inRecord (together bs) ≡ map ofArrival vs → Marks vs
+trace-marks form ssrc [] [] a e = tt
+trace-marks form ssrc [] (v ∷ vs) a e = let z : _≡_ {A = ℕ} 0 1 = cc in absurd (omega arith)
+trace-marks form ssrc (b ∷ bs) vs a e =
+    let is = a .1 in
     let s = split (recordsBy b (blockOf b)) (together bs) vs e in
     subst Marks (sym (s .is))
     (marks-parts (s .front) (s .back)
-    (block-marks b (a .0) (a .1) ssrc is (s .front) (ap (λ (r : Block). map inRecord (recordsBy b r)) (sym is) ∙ s .first))
-    (trace-marks ssrc bs (s .back) (a .3) (s .more)))
+    (block-marks b form (a .0) ssrc is (s .front) (ap (λ (r : Block). map inRecord (recordsBy b r)) (sym is) ∙ s .first))
+    (trace-marks form ssrc bs (s .back) (a .2) (s .more)))
 
 -- ---- the rows
 
-module _ (zeroth label : List ℕ) (ssrc : ℕ) (label-is : take (length label) (drop bodyAt zeroth) ≡ label) (ok : labelOk label ≡ true)
+module _ (form : Form) (zeroth label : List ℕ) (ssrc : ℕ) (label-is : take (length label) (drop bodyAt zeroth) ≡ label) (ok : labelOk label ≡ true)
     (ps : List TruePacket) (m : Marks ps) (d : Described ps) where
   -- the run with the first arrivals
   abbrev with : List TruePacket → Run
-  with us = record { length = length label; ssrc = ssrc; totals = record { source = run us; jumped = 0; restarts = 0 } }
+  with us = record { form = form; length = length label; ssrc = ssrc; totals = record { source = run us; jumped = 0; restarts = 0 } }
 
   front-described : (us vs : List TruePacket) → us ++ vs ≡ ps → Marks us → Described us
   front-described us vs e mu =
@@ -103,16 +103,16 @@ module _ (zeroth label : List ℕ) (ssrc : ℕ) (label-is : take (length label) 
       ∙ ap (λ (l : List TruePacket). countRow label ssrc l 0 0) (all-arrivals us mu)
 
   -- a block of `vs` leads from `us` to `us ++ vs`
-  next-is : (us vs ws : List TruePacket) → us ++ (vs ++ ws) ≡ ps → (b : List ℕ) (form : Form) (n : ℕ) → blockOf b ≡ Arrivals form n ssrc
+  next-is : (us vs ws : List TruePacket) → us ++ (vs ++ ws) ≡ ps → (b : List ℕ) (n : ℕ) → blockOf b ≡ Arrivals form n ssrc
       → map inRecord (recordsBy b (Arrivals form n ssrc)) ≡ map ofArrival vs → nextOf (with us) b ≡ goes (with (us ++ vs))
   unfolding nextOf arrived
-  next-is us vs ws e b form n is same =
+  next-is us vs ws e b n is same =
       let good : sound (run us) ≡ true = run-sound freshRecord us fresh-sound in
       let answered : AnsweredFrom (run us) vs = answers-front (run us) vs ws (answers-behind freshRecord us (vs ++ ws) (subst (AnsweredFrom freshRecord) (sym e) (demand3 ps d .answers))) in
       let counted = block-counted b form n ssrc is vs same (run us) good answered in
-      ap (nextBy (with us) b) is ∙ rw (eq-eqb ssrc ssrc refl)
-      (ap (λ (c : BlockCount). goes (record { length = length label; ssrc = ssrc; totals = withBlock (record { source = run us; jumped = 0; restarts = 0 }) c })) counted
-      ∙ ap (λ (s : Source). goes (record { length = length label; ssrc = ssrc; totals = record { source = s; jumped = 0; restarts = 0 } })) (sym (run-parts freshRecord us vs)))
+      ap (nextBy (with us) b) is ∙ rw (eq-eqb (shapeOf form .label) (shapeOf form .label) refl, eq-eqb ssrc ssrc refl)
+      (ap (λ (c : BlockCount). goes (record { form = form; length = length label; ssrc = ssrc; totals = withBlock (record { source = run us; jumped = 0; restarts = 0 }) c })) counted
+      ∙ ap (λ (s : Source). goes (record { form = form; length = length label; ssrc = ssrc; totals = record { source = s; jumped = 0; restarts = 0 } })) (sym (run-parts freshRecord us vs)))
 
   -- the last row of some blocks, behind those of `us`
   Last : List (List ℕ) → List TruePacket → Type 0
@@ -130,14 +130,13 @@ module _ (zeroth label : List ℕ) (ssrc : ℕ) (label-is : take (length label) 
       let row : List ℕ = countRow label ssrc next 0 0 in
       (row ∷ l .0, rw (n, t, l .1) (sym (append-assoc row (joined (l .0)) (countRow label ssrc ps 0 0))))
 
-  rest-rows : (i : ℕ) (bs : List (List ℕ)) (us vs : List TruePacket) → us ++ vs ≡ ps → Marks us → AllArrivals ssrc bs → map inRecord (together bs) ≡ map ofArrival vs → Rows i bs us
+  rest-rows : (i : ℕ) (bs : List (List ℕ)) (us vs : List TruePacket) → us ++ vs ≡ ps → Marks us → AllArrivals form ssrc bs → map inRecord (together bs) ≡ map ofArrival vs → Rows i bs us
   unfolding rows walk closed Last
   rest-rows i [] us [] e mu a same = record { lines = refl; last = sym (append-nil us) ∙ e }
   rest-rows i [] us (v ∷ vs) e mu a same = let z : _≡_ {A = ℕ} 0 1 = cc in absurd (omega arith)
   rest-rows i (b ∷ bs) us vs e mu a same =
-      let form = a .0 in
-      let n = a .1 in
-      let is = a .2 in
+      let n = a .0 in
+      let is = a .1 in
       let s = split (recordsBy b (blockOf b)) (together bs) vs same in
       let first : map inRecord (recordsBy b (Arrivals form n ssrc)) ≡ map ofArrival (s .front) = ap (λ (r : Block). map inRecord (recordsBy b r)) (sym is) ∙ s .first in
       let next : List TruePacket = us ++ s .front in
@@ -146,10 +145,10 @@ module _ (zeroth label : List ℕ) (ssrc : ℕ) (label-is : take (length label) 
       let mn : Marks next = marks-parts us (s .front) mu (block-marks b form n ssrc is (s .front) first) in
       let long : length us + countIn b ≡ length next = omega (arith, length-append us (s .front), block-length b form n ssrc is (s .front) first, accepted b is .block .its-count) in
       let cut : take (length next) ps ≡ next = ap (take (length next)) (sym whole) ∙ take-append-seam next (s .back) in
-      let more = rest-rows (suc i) bs next (s .back) whole mn (a .3) (s .more) in
+      let more = rest-rows (suc i) bs next (s .back) whole mn (a .2) (s .more) in
       record {
         lines =
-            rest-goes zeroth i b bs (with us) (next-is us (s .front) (s .back) parts b form n is first)
+            rest-goes zeroth i b bs (with us) (next-is us (s .front) (s .back) parts b n is first)
             ∙ ap₂ (λ (row : List ℕ) (p : Printed). both (toOutput row) p) (row-is next (s .back) whole mn) (more .lines)
             ∙ rw (long, cut);
         last = last-next b bs us next long cut (more .last);
@@ -159,7 +158,7 @@ module _ (zeroth label : List ℕ) (ssrc : ℕ) (label-is : take (length label) 
 
 module _ (trace label : List ℕ) (ssrc : ℕ) (ps : List TruePacket) (d : Described ps) (h : Holds trace label ssrc ps) where
   held-marks : Marks ps
-  held-marks = trace-marks ssrc (blocksOf trace .others) ps (h .others) (h .records)
+  held-marks = trace-marks (h .form) ssrc (blocksOf trace .others) ps (h .others) (h .records)
 
   held-label : take (length label) (drop bodyAt (blocksOf trace .zeroth)) ≡ label
   held-label = sym (accepted (blocksOf trace .zeroth) (h .zeroth) .block .place) ∙ h .text
@@ -167,14 +166,14 @@ module _ (trace label : List ℕ) (ssrc : ℕ) (ps : List TruePacket) (d : Descr
   label-ok : labelOk label ≡ true
   label-ok = ap labelOk (sym (h .text)) ∙ accepted (blocksOf trace .zeroth) (h .zeroth) .label
 
-  all-rows : Rows (blocksOf trace .zeroth) label ssrc held-label label-ok ps held-marks d 1 (blocksOf trace .others) []
-  all-rows = rest-rows (blocksOf trace .zeroth) label ssrc held-label label-ok ps held-marks d 1 (blocksOf trace .others) [] ps refl tt (h .others) (h .records)
+  all-rows : Rows (h .form) (blocksOf trace .zeroth) label ssrc held-label label-ok ps held-marks d 1 (blocksOf trace .others) []
+  all-rows = rest-rows (h .form) (blocksOf trace .zeroth) label ssrc held-label label-ok ps held-marks d 1 (blocksOf trace .others) [] ps refl tt (h .others) (h .records)
 
   all-lines : printed trace ≡ toOutput (headBytes ++ joined (rows label ssrc ps 0 (blocksOf trace .others)))
   all-lines = printed-started trace _ (start-label (blocksOf trace .zeroth) (h .zeroth)) ∙ ap (both (toOutput headBytes)) (all-rows .lines)
 
   last-line : (bs : List (List ℕ)) → printed trace ≡ toOutput (headBytes ++ joined (rows label ssrc ps 0 bs))
-      → Last (blocksOf trace .zeroth) label ssrc held-label label-ok ps held-marks d bs [] → 1 ≤ length ps → EndsIn trace (countRow label ssrc ps 0 0)
+      → Last (h .form) (blocksOf trace .zeroth) label ssrc held-label label-ok ps held-marks d bs [] → 1 ≤ length ps → EndsIn trace (countRow label ssrc ps 0 0)
   unfolding Last
   last-line [] lines last some = absurd (omega (arith, ap length last))
   last-line (b ∷ bs) lines last some = (last .0, lines ∙ ap (λ (l : List ℕ). toOutput (headBytes ++ l)) (last .1))

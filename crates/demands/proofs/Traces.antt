@@ -13,7 +13,7 @@ use Rattle.answers.proofs.Conditions.{and-left, and-right}
 use Rattle.format.specs.Blocks.{bodyAt}
 use Rattle.format.specs.Forms.{Shape, shapeOf, width}
 use Rattle.format.specs.declared.Form.{Form}
-use Rattle.format.specs.declared.Form.the-variants.{One}
+use Rattle.format.specs.declared.Form.the-variants.{One, Two}
 use Rattle.source.specs.declared.Source.{Source}
 use Rattle.answers.specs.declared.Refusal.the-variants.{Limits}
 use Rattle.source.specs.declared.Arrival.the-variants.{Accepted, Refused}
@@ -90,9 +90,15 @@ good-marks shape (suc n) s (v ∷ vs) g e =
       good-marks shape n (drop (width shape) s) vs (and-right z rest (and-right m (z && rest) g)) more,
     )
 
-marks-fit : (vs : List TruePacket) → Marks vs → marksFit (map ofArrival vs) ≡ true
-marks-fit [] m = refl
-marks-fit (v ∷ vs) m = rw (le-leb (v .mark) 3 (m .0), marks-fit vs (m .1))
+good-fit : (shape : Shape) (n : ℕ) (s : List ℕ) → goodRecords shape n s ≡ true → marksFit (map inRecord (recordsIn shape n s)) ≡ true
+unfolding goodRecords recordsIn recordAt
+good-fit shape zero s g = refl
+good-fit shape (suc n) s g =
+    let m : Bool = isMark (getD s (shape .time + 2) 0) in
+    let z : Bool = isZero (getD s (shape .time + 3) 0) in
+    let rest : Bool = goodRecords shape n (drop (width shape) s) in
+    let fits : leb (getD s (0 + (shape .time + 2)) 0) 3 ≡ true = ap (λ (k : ℕ). leb (getD s k 0) 3) (zero-add (shape .time + 2)) ∙ and-left m (z && rest) g in
+    rw (fits, good-fit shape n (drop (width shape) s) (and-right z rest (and-right m (z && rest) g)))
 
 -- calls that are all accepted, counted as a block
 count-accepted : (vs : List TruePacket) (s : Source) (jumps restarts : ℕ) → Marks vs → AnsweredFrom s vs → countAll (map ofArrival vs) s jumps restarts ≡ Counted (runFrom s vs) jumps restarts
@@ -103,34 +109,40 @@ count-accepted (v ∷ vs) s jumps restarts m a =
     ap₂ (λ (i j : ℕ). countAll (map ofArrival vs) (after (call s v)) i j) (ap (λ (n : ℕ). jumps + n) (ap jump is) ∙ add-zero jumps) (ap (λ (n : ℕ). restarts + n) (ap restart is) ∙ add-zero restarts)
     ∙ count-accepted vs (after (call s v)) jumps restarts (m .1) (a .1)
 
--- a block of `vs`: their marks, their number, and what it counts
-module _ (b : List ℕ) (form : Form) (n ssrc : ℕ) (e : blockOf b ≡ Arrivals form n ssrc) (vs : List TruePacket)
-    (same : map inRecord (recordsIn (shapeOf form) n (bodyOf b)) ≡ map ofArrival vs) where
-  pub block-marks : Marks vs
-  block-marks = good-marks (shapeOf form) n (bodyOf b) vs (accepted b e .records) same
-
-  pub block-length : length vs ≡ n
-  block-length =
-      sym (length-map vs ofArrival) ∙ ap length (sym same ∙ sym (packets-are (shapeOf form) n (bodyOf b))) ∙ length-packets (width (shapeOf form)) n (bodyOf b)
-
+-- a block counts its records one by one
+module _ (b : List ℕ) (form : Form) (n ssrc : ℕ) (e : blockOf b ≡ Arrivals form n ssrc) where
   in-block : List ℕ
   in-block = take (n * width (shapeOf form)) (drop bodyAt b)
 
-  block-packets : packets (width (shapeOf form)) n in-block ≡ map ofArrival vs
+  block-packets : packets (width (shapeOf form)) n in-block ≡ map inRecord (recordsIn (shapeOf form) n (bodyOf b))
   unfolding in-block
   block-packets =
       ap (packets (width (shapeOf form)) n) (sym (accepted b e .block .place))
       ∙ packets-take (width (shapeOf form)) n (n * width (shapeOf form)) (bodyOf b) (omega arith) (omega arith)
-      ∙ packets-are (shapeOf form) n (bodyOf b) ∙ same
+      ∙ packets-are (shapeOf form) n (bodyOf b)
 
-  pub block-counted : (s : Source) → sound s ≡ true → AnsweredFrom s vs
-      → blockCount s (width (shapeOf form)) (take (n * width (shapeOf form)) (drop bodyAt b)) ≡ Counted (runFrom s vs) 0 0
+  pub records-counted : (s : Source) → sound s ≡ true
+      → blockCount s (width (shapeOf form)) (take (n * width (shapeOf form)) (drop bodyAt b)) ≡ countAll (map inRecord (recordsIn (shapeOf form) n (bodyOf b))) s 0 0
   unfolding in-block
-  block-counted s g a =
+  records-counted s g =
       let h = accepted b e in
       let long : length in-block ≡ n * width (shapeOf form) = ap length (sym (h .block .place)) ∙ h .block .long in
-      block-counts (width (shapeOf form)) n in-block (omega arith) long (h .least) (most form n (h .most)) (ap marksFit block-packets ∙ marks-fit vs block-marks) s g
-      ∙ ap (λ (l : List Packet). countAll l s 0 0) block-packets ∙ count-accepted vs s 0 0 block-marks a
+      block-counts (width (shapeOf form)) n in-block (omega arith) long (h .least) (most form n (h .most)) (ap marksFit block-packets ∙ good-fit (shapeOf form) n (bodyOf b) (h .records)) s g
+      ∙ ap (λ (l : List Packet). countAll l s 0 0) block-packets
     where
       most : (form : Form) (n : ℕ) → n ≤ shapeOf form .most → n ≤ 62
       most One n h = h
+      most Two n h = omega arith
+
+  -- a block of `vs`: their marks, their number, and what it counts
+  module _ (vs : List TruePacket) (same : map inRecord (recordsIn (shapeOf form) n (bodyOf b)) ≡ map ofArrival vs) where
+    pub block-marks : Marks vs
+    block-marks = good-marks (shapeOf form) n (bodyOf b) vs (accepted b e .records) same
+
+    pub block-length : length vs ≡ n
+    block-length =
+        sym (length-map vs ofArrival) ∙ ap length (sym same ∙ sym (packets-are (shapeOf form) n (bodyOf b))) ∙ length-packets (width (shapeOf form)) n (bodyOf b)
+
+    pub block-counted : (s : Source) → sound s ≡ true → AnsweredFrom s vs
+        → blockCount s (width (shapeOf form)) (take (n * width (shapeOf form)) (drop bodyAt b)) ≡ Counted (runFrom s vs) 0 0
+    block-counted s g a = records-counted s g ∙ ap (λ (l : List Packet). countAll l s 0 0) same ∙ count-accepted vs s 0 0 block-marks a

@@ -38,6 +38,9 @@ use Rattle.convert.proofs.Whole.{calls-print}
 use Rattle.demands.specs.Calls.{run}
 use Rattle.demands.specs.RoundTrip.{emptyRr}
 use Rattle.demands.specs.Witnesses.{wrapped, reordered, c1Packets, text, label, c1Block, block, whole, cut, begun, reported, notLater, heardOn}
+use Rattle.forms.specs.Witnesses.{trace}
+use Rattle.forms.proofs.Witnesses.{met as forms-met}
+use Rattle.demands.proofs.BothForms.{both-forms}
 use Rattle.demands.proofs.Demand.{demand3}
 use Rattle.demands.proofs.PrintedTable.{table-holds-count, same-last-row}
 use Rattle.demands.proofs.ReadBack.{feedback-reads-back, summary-reads-back}
@@ -57,7 +60,7 @@ used =
     let check = one-check label label (met .label-bytes) (met .label-bytes) (met .label-long) (met .label-long) (met .label-right) (met .label-right) refl in
     let splits = row-splits text 1 (record { source = run c1Packets; jumped = 3; restarts = 2 }) [] (met .label-ok) in
     let line = line-splits text (codes "a \"b\"" ∷ []) [] (met .plain) in
-    let arrivals-back = arrivals-read-back One (0 ∷ 20 ∷ []) (65534 ∷ 65535 ∷ []) (2 ∷ 2 ∷ []) 1 (met .lists-fit) (met .times-fit) (met .numbers-fit) (met .ssrcs .1) in
+    let arrivals-back = arrivals-read-back One (0 ∷ 20 ∷ []) (65534 ∷ 65535 ∷ []) (2 ∷ 2 ∷ []) 1 (met .lists-fit) (met .numbers-fit) (met .ssrcs .1) in
     let arrivals-written = arrivals-are-written One c1Block 5 1 (met .arrivals-bytes) (met .arrivals-read) in
     let since = since-exact 16 (pos 65540) (pos 65530) (met .since .0) (met .since .1) in
     let signed = signed-exact 15 (pos 2) (pos 7) (met .signed .0) (met .signed .1) in
@@ -82,4 +85,5 @@ used =
     let fits = row-fits text 1 (record { source = run c1Packets; jumped = 3; restarts = 2 }) (met .ssrcs .1) (met .row-accepted) in
     let room = room-is-exact none (feedbackBytes 9 1 (run c1Packets)) (replicate 31 0) 32 (met .room) in
     let row-room = row-room-is-exact begun begun (callNext begun label c1Block) label (replicate 40 0) 41 (met .row-room) in
+    let forms = both-forms trace One 2 1 (forms-met .octets) (forms-met .label) (forms-met .taken) (forms-met .some) in
     tt

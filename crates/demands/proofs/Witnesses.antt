@@ -6,15 +6,13 @@ use mathlib.Core.Option.{none}
 use Prim.Native.Nat.{ℕ, zero, suc, _^_, _<_}
 use lib.ListN.{length, take, drop, replicate}
 use native.Mathlib.Omega.{arith}
-use borrow.Author.Tests.{ltb-true}
 use lib.Count.{ones, onesIn}
-use lib.Dec.{ltb, leb→le}
+use lib.Dec.{leb→le}
 use lib.Signed.{leZ-yes, ltZ-yes}
 use Rattle.answers.specs.Writers.{written}
 use Rattle.answers.specs.declared.Refusal.the-variants.{PacketSize, Time}
 use Rattle.answers.specs.declared.Written.the-variants.{Room}
 use Rattle.answers.specs.Conditions.{all}
-use Rattle.answers.proofs.Conditions.{and-left, and-right}
 use Rattle.numbers.specs.BigEndian.{word, bytes}
 use Rattle.numbers.specs.Since.{since}
 use Rattle.format.specs.Blocks.{blockBytes}
@@ -35,7 +33,8 @@ use Rattle.trace.specs.Contents.{every, labelByte, labelOk, labelBody, countOk,
 use Rattle.trace.specs.Layout.{recordBytes, recordsBytes, recordAt, header, filled, checked, labelBlock, arrivalsBlock}
 use Rattle.trace.specs.Reading.{rightCheck, contentsOf, blockOf}
 use Rattle.trace.specs.Writing.{labelFault, recordsOf, arrivalsOk, arrivalsFault}
-use Rattle.trace.specs.Theorems.{Below, recordsIn}
+use Rattle.trace.specs.Theorems.{recordsIn}
+use Rattle.trace.proofs.Limits.{below}
 use Rattle.trace.specs.declared.Block.the-variants.{Label, Arrivals}
 use Rattle.table.specs.Decimal.{digitsOf, decimal, signed}
 use Rattle.table.specs.Field.{special, anySpecial, doubledByte, doubled, asField, line}
@@ -64,12 +63,6 @@ use Rattle.demands.specs.RoundTrip.{emptyRr}
 use Rattle.demands.specs.Witnesses.{Met, c1Packets, text, label, c1Block, whole, cut, begun, reported, notLater, heardOn}
 use Rattle.demands.proofs.ReadBack.{nothing-made-up}
 
-below : (limit : ℕ) (s : List ℕ) → 0 < limit → every (λ c. ltb c limit) s ≡ true → Below limit s
-unfolding every
-below limit [] h e i = h
-below limit (c ∷ s) h e zero = ltb-true c limit (and-left (ltb c limit) (every (λ c. ltb c limit) s) e)
-below limit (c ∷ s) h e (suc i) = below limit s h (and-right (ltb c limit) (every (λ c. ltb c limit) s) e) i
-
 -- ---- blocks, computed
 
 -- what a block's bytes unfold to
@@ -79,11 +72,11 @@ label-reads = refl
 
 whole-held : Holds whole text 1 c1Packets
 unfolding labelBlock arrivalsBlock recordsOf recordBytes recordsBytes header filled checked bytes words onesAdd onesSum word blockOf rightCheck contentsOf labelBody labelByte every arrivalsBody countOk goodRecords recordsIn recordAt Blocks.cut blocksOf
-whole-held = record { form = One; zeroth = refl; text = refl; others = (One, 5, refl, tt); records = refl }
+whole-held = record { form = One; zeroth = refl; text = refl; others = (5, refl, tt); records = refl }
 
 cut-held : Holds cut text 1 c1Packets
 unfolding labelBlock arrivalsBlock recordsOf recordBytes recordsBytes header filled checked bytes words onesAdd onesSum word blockOf rightCheck contentsOf labelBody labelByte every arrivalsBody countOk goodRecords recordsIn recordAt Blocks.cut blocksOf
-cut-held = record { form = One; zeroth = refl; text = refl; others = (One, 2, refl, (One, 3, refl, tt)); records = refl }
+cut-held = record { form = One; zeroth = refl; text = refl; others = (2, refl, (3, refl, tt)); records = refl }
 
 whole-enough : EnoughBy (λ _. replicate 100 0) (blocksOf whole) (runFrom (blocksOf whole .zeroth))
 unfolding labelBlock arrivalsBlock recordsOf recordBytes recordsBytes header filled checked bytes words onesAdd onesSum word blockOf rightCheck contentsOf labelBody labelByte every arrivalsBody countOk goodRecords Blocks.cut blocksOf runFrom nextOf arrived blockCount sound fresh hasCounted packets countAll arrival first counted distance reachOf ahead behind pack marks place moved added rowOf rowBytes asField anySpecial special doubled doubledByte decimal digitsOf signed line lost places ones
@@ -162,7 +155,6 @@ met = record {
   label-ok = refl;
   plain = refl;
   lists-fit = refl;
-  times-fit = below (256 ^ 4) (0 ∷ 20 ∷ []) (omega arith) refl;
   numbers-fit = below (2 ^ 16) (65534 ∷ 65535 ∷ []) (omega arith) refl;
   arrivals-bytes = below 256 c1Block (omega arith) refl;
   arrivals-read = refl;

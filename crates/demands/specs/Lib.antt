@@ -5,6 +5,7 @@ pub mod TableRow
 pub mod Between
 pub mod Demand3
 pub mod PrintedTable
+pub mod BothForms
 pub mod Examples
 pub mod BetweenReports
 pub mod WorseLoss

@@ -38,17 +38,17 @@ abbrev pub together : List (List ℕ) → List Record
 together [] = []
 together (b ∷ bs) = recordsBy b (blockOf b) ++ together bs
 
--- each block holds arrivals of this SSRC
-abbrev pub AllArrivals : ℕ → List (List ℕ) → Type 0
-AllArrivals ssrc [] = Unit {0}
-AllArrivals ssrc (b ∷ bs) = (form : Form) × (n : ℕ) × (blockOf b ≡ Arrivals form n ssrc) × AllArrivals ssrc bs
+-- each block holds arrivals of this form and SSRC
+abbrev pub AllArrivals : Form → ℕ → List (List ℕ) → Type 0
+AllArrivals form ssrc [] = Unit {0}
+AllArrivals form ssrc (b ∷ bs) = (n : ℕ) × (blockOf b ≡ Arrivals form n ssrc) × AllArrivals form ssrc bs
 
--- a label block, then arrivals blocks of its SSRC whose records, taken together in order, are what the program sees of the arrivals `ps`
+-- a label block, then arrivals blocks of its form and SSRC whose records, taken together in order, are what the program sees of the arrivals `ps`
 pub record Holds (trace label : List ℕ) (ssrc : ℕ) (ps : List TruePacket) : Type 0 where
   pub form : Form
   pub zeroth : blockOf (blocksOf trace .zeroth) ≡ Label form (length label) ssrc
   pub text : take (length label) (bodyOf (blocksOf trace .zeroth)) ≡ label
-  pub others : AllArrivals ssrc (blocksOf trace .others)
+  pub others : AllArrivals form ssrc (blocksOf trace .others)
   pub records : map inRecord (together (blocksOf trace .others)) ≡ map ofArrival ps
 
 -- ---- the table
@@ -71,7 +71,7 @@ pub record Table (trace label : List ℕ) (ssrc : ℕ) (ps : List TruePacket) : 
 abbrev pub TableHoldsCount : Type 0
 TableHoldsCount = (trace label : List ℕ) (ssrc : ℕ) (ps : List TruePacket) → Described ps → Holds trace label ssrc ps → Table trace label ssrc ps
 
--- two such traces with the same label, SSRC and arrivals, the first the same, end in the same row, however they are cut into blocks
+-- two such traces with the same label, SSRC and arrivals, the first the same, end in the same row, whatever their forms and however they are cut into blocks
 abbrev pub SameLastRow : Type 0
 SameLastRow =
     (trace other label : List ℕ) (ssrc : ℕ) (ps qs : List TruePacket) → Described ps → Described qs → Holds trace label ssrc ps → Holds other label ssrc qs

@@ -93,7 +93,7 @@ cut = label ++ (block (0 ∷ 20 ∷ []) (65534 ∷ 65535 ∷ []) (2 ∷ 2 ∷ []
 
 -- the run that the label block begins
 abbrev pub begun : Run
-begun = record { length = length text; ssrc = 1; totals = freshTotals }
+begun = record { form = One; length = length text; ssrc = 1; totals = freshTotals }
 
 -- ---- a breaker with an interval in its window, and a report at the time of its last
 
@@ -138,7 +138,6 @@ pub record Met : Type 0 where
   pub plain : allPlain (text ∷ codes "a \"b\"" ∷ []) ≡ true
   -- ArrivalsReadBack, ArrivalsAreWritten
   pub lists-fit : arrivalsFault (shapeOf One) (0 ∷ 20 ∷ []) (65534 ∷ 65535 ∷ []) (2 ∷ 2 ∷ []) ≡ none
-  pub times-fit : Below (256 ^ 4) (0 ∷ 20 ∷ [])
   pub numbers-fit : Below (2 ^ 16) (65534 ∷ 65535 ∷ [])
   pub arrivals-bytes : Below 256 c1Block
   pub arrivals-read : blockOf c1Block ≡ Arrivals One 5 1

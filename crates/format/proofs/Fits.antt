@@ -4,12 +4,13 @@ use mathlib.Core.Bool.{Bool, true, false, cond}
 use Prim.Native.Nat.{ℕ, suc, _+_, _*_, _≤_, _<_}
 use native.Mathlib.Nat.{suc-mul, le-trans, mul-le-mul-right}
 use native.Mathlib.Omega.{arith}
+use borrow.Author.Needs.{needs}
 use borrow.Author.Tests.{eqb-true}
 use lib.Dec.{eqb}
 use Rattle.format.specs.Blocks.{bodyBytes}
 use Rattle.format.specs.Forms.{Shape, shapeOf, width, kindOf}
 use Rattle.format.specs.declared.Form.{Form}
-use Rattle.format.specs.declared.Form.the-variants.{One}
+use Rattle.format.specs.declared.Form.the-variants.{One, Two}
 use Rattle.format.specs.declared.Kind.{Kind}
 use Rattle.format.specs.declared.Kind.the-variants.{Label, Arrivals, Unknown}
 
@@ -17,9 +18,11 @@ use Rattle.format.specs.declared.Kind.the-variants.{Label, Arrivals, Unk
 
 pub kind-label : (form : Form) → kindOf (shapeOf form .label) ≡ Label form
 kind-label One = refl
+kind-label Two = refl
 
 pub kind-arrivals : (form : Form) → kindOf (shapeOf form .arrivals) ≡ Arrivals form
 kind-arrivals One = refl
+kind-arrivals Two = refl
 
 -- the number that a kind has
 abbrev pub Numbered : ℕ → Kind → Type 0
@@ -28,12 +31,16 @@ Numbered n (Arrivals form) = n ≡ shapeOf form .arrivals
 Numbered n Unknown = Unit {0}
 
 pub numbered : (n : ℕ) → Numbered n (kindOf n)
-numbered n = go (eqb n 1) (eqb n 2) refl refl
+numbered n = go (eqb n 1) (eqb n 2) (eqb n 3) (eqb n 4) refl refl refl refl
   where
-    go : (a b : Bool) → eqb n 1 ≡ a → eqb n 2 ≡ b → Numbered n (cond a (Label One) (cond b (Arrivals One) Unknown))
-    go true b e₁ e₂ = eqb-true n 1 e₁
-    go false true e₁ e₂ = eqb-true n 2 e₂
-    go false false e₁ e₂ = tt
+    go :
+        (a b c d : Bool) → eqb n 1 ≡ a → eqb n 2 ≡ b → eqb n 3 ≡ c → eqb n 4 ≡ d
+        → Numbered n (cond a (Label One) (cond b (Arrivals One) (cond c (Label Two) (cond d (Arrivals Two) Unknown))))
+    go true b c d e₁ e₂ e₃ e₄ = eqb-true n 1 e₁
+    go false true c d e₁ e₂ e₃ e₄ = eqb-true n 2 e₂
+    go false false true d e₁ e₂ e₃ e₄ = eqb-true n 3 e₃
+    go false false false true e₁ e₂ e₃ e₄ = eqb-true n 4 e₄
+    go false false false false e₁ e₂ e₃ e₄ = tt
 
 -- ---- records
 
@@ -46,14 +53,8 @@ pub record Fits (shape : Shape) : Type 0 where
   pub room : shape .most * width shape ≤ bodyBytes
 
 pub fits : (form : Form) → Fits (shapeOf form)
-fits One = record {
-  label-least = omega arith;
-  label-most = omega arith;
-  arrivals-least = omega arith;
-  arrivals-most = omega arith;
-  few = omega arith;
-  room = omega arith;
-}
+fits One = search needs
+fits Two = search needs
 
 module _ {shape : Shape} (fit : Fits shape) {n : ℕ} (few : n ≤ shape .most) where
   -- as many records as a block may have lie in its body

@@ -1,3 +1,3 @@
 -- The laws that other crates cite.
 pub mod Fits
-mod Only
+pub mod Same

@@ -1,6 +1,6 @@
 // What packets and traces carry, and the one place of a trace block's numbers (document 01, "Trace file").
 ghost use mathlib.Core.Path.{_≡_};
-ghost use Rattle.format.specs.Forms.{shapeOf, width, kindOf};
+ghost use Rattle.format.specs.Forms.{shapeOf, width, timeLimit, otherForm, kindOf};
 
 pub mod block;
 
@@ -17,9 +17,10 @@ pub struct Counts {
     pub duplicates: u16,
 }
 
-// The forms of a trace.
+// The forms of a trace: times of 32 bits, or of 48.
 pub enum Form {
     One,
+    Two,
 }
 
 // What the kind of a block says: that it holds the label or arrivals of a trace of some form, or nothing that is known.
@@ -36,6 +37,7 @@ impl Form {
     {
         match self {
             Form::One => 1,
+            Form::Two => 3,
         }
     }
 
@@ -45,6 +47,7 @@ impl Form {
     {
         match self {
             Form::One => 2,
+            Form::Two => 4,
         }
     }
 
@@ -54,6 +57,7 @@ impl Form {
     {
         match self {
             Form::One => 8,
+            Form::Two => 10,
         }
     }
 
@@ -63,6 +67,27 @@ impl Form {
     {
         match self {
             Form::One => block::MOST_RECORDS,
+            Form::Two => 50,
+        }
+    }
+
+    // The least time, in ms, that no record can have.
+    pub fn time_limit(self) -> u64
+        ensures { λ r. ⌜ r ≡ timeLimit (shapeOf self) ⌝ }
+    {
+        match self {
+            Form::One => 0x1_0000_0000,
+            Form::Two => 0x1_0000_0000_0000,
+        }
+    }
+
+    // The other form.
+    pub fn other(self) -> Form
+        ensures { λ r. ⌜ r ≡ otherForm self ⌝ }
+    {
+        match self {
+            Form::One => Form::Two,
+            Form::Two => Form::One,
         }
     }
 }
@@ -75,6 +100,8 @@ impl Kind {
         match kind {
             1 => Kind::Label(Form::One),
             2 => Kind::Arrivals(Form::One),
+            3 => Kind::Label(Form::Two),
+            4 => Kind::Arrivals(Form::Two),
             _ => Kind::Unknown,
         }
     }

@@ -40,6 +40,11 @@ pub fn tell(program: &[u8], what: &[u8]) {
     os::fail(&line[from..n]);
 }
 
+// Tells that a read has failed.
+pub fn tell_reading(program: &[u8]) {
+    tell(program, b"reading standard input");
+}
+
 // Whether the program was started with an argument. None takes one, so the usage line is then written on standard error.
 pub fn has_arguments(usage: &[u8]) -> bool {
     if os::arg_count() < 2 {

@@ -1,6 +1,6 @@
 // The blocks of standard input in turn.
 use crate::clipped::least;
-use crate::failures::tell;
+use crate::failures::tell_reading;
 use crate::retries::TRIES;
 use crate::retries::tries_after;
 use format::block::BLOCK;
@@ -38,7 +38,15 @@ enum Got {
     Failed,
 }
 
-// Reads once into a part of the buffer, and again where that was interrupted or found nothing yet. A failure is told.
+// Tells a failed read under the program's name, if one is given.
+fn tell_at_once(program: &[u8]) {
+    if program.len() == 0 {
+        return;
+    }
+    tell_reading(program);
+}
+
+// Reads once into a part of the buffer, and again where that was interrupted or found nothing yet.
 fn read_some(program: &[u8], part: &mut [u8]) -> Got
     ensures { λ r. ⌜ Came (length (now (part .entry))) r ⌝ }
 {
@@ -54,7 +62,7 @@ fn read_some(program: &[u8], part: &mut [u8]) -> Got
         }
         left = tries_after(left, os::errno());
     }
-    tell(program, b"reading standard input");
+    tell_at_once(program);
     Got::Failed
 }
 
@@ -120,8 +128,9 @@ fn first_of(held: Input, length: usize) -> Next
 }
 
 impl Input {
-    // Fills the buffer with as many whole blocks as fit in it, and gives the first. A read that fails is told on standard error; the whole blocks
-    // before it are still given, and then the failure.
+    // Fills the buffer with as many whole blocks as fit in it, and gives the first. A read that fails is told on standard error at once, or, where the
+    // program's name is empty, by the caller (`tell_reading`, before another call of the system fails); the whole blocks before it are still given, and then
+    // the failure.
     pub fn begin(program: &[u8], buffer: &mut [u8]) -> Next
         ensures { λ r. ⌜ Within (length (now (buffer .entry))) r ⌝ }
     {

@@ -1,25 +1,24 @@
 -- What an accepted block is, and that it is what the writer gives for its contents. Assumes nothing.
 use mathlib.Core.Path.{_≡_, refl, sym, ap, ap₂, _∙_, subst}
-use mathlib.Core.Bool.{Bool, true, false, _&&_, not, cond}
+use mathlib.Core.Bool.{Bool, true, false, not, cond}
 use mathlib.Core.List.{List, [], _∷_, _++_}
 use mathlib.Core.Option.{none}
 use Prim.Native.Nat.{ℕ, zero, suc, _+_, _-_, _*_, _≤_, _<_}
-use native.Mathlib.Nat.{zero-add, add-zero, add-assoc, add-comm, zero-mul, suc-mul}
+use native.Mathlib.Nat.{zero-add, zero-mul}
 use native.Mathlib.Omega.{arith}
 use borrow.Author.Tests.{leb-true, eqb-true}
 use lib.Dec.{eqb}
 use lib.ListN.{length, take, drop, getD, replicate, length-drop, take-append-drop}
-use lib.Seq.{take-add, take-take, drop-drop, getD-drop, length-take-le}
+use lib.Seq.{take-add, take-take, drop-drop, length-take-le}
 use Rattle.answers.specs.declared.Refusal.the-variants.{Incomplete, Checksum, Contents}
-use Rattle.numbers.specs.BigEndian.{word}
-use Rattle.numbers.proofs.BigEndian.{Octets, word-drop}
+use Rattle.numbers.proofs.BigEndian.{Octets}
 use Rattle.answers.proofs.Conditions.{all-true, and-left, and-right}
 use Rattle.format.specs.Forms.{Shape, shapeOf, width, kindOf}
 use Rattle.format.specs.declared.Kind.{Kind}
 use Rattle.format.specs.declared.Kind.the-variants as kind
 use Rattle.format.proofs.Fits.{Numbered, numbered, fits, records-fit}
-use Rattle.trace.specs.Layout.{recordAt, recordBytes, recordsBytes, header, filled, checked, labelBlock, arrivalsBlock, bodyOf}
-use Rattle.trace.specs.Contents.{every, isZero, isMark, labelConditions, labelBody, countOk, goodRecords, arrivalsConditions, arrivalsBody}
+use Rattle.trace.specs.Layout.{recordAt, recordsBytes, header, filled, checked, labelBlock, arrivalsBlock, bodyOf}
+use Rattle.trace.specs.Contents.{every, isZero, isMark, isTime, labelConditions, labelBody, countOk, goodRecords, arrivalsConditions, arrivalsBody}
 use Rattle.trace.specs.Reading.{kindIn, countIn, ssrcIn, rightCheck, contentsBy, contentsOf, blockOf}
 use Rattle.trace.specs.Accepted.{Holds, Accepted}
 use Rattle.trace.specs.Theorems.{recordsIn, listOf, recordsFault, LabelIsWritten, ArrivalsAreWritten}
@@ -29,22 +28,10 @@ use Rattle.trace.specs.declared.Found.the-variants.{Is}
 use Rattle.trace.specs.declared.Record.{Record}
 use Rattle.trace.proofs.Decisions.{count-right, found-there, label-taken, label-rest, lists-taken, lists-rest}
 use Rattle.trace.proofs.Octets.{octets-take, octets-drop, bytes-word}
+use Rattle.trace.proofs.Records.{record-next, record-at, of-shape-in, of-shape-times, bytes-records, length-list, length-recordsIn, marks-in, times, marks}
 use Rattle.trace.proofs.Checks.{right-checked}
 
 -- ---- a record
-
--- in a list without its first octets
-record-drop : (shape : Shape) (n : ℕ) (s : List ℕ) (at : ℕ) → recordAt shape (drop n s) at ≡ recordAt shape s (n + at)
-unfolding recordAt
-record-drop shape n s at = λ i. record {
-  time = word-drop (shape .time) n s at i;
-  number = record { 0 = (word-drop 2 n s (at + shape .time) ∙ ap (word 2 s) (sym (add-assoc n at (shape .time)))) i };
-  mark = (getD-drop n s (at + (shape .time + 2)) 0 ∙ ap (λ (k : ℕ). getD s k 0) (sym (add-assoc n at (shape .time + 2)))) i;
-}
-
--- and behind the first
-pub record-next : (shape : Shape) (s : List ℕ) (i : ℕ) → recordAt shape (drop (width shape) s) (i * width shape) ≡ recordAt shape s (suc i * width shape)
-record-next shape s i = record-drop shape (width shape) s (i * width shape) ∙ ap (recordAt shape s) (add-comm (width shape) (i * width shape) ∙ sym (suc-mul i (width shape)))
 
 mark-at : (shape : Shape) (n : ℕ) (s : List ℕ) (i : ℕ) → goodRecords shape n s ≡ true → i < n → recordAt shape s (i * width shape) .mark ≤ 3
 unfolding goodRecords recordAt
@@ -149,66 +136,14 @@ label-is-written form b n ssrc o e =
 
 -- ---- records
 
-take-two : (s : List ℕ) → 2 ≤ length s → take 2 s ≡ getD s 0 0 ∷ getD s 1 0 ∷ []
-take-two [] h = absurd (omega arith)
-take-two (a ∷ []) h = absurd (omega arith)
-take-two (a ∷ b ∷ s) h = refl
-
-record-back : (shape : Shape) (s : List ℕ) → Octets s → width shape ≤ length s → getD s (shape .time + 3) 0 ≡ 0 → recordBytes shape (recordAt shape s 0) ≡ take (width shape) s
-unfolding recordBytes recordAt
-record-back shape s o long z =
-    let t = shape .time in
-    let next : t + 2 + 1 ≡ t + 3 = omega arith in
-    let last : take 2 (drop (t + 2) s) ≡ getD s (t + 2) 0 ∷ 0 ∷ [] =
-    take-two (drop (t + 2) s) (rw length-drop (omega arith)) ∙ rw (getD-drop (t + 2) s 0 0, getD-drop (t + 2) s 1 0, add-zero (t + 2), next, z) in
-    let four : take 4 (drop t s) ≡ take 2 (drop t s) ++ take 2 (drop (t + 2) s) = take-add 2 2 (drop t s) ∙ ap (λ (l : List ℕ). take 2 (drop t s) ++ take 2 l) (drop-drop 2 t s) in
-    rw (zero-add t, zero-add (t + 2), bytes-word t s 0 o (omega arith), bytes-word 2 s t o (omega arith), take-add t 4 s, four, last)
-
-records-back : (shape : Shape) (n : ℕ) (s : List ℕ) → Octets s → n * width shape ≤ length s → goodRecords shape n s ≡ true → recordsBytes shape (recordsIn shape n s) ≡ take (n * width shape) s
-unfolding recordsBytes recordsIn goodRecords
-records-back shape zero s o long g = rw (zero-mul (width shape))
-records-back shape (suc n) s o long g =
-    let w = width shape in
-    let m : Bool = isMark (getD s (shape .time + 2) 0) in
-    let z : Bool = isZero (getD s (shape .time + 3) 0) in
-    let rest : Bool = goodRecords shape n (drop w s) in
-    let size : suc n * w ≡ w + n * w = suc-mul n w ∙ add-comm (n * w) w in
-    let both = and-right m (z && rest) g in
-    rw (size, take-add w (n * w) s, record-back shape s o (omega (arith, size)) (eqb-true (getD s (shape .time + 3) 0) 0 (and-left z rest both)), records-back shape n (drop w s) (octets-drop w s o) (rw length-drop (omega (arith, size))) (and-right z rest both))
-
-length-recordsIn : (shape : Shape) (n : ℕ) (s : List ℕ) → length (recordsIn shape n s) ≡ n
-unfolding recordsIn
-length-recordsIn shape zero s = refl
-length-recordsIn shape (suc n) s = ap suc (length-recordsIn shape n (drop (width shape) s))
-
-records-at : (shape : Shape) (n : ℕ) (s : List ℕ) (i : ℕ) (d : Record) → i < n → getD (recordsIn shape n s) i d ≡ recordAt shape s (i * width shape)
-unfolding recordsIn
-records-at shape zero s i d h = absurd (omega arith)
-records-at shape (suc n) s zero d h = ap (recordAt shape s) (sym (zero-mul (width shape)))
-records-at shape (suc n) s (suc i) d h = records-at shape n (drop (width shape) s) i d (omega arith) ∙ record-next shape s i
-
-length-listOf : (field : Record → ℕ) (rs : List Record) → length (listOf field rs) ≡ length rs
-unfolding listOf
-length-listOf field [] = refl
-length-listOf field (r ∷ rs) = ap suc (length-listOf field rs)
-
-marks-are : (shape : Shape) (n : ℕ) (s : List ℕ) → goodRecords shape n s ≡ true → every isMark (listOf (λ r. r .mark) (recordsIn shape n s)) ≡ true
-unfolding listOf recordsIn goodRecords every recordAt
-marks-are shape zero s g = refl
-marks-are shape (suc n) s g =
-    let m : Bool = isMark (getD s (shape .time + 2) 0) in
-    let z : Bool = isZero (getD s (shape .time + 3) 0) in
-    let rest : Bool = goodRecords shape n (drop (width shape) s) in
-    rw (zero-add (shape .time + 2), and-left m (z && rest) g) (marks-are shape n (drop (width shape) s) (and-right z rest (and-right m (z && rest) g)))
-
 -- lists that are made of records
-lists-are : (shape : Shape) (rs : List Record) → countOk shape (length rs) ≡ true → every isMark (listOf (λ r. r .mark) rs) ≡ true
+lists-are : (shape : Shape) (rs : List Record) → countOk shape (length rs) ≡ true → every (isTime shape) (listOf (λ r. r .time) rs) ≡ true → every isMark (listOf (λ r. r .mark) rs) ≡ true
     → recordsFault shape rs ≡ none
-lists-are shape rs count g =
-    let times = length-listOf (λ r. r .time) rs in
-    let numbers = length-listOf (λ r. r .number .0) rs in
-    let marks = length-listOf (λ r. r .mark) rs in
-    lists-taken shape _ _ _ (sym (lists-rest shape (listOf (λ r. r .time) rs) (listOf (λ r. r .number .0) rs) (listOf (λ r. r .mark) rs) (numbers ∙ sym times) (marks ∙ sym times) (rw times count) (sym g))) .no-fault
+lists-are shape rs count t g =
+    let times = length-list (λ r. r .time) rs in
+    let numbers = length-list (λ r. r .number .0) rs in
+    let marks = length-list (λ r. r .mark) rs in
+    lists-taken shape _ _ _ (sym (lists-rest shape (listOf (λ r. r .time) rs) (listOf (λ r. r .number .0) rs) (listOf (λ r. r .mark) rs) (numbers ∙ sym times) (marks ∙ sym times) (rw times count) t (sym g))) .no-fault
 
 -- ---- arrivals
 
@@ -222,9 +157,9 @@ arrivals-are-written form b n ssrc o e =
     let rs : List Record = recordsIn shape n s in
     let many = length-recordsIn shape n s in
     let back : recordsBytes shape rs ≡ take (n * width shape) s =
-    records-back shape n s (octets-body b o (k .whole)) (omega (arith, length-body b (k .whole) (k .right), k .room)) (a .records) in (
-      lists-are shape rs (rw many (a .count)) (marks-are shape n s (a .records)),
-      λ i other h. found-there b i form (sym (k .its-count)) (a .count) (k .whole) (k .its-kind) h ∙ ap Is (sym (records-at shape n s i other h)),
+    bytes-records shape n s (octets-body b o (k .whole)) (omega (arith, length-body b (k .whole) (k .right), k .room)) (a .records) in (
+      lists-are shape rs (rw many (a .count)) (of-shape-times shape rs (of-shape-in shape n s (octets-body b o (k .whole)))) (marks-in shape n s (a .records)),
+      λ i other h. found-there b i form (sym (k .its-count)) (a .count) (k .whole) (k .its-kind) h ∙ ap Is (sym (record-at shape n s i other h)),
       block-is b o (k .whole) (k .right) (recordsBytes shape rs) (ap filled back ∙ filled-is s (n * width shape) (length-body b (k .whole) (k .right)) (k .room) (k .unused))
           ∙ rw (k .its-kind, k .its-count, k .its-ssrc, many),
     )

@@ -5,7 +5,8 @@ use mathlib.Core.Logic.{⊎-elim}
 use denote.Enum.Declared.{tagOf}
 use types.Run.{OneOf}
 use mathlib.Core.List.{List, [], _∷_}
-use Prim.Native.Nat.{ℕ, _-_, _*_, _≤_, _<_}
+use Prim.Native.Nat.{ℕ, _-_, _*_, _/_, _%_, _≤_, _<_}
+use native.Mathlib.Nat.{div-add-mod'}
 use native.Mathlib.Omega.{arith}
 use mathlib.Core.Option.{none, some}
 use borrow.Author.Tests.{lt-ltb, le-ltb, le-leb, lt-leb, eq-eqb, ne-eqb, leb-true, eqb-true}
@@ -14,7 +15,7 @@ use lib.ListN.{length, take, drop, getD, length-drop}
 use lib.Seq.{take-all}
 use Rattle.answers.specs.declared.Refusal.the-variants.{Incomplete, Checksum, Contents, Limits}
 use Rattle.answers.proofs.Conditions.{and-left, and-right, all-true, all-false}
-use Rattle.trace.specs.Writing.{labelFault, listsConditions, arrivalsOk, arrivalsFault}
+use Rattle.trace.specs.Writing.{labelFault, listsConditions, arrivalsOk, arrivalsFault, bodyConditions, bodyOk, bodyFault}
 use Rattle.trace.specs.Checksum.{words, onesSum}
 use Rattle.format.specs.Forms.{Shape, shapeOf, width, kindOf}
 use Rattle.format.specs.declared.Form.{Form}
@@ -23,7 +24,7 @@ use Rattle.format.specs.declared.Kind.the-variants as kind
 use Rattle.format.proofs.Kind.{the-type}
 use Rattle.format.proofs.Fits.{kind-arrivals}
 use Rattle.trace.specs.Layout.{recordAt, bodyOf}
-use Rattle.trace.specs.Contents.{every, isZero, isMark, labelByte, labelOk, labelConditions, labelBody, countOk, goodRecords, arrivalsConditions, arrivalsBody}
+use Rattle.trace.specs.Contents.{every, isZero, isMark, isTime, labelByte, labelOk, labelConditions, labelBody, countOk, goodRecords, arrivalsConditions, arrivalsBody}
 use Rattle.trace.specs.Reading.{kindIn, countIn, ssrcIn, checkIn, rightCheck, contentsBy, contentsOf, blockOf, foundBy, foundAt}
 use Rattle.trace.specs.declared.Block.the-variants.{Label, Arrivals, Refused}
 use Rattle.trace.specs.declared.Found.the-variants.{Is, Refused as Missing}
@@ -177,6 +178,7 @@ module _ (shape : Shape) (times numbers marks : List ℕ) where
     pub marks-long : length marks ≡ length times
     pub count : countOk shape (length times) ≡ true
     pub most : length times ≤ shape .most
+    pub timed : every (isTime shape) times ≡ true
     pub good : every isMark marks ≡ true
 
   pub lists-taken : arrivalsOk shape times numbers marks ≡ true → Taken
@@ -187,15 +189,53 @@ module _ (shape : Shape) (times numbers marks : List ℕ) where
     marks-long = eqb-true (length marks) (length times) (all-true (listsConditions shape times numbers marks) 1 e);
     count = all-true (listsConditions shape times numbers marks) 2 e;
     most = count-right shape (length times) (all-true (listsConditions shape times numbers marks) 2 e) .1;
-    good = all-true (listsConditions shape times numbers marks) 3 e;
+    timed = all-true (listsConditions shape times numbers marks) 3 e;
+    good = all-true (listsConditions shape times numbers marks) 4 e;
   }
 
   pub lists-false : (i : ℕ) → getD (listsConditions shape times numbers marks) i true ≡ false → false ≡ arrivalsOk shape times numbers marks
   unfolding arrivalsOk
   lists-false i e = all-false (listsConditions shape times numbers marks) i e
 
-  pub lists-rest : length numbers ≡ length times → length marks ≡ length times → countOk shape (length times) ≡ true
+  pub lists-rest : length numbers ≡ length times → length marks ≡ length times → countOk shape (length times) ≡ true → every (isTime shape) times ≡ true
       → {r : Bool} → r ≡ every isMark marks → r ≡ arrivalsOk shape times numbers marks
   unfolding arrivalsOk
-  lists-rest en em c e =
-      rw (eq-eqb (length numbers) (length times) en, eq-eqb (length marks) (length times) em, c) (e ∙ sym (and-true (every isMark marks)))
+  lists-rest en em c t e =
+      rw (eq-eqb (length numbers) (length times) en, eq-eqb (length marks) (length times) em, c, t) (e ∙ sym (and-true (every isMark marks)))
+
+-- ---- records as a body has them
+
+module _ (shape : Shape) (s : List ℕ) where
+  pub body-refused : bodyOk shape s ≡ false → bodyFault shape s ≡ some Limits
+  unfolding bodyFault
+  body-refused e = rw e
+
+  -- bytes that can be a block's records
+  pub record BodyTaken : Type 0 where
+    pub no-fault : bodyFault shape s ≡ none
+    pub whole : length s / width shape * width shape ≡ length s
+    pub count : countOk shape (length s / width shape) ≡ true
+    pub most : length s / width shape ≤ shape .most
+    pub good : goodRecords shape (length s / width shape) s ≡ true
+
+  pub body-taken : bodyOk shape s ≡ true → BodyTaken
+  unfolding bodyOk bodyFault
+  body-taken e =
+      let tests = bodyConditions shape s in
+      let rest : length s % width shape ≡ 0 = eqb-true (length s % width shape) 0 (all-true tests 0 e) in
+      record {
+        no-fault = rw e;
+        whole = omega (arith, rest, div-add-mod' (length s) (width shape));
+        count = all-true tests 1 e;
+        most = count-right shape (length s / width shape) (all-true tests 1 e) .1;
+        good = all-true tests 2 e;
+      }
+
+  pub body-false : (i : ℕ) → getD (bodyConditions shape s) i true ≡ false → false ≡ bodyOk shape s
+  unfolding bodyOk
+  body-false i e = all-false (bodyConditions shape s) i e
+
+  pub body-rest : length s % width shape ≡ 0 → countOk shape (length s / width shape) ≡ true
+      → {r : Bool} → r ≡ goodRecords shape (length s / width shape) s → r ≡ bodyOk shape s
+  unfolding bodyOk
+  body-rest w c e = rw (eq-eqb (length s % width shape) 0 w, c) (e ∙ sym (and-true (goodRecords shape (length s / width shape) s)))

@@ -11,16 +11,10 @@ use Rattle.numbers.specs.BigEndian.{bytes}
 use Rattle.numbers.proofs.BigEndian.{length-bytes}
 use Rattle.answers.proofs.Stores.{sets-step, sets-front}
 use Rattle.trace.specs.Checksum.{words, onesSum}
-use Rattle.format.specs.Forms.{Shape, shapeOf, width}
-use Rattle.format.specs.declared.Form.{Form}
-use Rattle.format.specs.declared.Form.the-variants.{One}
-use Rattle.trace.specs.Layout.{recordBytes, recordsBytes, header, filled, checked, labelBlock, arrivalsBlock}
+use Rattle.format.specs.Forms.{Shape, width}
+use Rattle.trace.specs.Layout.{recordBytes, recordsBytes, header, filled, checked, labelBlock, arrivalsBlock, recordsBlock}
 use Rattle.trace.specs.Writing.{recordsOf}
 use Rattle.trace.specs.declared.Record.{Record}
-
--- a time has four bytes in every form yet, as `Record` has it
-pub time-four : (form : Form) → shapeOf form .time ≡ 4
-time-four One = refl
 
 -- ---- lengths
 
@@ -56,6 +50,10 @@ pub length-arrivalsBlock : (shape : Shape) (rs : List Record) (ssrc : ℕ) → l
 unfolding arrivalsBlock
 length-arrivalsBlock shape rs ssrc h =
     length-checked _ (length-front (shape .arrivals) (length rs) ssrc (recordsBytes shape rs) (rw (length-records shape rs) h))
+
+pub length-recordsBlock : (shape : Shape) (s : List ℕ) (ssrc : ℕ) → length s ≤ 502 → length (recordsBlock shape s ssrc) ≡ 512
+unfolding recordsBlock
+length-recordsBlock shape s ssrc h = length-checked _ (length-front (shape .arrivals) _ ssrc s h)
 
 -- ---- the records of three lists
 

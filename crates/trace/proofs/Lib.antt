@@ -5,6 +5,8 @@ pub mod Labels
 pub mod Decisions
 pub mod Layouts
 pub mod Octets
+pub mod Limits
+pub mod Records
 pub mod Checks
 pub mod Accepted
 pub mod ReadBack

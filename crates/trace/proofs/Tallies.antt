@@ -1,13 +1,13 @@
 -- Laws of adding up, over a list, what breaks a rule. Assumes nothing.
 use mathlib.Core.Path.{_≡_, refl, sym, ap, _∙_}
-use mathlib.Core.Bool.{Bool, true, false, _&&_, cond, and-true}
+use mathlib.Core.Bool.{Bool, true, false, _&&_, cond, and-true, and-assoc}
 use mathlib.Core.List.{List, [], _∷_, _++_}
 use Prim.Native.Nat.{ℕ, zero, suc, _+_, _-_, _*_, _/_, _≤_, _<_}
 use native.Mathlib.Nat.{add-zero, zero-add, suc-add, add-assoc, add-comm, suc-mul}
 use native.Mathlib.Numerals.{add-one}
 use native.Mathlib.Omega.{arith}
 use borrow.Author.Tests.{eq-eqb, ne-eqb, leb-true, leb-false, eqb-true, eqb-false}
-use lib.Dec.{leb, eqb, eqb·suc-zero}
+use lib.Dec.{leb, ltb, eqb, eqb·suc-zero}
 use lib.ListN.{length, drop, getD, drop-of-length-le}
 use lib.Seq.{drop-cons, drop-drop, getD-drop}
 use Rattle.numbers.specs.BigEndian.{word}
@@ -61,23 +61,21 @@ mark-fault m = go (leb m 3) refl
     go true e = eq-eqb (m / 4) 0 (omega (arith, leb-true m 3 e))
     go false e = ne-eqb (m / 4) 0 (λ z. omega (arith, leb-false m 3 e))
 
--- 0 for a byte that a label may have, else 1
+-- 0 where a rule holds, else 1
+pub rule-fault : (t : Bool) → eqb (cond t 0 1) 0 ≡ t
+rule-fault true = refl
+rule-fault false = refl
+
+pub rule-small : (t : Bool) → cond t 0 1 ≤ 1
+rule-small true = omega arith
+rule-small false = omega arith
+
+-- by the rules on a label's bytes and on times
 abbrev pub outsideOf : ℕ → ℕ
 outsideOf c = cond (labelByte c) 0 1
 
-pub label-fault : (c : ℕ) → eqb (outsideOf c) 0 ≡ labelByte c
-label-fault c = go (labelByte c)
-  where
-    go : (t : Bool) → eqb (cond t 0 1) 0 ≡ t
-    go true = refl
-    go false = refl
-
-pub outside-small : (c : ℕ) → outsideOf c ≤ 1
-outside-small c = go (labelByte c)
-  where
-    go : (t : Bool) → cond t 0 1 ≤ 1
-    go true = omega arith
-    go false = omega arith
+abbrev pub beyondOf : ℕ → ℕ → ℕ
+beyondOf limit time = cond (ltb time limit) 0 1
 
 -- ---- a mark and the zero behind it, as one number with the zero first
 
@@ -88,10 +86,6 @@ pair-fault z m h = go (leb m 3) (eqb z 0) refl refl
     go true true e k = eq-eqb ((z * 256 + m) / 4) 0 (omega (arith, leb-true m 3 e, eqb-true z 0 k))
     go true false e k = ne-eqb ((z * 256 + m) / 4) 0 (λ n. omega (arith, eqb-false z 0 k))
     go false u e k = ne-eqb ((z * 256 + m) / 4) 0 (λ n. omega (arith, leb-false m 3 e))
-
-and-assoc : (a b c : Bool) → ((a && b) && c) ≡ (a && (b && c))
-and-assoc true b c = refl
-and-assoc false b c = refl
 
 pub mul-turn : (left w : ℕ) → 0 < left → left * w ≡ w + (left - 1) * w
 mul-turn zero w h = absurd (omega arith)

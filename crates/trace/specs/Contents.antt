@@ -2,13 +2,13 @@
 use Prim.Native.Nat.{ℕ, zero, suc, _+_, _*_}
 use mathlib.Core.Bool.{Bool, true, _&&_, _||_}
 use mathlib.Core.List.{List, [], _∷_}
-use lib.Dec.{leb, eqb}
+use lib.Dec.{leb, ltb, eqb}
 use lib.ListN.{length, take, drop, getD}
 use Rattle.answers.specs.Conditions.{all}
 use Rattle.format.specs.Blocks.{bodyBytes}
-use Rattle.format.specs.Forms.{Shape, width}
+use Rattle.format.specs.Forms.{Shape, width, timeLimit}
 
--- whether a rule holds for every byte
+-- whether a rule holds for every number
 unfoldable pub every : (ℕ → Bool) → List ℕ → Bool
 every rule [] = true
 every rule (c ∷ s) = rule c && every rule s
@@ -19,6 +19,10 @@ isZero c = eqb c 0
 -- a mark: 0 to 3
 abbrev pub isMark : ℕ → Bool
 isMark mark = leb mark 3
+
+-- a time: below 2^32, or 2^48 in form 2
+abbrev pub isTime : Shape → ℕ → Bool
+isTime shape time = ltb time (timeLimit shape)
 
 -- a label: 0 to 502 bytes, each 32 to 126, 10 or 13
 unfoldable pub labelByte : ℕ → Bool

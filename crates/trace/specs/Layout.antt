@@ -1,10 +1,10 @@
 -- Document 01, "Trace file": the bytes of a block, by the shape of its form.
-use Prim.Native.Nat.{ℕ, _+_, _-_}
+use Prim.Native.Nat.{ℕ, _+_, _-_, _/_}
 use mathlib.Core.List.{List, [], _∷_, _++_}
 use lib.ListN.{length, take, drop, getD, replicate}
 use Rattle.numbers.specs.BigEndian.{word, bytes}
 use Rattle.format.specs.Blocks.{bodyAt, bodyBytes}
-use Rattle.format.specs.Forms.{Shape}
+use Rattle.format.specs.Forms.{Shape, width}
 use Rattle.trace.specs.Checksum.{words, onesSum}
 use Rattle.trace.specs.declared.Record.{Record}
 
@@ -45,6 +45,10 @@ labelBlock shape label ssrc = checked (header (shape .label) (length label) ssrc
 
 unfoldable pub arrivalsBlock : Shape → List Record → ℕ → List ℕ
 arrivalsBlock shape records ssrc = checked (header (shape .arrivals) (length records) ssrc ++ filled (recordsBytes shape records))
+
+-- the same block, from the bytes of its records
+unfoldable pub recordsBlock : Shape → List ℕ → ℕ → List ℕ
+recordsBlock shape s ssrc = checked (header (shape .arrivals) (length s / width shape) ssrc ++ filled s)
 
 -- the body of a block
 abbrev pub bodyOf : List ℕ → List ℕ

@@ -4,6 +4,7 @@ use mathlib.Core.Bool.{Bool, cond, not}
 use mathlib.Core.List.{List, [], _∷_}
 use lib.Dec.{ltb, eqb}
 use lib.ListN.{length}
+use Rattle.answers.specs.declared.Refusal.{Refusal}
 use Rattle.answers.specs.declared.Refusal.the-variants.{Incomplete, Checksum, Contents, Limits}
 use Rattle.numbers.specs.BigEndian.{word}
 use Rattle.answers.specs.Conditions.{all}
@@ -51,6 +52,12 @@ blockOf b =
     cond (not (eqb (length b) blockBytes)) (Refused Incomplete)
     (cond (not (rightCheck b)) (Refused Checksum)
     (contentsOf b))
+
+-- the refusal of a block of the wrong kind for its place, 14, or of one that cannot be read
+abbrev pub faultOf : Block → Refusal
+faultOf (Label form n ssrc) = Contents
+faultOf (Arrivals form n ssrc) = Contents
+faultOf (Refused refusal) = refusal
 
 -- ---- the record i of b, in the order of refusals 1, 14, 10
 

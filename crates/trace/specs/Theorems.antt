@@ -9,7 +9,7 @@ use Rattle.answers.specs.declared.Refusal.{Refusal}
 use Rattle.format.specs.Blocks.{blockBytes, checkAt}
 use Rattle.format.specs.Forms.{Shape, shapeOf, width}
 use Rattle.format.specs.declared.Form.{Form}
-use Rattle.trace.specs.Layout.{recordAt, labelBlock, arrivalsBlock, bodyOf}
+use Rattle.trace.specs.Layout.{recordAt, recordsBytes, labelBlock, arrivalsBlock, recordsBlock, bodyOf}
 use Rattle.trace.specs.Reading.{rightCheck, blockOf, foundAt}
 use Rattle.trace.specs.Writing.{labelFault, recordsOf, arrivalsFault}
 use Rattle.trace.specs.declared.Block.the-variants.{Label, Arrivals}
@@ -33,11 +33,16 @@ LabelReadsBack =
 abbrev pub ArrivalsReadBack : Type 0
 ArrivalsReadBack =
     (form : Form) (times numbers marks : List ℕ) (ssrc : ℕ) → arrivalsFault (shapeOf form) times numbers marks ≡ none
-    → Below (256 ^ shapeOf form .time) times → Below (2 ^ 16) numbers → ssrc < 2 ^ 32
+    → Below (2 ^ 16) numbers → ssrc < 2 ^ 32
     → (blockOf (arrivalsBlock (shapeOf form) (recordsOf times numbers marks) ssrc) ≡ Arrivals form (length times) ssrc)
     × ((i : ℕ) → i < length times
     → foundAt (arrivalsBlock (shapeOf form) (recordsOf times numbers marks) ssrc) i
     ≡ Is (record { time = getD times i 0; number = record { 0 = getD numbers i 0 }; mark = getD marks i 0 }))
+
+-- ---- a block of records is that of their bytes
+
+abbrev pub RecordsByBytes : Type 0
+RecordsByBytes = (form : Form) (records : List Record) (ssrc : ℕ) → recordsBlock (shapeOf form) (recordsBytes (shapeOf form) records) ssrc ≡ arrivalsBlock (shapeOf form) records ssrc
 
 -- ---- each content has one check word
 

@@ -1,14 +1,14 @@
 // The rules on a block's contents. Each loop adds up what breaks a rule, so that it has no way out but its end.
-use crate::fields::time_bytes;
 use format::Form;
 use numbers::big_endian::join16;
 ghost use mathlib.Core.Path.{_≡_};
 ghost use mathlib.Core.Bool.{cond};
 ghost use Prim.Native.Nat.{_*_, _≤_};
+ghost use lib.Dec.{ltb};
 ghost use lib.ListN.{length};
-ghost use Rattle.format.specs.Blocks.{blockBytes};
-ghost use Rattle.format.specs.Forms.{shapeOf, width};
-ghost use Rattle.trace.specs.Contents.{every, isZero, isMark, labelByte, countOk, goodRecords};
+ghost use Rattle.format.specs.Blocks.{blockBytes, behindTime};
+ghost use Rattle.format.specs.Forms.{Shape, shapeOf, width};
+ghost use Rattle.trace.specs.Contents.{every, isZero, isMark, isTime, labelByte, countOk, goodRecords};
 
 // Whether all bytes of s are zero.
 pub fn all_zero(s: &[u8]) -> bool
@@ -33,6 +33,31 @@ pub fn all_marks(marks: &[u8]) -> bool
     let mut i = 0;
     while i < marks.len() {
         sum += (marks[i] / 4) as u32;
+        i += 1;
+    }
+    sum == 0
+}
+
+// 1 for a time from the limit on, else 0.
+fn beyond(limit: u64, time: u64) -> u32
+    ensures { λ r. ⌜ r ≡ cond (ltb time limit) 0 1 ⌝ }
+{
+    if time < limit {
+        return 0;
+    }
+    1
+}
+
+// Whether the form's records can have all times.
+pub fn all_times(form: Form, times: &[u64]) -> bool
+    requires { ⌜ length (now times) ≤ blockBytes ⌝ }
+    ensures { λ r. ⌜ r ≡ every (isTime (shapeOf form)) (now (times .entry)) ⌝ }
+{
+    let limit = form.time_limit();
+    let mut sum: u32 = 0;
+    let mut i = 0;
+    while i < times.len() {
+        sum += beyond(limit, times[i]);
         i += 1;
     }
     sum == 0
@@ -73,20 +98,32 @@ pub fn is_count(form: Form, n: usize) -> bool
     n <= form.most()
 }
 
-// Whether the first n records of a body have a mark of 0 to 3 and then a zero: as a number with the zero first, the two are below 4.
-pub fn all_records(form: Form, n: usize, body: &[u8]) -> bool
-    requires { ⌜ (n ≤ shapeOf form .most) × (n * width (shapeOf form) ≤ length (now body)) ⌝ }
-    ensures { λ r. ⌜ r ≡ goodRecords (shapeOf form) n (now (body .entry)) ⌝ }
+// Whether the first n records of a body, `step` bytes each, end with a mark of 0 to 3 and a zero: as a number with the zero first, the two
+// are below 4.
+fn good_ends(step: usize, n: usize, body: &[u8]) -> bool
+    requires { ⌜ (behindTime ≤ step) × (n ≤ blockBytes) × (n * step ≤ length (now body)) ⌝ }
+    ensures { λ r. ⌜ ((shape : Shape) → step ≡ width shape → r ≡ goodRecords shape n (now (body .entry))) ⌝ }
 {
-    let width = form.width();
-    let mark = time_bytes(form) + 2;
+    let mark = step - 2;
     let mut sum: u32 = 0;
     let mut left = n;
     let mut at = 0;
     while 0 < left {
         sum += (join16(body[at + mark + 1], body[at + mark]) / 4) as u32;
         left -= 1;
-        at += width;
+        at += step;
     }
     sum == 0
+}
+
+// Whether the first n records of a body have a mark of 0 to 3 and then a zero. Each form has a call of its own, so that the compiler
+// knows the loop's step.
+pub fn all_records(form: Form, n: usize, body: &[u8]) -> bool
+    requires { ⌜ (n ≤ shapeOf form .most) × (n * width (shapeOf form) ≤ length (now body)) ⌝ }
+    ensures { λ r. ⌜ r ≡ goodRecords (shapeOf form) n (now (body .entry)) ⌝ }
+{
+    match form {
+        Form::One => good_ends(Form::One.width(), n, body),
+        Form::Two => good_ends(Form::Two.width(), n, body),
+    }
 }

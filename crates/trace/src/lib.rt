@@ -28,7 +28,7 @@ pub enum Block {
 
 // One arrival of a block: its time in ms, its wire number and its mark.
 pub struct Record {
-    pub time: u32,
+    pub time: u64,
     pub number: Wire,
     pub mark: u8,
 }

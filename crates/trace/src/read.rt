@@ -7,6 +7,7 @@ use crate::contents::all_allowed;
 use crate::contents::all_records;
 use crate::contents::all_zero;
 use crate::contents::is_count;
+use crate::fields::read_time;
 use crate::fields::time_bytes;
 use answers::Refusal;
 use format::Form;
@@ -28,7 +29,7 @@ ghost use Rattle.format.specs.Blocks.{blockBytes, bodyBytes};
 ghost use Rattle.format.specs.Forms.{shapeOf, width};
 ghost use Rattle.trace.specs.Layout.{recordAt};
 ghost use Rattle.trace.specs.Contents.{labelBody, arrivalsBody};
-ghost use Rattle.trace.specs.Reading.{rightCheck, contentsOf, blockOf, foundAt};
+ghost use Rattle.trace.specs.Reading.{rightCheck, contentsOf, blockOf, faultOf, foundAt};
 
 // Whether body is that of a label of n bytes.
 fn label_body(n: usize, body: &[u8]) -> bool
@@ -111,13 +112,23 @@ pub fn read_block(b: &[u8]) -> Block
     contents(b)
 }
 
+// The refusal of a block that is not of the kind that its place asks for: its own, or 14.
+pub fn fault_of(block: Block) -> Refusal
+    ensures { λ r. ⌜ r ≡ faultOf block ⌝ }
+{
+    match block {
+        Block::Refused(refusal) => refusal,
+        _ => Refusal::Contents,
+    }
+}
+
 // The record at a place of a body.
 fn record_in(form: Form, body: &[u8], at: usize) -> Record
     requires { ⌜ at + width (shapeOf form) ≤ length (now body) ⌝ }
     ensures { λ r. ⌜ r ≡ recordAt (shapeOf form) (now (body .entry)) at ⌝ }
 {
     let behind = at + time_bytes(form);
-    let time = read32(body, at);
+    let time = read_time(form, body, at);
     let number = Wire(read16(body, behind));
     Record {
         time,

@@ -2,8 +2,11 @@
 use crate::Record;
 use crate::checksum::ones_sum;
 use crate::contents::all_marks;
+use crate::contents::all_records;
+use crate::contents::all_times;
 use crate::contents::is_count;
 use crate::fields::time_bytes;
+use crate::fields::write_time;
 use crate::label::is_label;
 use answers::Refusal;
 use answers::Written;
@@ -28,8 +31,8 @@ ghost use Rattle.answers.specs.Writers.{Wrote};
 ghost use Rattle.format.specs.Blocks.{blockBytes, bodyAt, bodyBytes, checkAt};
 ghost use Rattle.format.specs.Forms.{shapeOf, width};
 ghost use Rattle.trace.specs.Checksum.{words, onesSum};
-ghost use Rattle.trace.specs.Layout.{recordBytes, recordsBytes, header, labelBlock, arrivalsBlock};
-ghost use Rattle.trace.specs.Writing.{labelFault, recordsOf, arrivalsOk, arrivalsFault};
+ghost use Rattle.trace.specs.Layout.{recordBytes, recordsBytes, header, labelBlock, arrivalsBlock, recordsBlock};
+ghost use Rattle.trace.specs.Writing.{labelFault, recordsOf, arrivalsOk, arrivalsFault, bodyOk, bodyFault};
 
 // Stores the header at the front of out.
 fn put_header(kind: u16, count: usize, ssrc: u32, out: &mut [u8])
@@ -47,14 +50,14 @@ fn put_record(form: Form, r: Record, out: &mut [u8], at: usize)
     ensures { λ _. ⌜ now (out .exit) ≡ sets (now (out .entry)) at (recordBytes (shapeOf form) r) ⌝ }
 {
     let behind = at + time_bytes(form);
-    write32(r.time, out, at);
+    write_time(form, r.time, out, at);
     write16(r.number.0, out, behind);
     out[behind + 2] = r.mark;
     out[behind + 3] = 0;
 }
 
 // Stores the records in the body of out.
-fn put_records(form: Form, times: &[u32], numbers: &[u16], marks: &[u8], out: &mut [u8])
+fn put_records(form: Form, times: &[u64], numbers: &[u16], marks: &[u8], out: &mut [u8])
     requires { ⌜ (length (now numbers) ≡ length (now times)) × (length (now marks) ≡ length (now times)) ⌝ }
     requires { ⌜ (length (now times) ≤ shapeOf form .most) × (blockBytes ≤ length (now out)) ⌝ }
     ensures { λ _. ⌜ now (out .exit) ≡ sets (now (out .entry)) bodyAt (recordsBytes (shapeOf form) (recordsOf (now (times .entry)) (now (numbers .entry)) (now (marks .entry)))) ⌝ }
@@ -121,7 +124,7 @@ pub fn write_label(form: Form, label: &[u8], ssrc: u32, out: &mut [u8]) -> Writt
 }
 
 // Whether three lists can be a block's records.
-fn are_records(form: Form, times: &[u32], numbers: &[u16], marks: &[u8]) -> bool
+fn are_records(form: Form, times: &[u64], numbers: &[u16], marks: &[u8]) -> bool
     ensures { λ r. ⌜ r ≡ arrivalsOk (shapeOf form) (now (times .entry)) (now (numbers .entry)) (now (marks .entry)) ⌝ }
 {
     let n = times.len();
@@ -134,14 +137,17 @@ fn are_records(form: Form, times: &[u32], numbers: &[u16], marks: &[u8]) -> bool
     if !is_count(form, n) {
         return false;
     }
+    if !all_times(form, times) {
+        return false;
+    }
     all_marks(marks)
 }
 
 // Writes an arrivals block at the front of out. Refused are records outside the trace rules (10): lists of unequal length, none or more
-// than the form's most, a mark above 3; and an output under 512 bytes (12).
+// than the form's most, a time that the form has no bytes for, a mark above 3; and an output under 512 bytes (12).
 pub fn write_arrivals(
     form: Form,
-    times: &[u32],
+    times: &[u64],
     numbers: &[u16],
     marks: &[u8],
     ssrc: u32,
@@ -158,5 +164,38 @@ pub fn write_arrivals(
     put_header(form.arrivals(), times.len(), ssrc, out);
     put_records(form, times, numbers, marks, out);
     put_end(out, BODY + times.len() * form.width());
+    Written::Length(BLOCK)
+}
+
+// Whether bytes can be a block's records.
+pub fn is_body(form: Form, records: &[u8]) -> bool
+    ensures { λ r. ⌜ r ≡ bodyOk (shapeOf form) (now (records .entry)) ⌝ }
+{
+    let width = form.width();
+    let rest = records.len() % width;
+    if 0 < rest {
+        return false;
+    }
+    let count = records.len() / width;
+    if !is_count(form, count) {
+        return false;
+    }
+    all_records(form, count, records)
+}
+
+// Writes the arrivals block of the records whose bytes are given, at the front of out. Refused are bytes outside the trace rules (10): a
+// record that is not whole, none or more than the form's most, a mark above 3 or no zero behind it; and an output under 512 bytes (12).
+pub fn write_records(form: Form, records: &[u8], ssrc: u32, out: &mut [u8]) -> Written
+    ensures { λ r. ⌜ Wrote (bodyFault (shapeOf form) (now (records .entry))) (recordsBlock (shapeOf form) (now (records .entry)) ssrc) (now (out .entry)) r (now (out .exit)) ⌝ }
+{
+    if !is_body(form, records) {
+        return Written::Refused(Refusal::Limits);
+    }
+    if out.len() < BLOCK {
+        return Written::Room(BLOCK);
+    }
+    put_header(form.arrivals(), records.len() / form.width(), ssrc, out);
+    put_bytes(records, out, BODY);
+    put_end(out, BODY + records.len());
     Written::Length(BLOCK)
 }

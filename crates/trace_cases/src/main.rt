@@ -1,10 +1,12 @@
 // Blocks written and read in a space of 513 bytes, from standard input. Each line is written back; a call's answer follows it. A line is a
-// letter with numbers, each behind one space. `n` is how many bytes at the front of the space a call is lent:
+// letter with numbers, each behind one space. `n` is how many bytes at the front of the space a call is lent. A block is written in form 2
+// where its letter is a capital:
 //   z byte                                       every byte of the space set
 //   c place byte check                           one byte changed, and the check word
-//   l n ssrc label                               a label block written; the label is in apostrophes or hexadecimal
-//   a n ssrc times numbers marks record ..       an arrivals block written, of so many times, wire numbers and marks; a record is three
+//   l, L n ssrc label                            a label block written; the label is in apostrophes or hexadecimal
+//   a, A n ssrc times numbers marks record ..    an arrivals block written, of so many times, wire numbers and marks; a record is three
 //                                                numbers
+//   w, W n ssrc bytes                            an arrivals block written from the bytes of its records
 //   b n                                          a block read: its check word, and what it is
 //   r n place                                    the record at a place of a block
 //   d n                                          the bytes themselves
@@ -21,26 +23,29 @@ use trace::read::read_block;
 use trace::read::record_at;
 use trace::write::write_arrivals;
 use trace::write::write_label;
+use trace::write::write_records;
 ghost use Prim.Native.Nat.{_≤_};
 ghost use lib.ListN.{length};
+
+// Form 2 of a trace; form 1 is not told.
+fn show_form(form: Form) {
+    match form {
+        Form::One => {}
+        Form::Two => show::text(b" form 2"),
+    }
+}
 
 // What a block is.
 fn show_block(block: Block) {
     match block {
-        Block::Label {
-            form: _,
-            length,
-            ssrc,
-        } => {
+        Block::Label { form, length, ssrc } => {
+            show_form(form);
             show::text(b" label");
             show::number(length as u64);
             show::number(ssrc as u64);
         }
-        Block::Arrivals {
-            form: _,
-            count,
-            ssrc,
-        } => {
+        Block::Arrivals { form, count, ssrc } => {
+            show_form(form);
             show::text(b" arrivals");
             show::number(count as u64);
             show::number(ssrc as u64);
@@ -54,7 +59,7 @@ fn show_found(found: Found) {
     match found {
         Found::Is(r) => {
             show::text(b" is");
-            show::number(r.time as u64);
+            show::number(r.time);
             let number = r.number;
             show::number(number.0 as u64);
             show::number(r.mark as u64);
@@ -64,30 +69,30 @@ fn show_found(found: Found) {
 }
 
 // A label block, behind it whether the label is allowed.
-fn show_label(label: &[u8], ssrc: u32, out: &mut [u8]) {
+fn show_label(form: Form, label: &[u8], ssrc: u32, out: &mut [u8]) {
     show::text(b" :");
-    show::written(write_label(Form::One, label, ssrc, out));
+    show::written(write_label(form, label, ssrc, out));
     if is_label(label) {
         show::text(b" allowed");
     }
 }
 
 // The label block of a line.
-fn label(line: &[u8], out: &mut [u8]) {
+fn label(form: Form, line: &[u8], out: &mut [u8]) {
     let mut space = [0u8; 512];
     let ssrc = cases::number32(line, 2);
     let text = cases::bytes(line, 3, &mut space);
-    show_label(text, ssrc, out);
+    show_label(form, text, ssrc, out);
 }
 
 // The records of a line, as three lists.
-fn records(line: &[u8], times: &mut [u32], numbers: &mut [u16], marks: &mut [u8])
+fn records(line: &[u8], times: &mut [u64], numbers: &mut [u16], marks: &mut [u8])
     requires { ⌜ (64 ≤ length (now times)) × (64 ≤ length (now numbers)) × (64 ≤ length (now marks)) ⌝ }
 {
     let mut i = 0;
     let mut word = 6;
     while i < 64 {
-        times[i] = cases::number32(line, word);
+        times[i] = cases::number(line, word);
         numbers[i] = cases::number16(line, word + 1);
         marks[i] = cases::number8(line, word + 2);
         i += 1;
@@ -96,8 +101,8 @@ fn records(line: &[u8], times: &mut [u32], numbers: &mut [u16], marks: &mut [u8]
 }
 
 // The arrivals block of a line.
-fn arrivals(line: &[u8], out: &mut [u8]) {
-    let mut times = [0u32; 64];
+fn arrivals(form: Form, line: &[u8], out: &mut [u8]) {
+    let mut times = [0u64; 64];
     let mut numbers = [0u16; 64];
     let mut marks = [0u8; 64];
     records(line, &mut times, &mut numbers, &mut marks);
@@ -108,13 +113,22 @@ fn arrivals(line: &[u8], out: &mut [u8]) {
     let from = 0;
     show::text(b" :");
     show::written(write_arrivals(
-        Form::One,
+        form,
         &times[from..l],
         &numbers[from..m],
         &marks[from..n],
         ssrc,
         out,
     ));
+}
+
+// The arrivals block of a line's bytes.
+fn from_bytes(form: Form, line: &[u8], out: &mut [u8]) {
+    let mut space = [0u8; 512];
+    let ssrc = cases::number32(line, 2);
+    let records = cases::bytes(line, 3, &mut space);
+    show::text(b" :");
+    show::written(write_records(form, records, ssrc, out));
 }
 
 // One byte and the check word changed.
@@ -154,9 +168,13 @@ fn ask(line: &[u8], block: &[u8]) {
 fn done(line: &[u8], space: &mut [u8]) {
     let n = cases::number(line, 1) as usize;
     match cases::letter(line) {
-        b'a' => arrivals(line, cases::room(space, n)),
+        b'A' => arrivals(Form::Two, line, cases::room(space, n)),
+        b'L' => label(Form::Two, line, cases::room(space, n)),
+        b'W' => from_bytes(Form::Two, line, cases::room(space, n)),
+        b'a' => arrivals(Form::One, line, cases::room(space, n)),
         b'c' => change(line, space),
-        b'l' => label(line, cases::room(space, n)),
+        b'l' => label(Form::One, line, cases::room(space, n)),
+        b'w' => from_bytes(Form::One, line, cases::room(space, n)),
         b'z' => fill(line, space),
         _ => ask(line, cases::front(space, n)),
     }

@@ -13,14 +13,26 @@ use Rattle.capi.proofs.blocks.flasknib_read_block.Tie as tie
 read-block-requires : tie.Need-read-block-requires
 read-block-requires c κs = search needs
 
-enum-known-length : tie.Need-enum-known-length
-enum-known-length c = search needs
+enum-known-form : tie.Need-enum-known-form
+enum-known-form c = search needs
+
+label-requires : tie.Need-label-requires
+label-requires c κs = search needs
+
+cast-put-found : tie.Need-cast-put-found
+cast-put-found c = search needs
 
 put-found-requires : tie.Need-put-found-requires
 put-found-requires c κs = search needs
 
-enum-known-count : tie.Need-enum-known-count
-enum-known-count c = search needs
+enum-known-form-2 : tie.Need-enum-known-form-2
+enum-known-form-2 c = search needs
+
+arrivals-requires : tie.Need-arrivals-requires
+arrivals-requires c κs = search needs
+
+cast-put-found-2 : tie.Need-cast-put-found-2
+cast-put-found-2 c = search needs
 
 put-found-requires-2 : tie.Need-put-found-requires-2
 put-found-requires-2 c κs = search needs
@@ -36,16 +48,16 @@ same-length c = search needs
 
 returns : tie.Need-returns
 returns c =
-    let told = sym (c .before .before .before .before .before .before .before .read-block .ensures) ∙ c .before .before .before .before .before .length .given .1 in
-    rw told (c .before .before .put-found .ensures)
+    let told = sym (c .before .before .before .before .before .before .before .before .read-block .ensures) ∙ c .before .before .before .before .before .before .form .given .1 in
+    rw (told, ← c .before .before .before .before .label .ensures) (c .before .before .put-found .ensures)
 
 same-length-2 : tie.Need-same-length-2
 same-length-2 c = search needs
 
 returns-2 : tie.Need-returns-2
 returns-2 c =
-    let told = sym (c .before .before .before .before .before .before .before .read-block .ensures) ∙ c .before .before .before .before .before .count .given .1 in
-    rw told (c .before .before .put-found2 .ensures)
+    let told = sym (c .before .before .before .before .before .before .before .before .read-block .ensures) ∙ c .before .before .before .before .before .before .form2 .given .1 in
+    rw (told, ← c .before .before .before .before .arrivals .ensures) (c .before .before .put-found2 .ensures)
 
 returns-3 : tie.Need-returns-3
 returns-3 c =
@@ -58,9 +70,13 @@ flasknib-read-block-spec =
     tie.close
     (tie.spec
     read-block-requires
-    enum-known-length
+    enum-known-form
+    label-requires
+    cast-put-found
     put-found-requires
-    enum-known-count
+    enum-known-form-2
+    arrivals-requires
+    cast-put-found-2
     put-found-requires-2
     enum-known-refusal
     number-requires

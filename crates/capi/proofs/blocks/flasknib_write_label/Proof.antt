@@ -1,25 +1,61 @@
 -- `capi::blocks::flasknib_write_label` meets its contract. Assumes nothing.
 use borrow.Author.Needs.{needs}
+use mathlib.Core.Path.{ap}
+use mathlib.Core.Bool.{Bool, cond}
+use mathlib.Core.Option.{some}
 use native.Mathlib.Nat.{le-of-eq}
 use native.Mathlib.Omega.{arith}
-use Rattle.answers.proofs.Stores.{wrote-size}
+use denote.Ref.{now}
+use Rattle.answers.specs.declared.Refusal.the-variants.{Limits}
+use Rattle.answers.proofs.Conditions.{was-true, was-false}
+use Rattle.answers.proofs.Stores.{wrote-size, wrote-refused}
+use Rattle.format.specs.Forms.{shapeOf}
+use Rattle.trace.specs.Layout.{labelBlock}
+use Rattle.trace.specs.Writing.{labelFault}
+use Rattle.capi.specs.Blocks.{formOf}
 use Rattle.capi.proofs.Lengths.{label-length}
 use Rattle.capi.proofs.Answers.{coded}
 use Rattle.capi.proofs.blocks.flasknib_write_label.Statement.{statement}
 use Rattle.capi.proofs.blocks.flasknib_write_label.Tie as tie
 
+is-form-requires : tie.Need-is-form-requires
+is-form-requires c κs = search needs
+
+length-requires : tie.Need-length-requires
+length-requires c κs = search needs
+
+returns : tie.Need-returns
+returns c =
+    let a = c .before .before .before .before .before .args in
+    let unknown = was-false (c .before .before .is-form .ensures) (c .before .if1 .taken) in
+    coded (search needs) (c .length .ensures) (wrote-refused (labelBlock (shapeOf (formOf (a .form))) (now (a .label)) (a .ssrc)) (now (a .out)) (ap (λ (known : Bool). cond known (labelFault (now (a .label))) (some Limits)) unknown))
+
+form-of-requires : tie.Need-form-of-requires
+form-of-requires c κs = search needs
+
 write-label-requires : tie.Need-write-label-requires
 write-label-requires c κs = search needs
 
-length-requires : tie.Need-length-requires
-length-requires c κs = omega (arith, wrote-size 512 (λ e. le-of-eq (label-length _ _ _ e)) (c .before .before .write-label .ensures))
+length-requires-2 : tie.Need-length-requires-2
+length-requires-2 c κs = omega (arith, wrote-size 512 (λ e. le-of-eq (label-length _ _ _ e)) (c .before .before .write-label .ensures))
 
 same-length : tie.Need-same-length
 same-length c = search needs
 
-returns : tie.Need-returns
-returns c = coded (search needs) (c .length .ensures) (c .before .before .before .write-label .ensures)
+returns-2 : tie.Need-returns-2
+returns-2 c =
+    let known = was-true (c .before .before .before .before .before .before .before .is-form .ensures) (c .before .before .before .before .before .before .if1 .left) in
+    rw (known, ← c .before .before .before .before .before .form-of .ensures) (coded (search needs) (c .length2 .ensures) (c .before .before .before .write-label .ensures))
 
 pub flasknib-write-label-spec : {M : Type 1} → statement M
 flasknib-write-label-spec =
-    tie.close (tie.spec write-label-requires length-requires same-length returns)
+    tie.close
+    (tie.spec
+    is-form-requires
+    length-requires
+    returns
+    form-of-requires
+    write-label-requires
+    length-requires-2
+    same-length
+    returns-2)

@@ -3,9 +3,8 @@ use borrow.Author.Needs.{needs}
 use mathlib.Core.Path.{sym, ap, _∙_}
 use denote.Ref.{now}
 use Rattle.answers.proofs.Conditions.{was-true, was-false}
-use Rattle.trace.specs.declared.Block.the-variants as read-as
 use Rattle.convert.specs.Runs.{refuses}
-use Rattle.convert.proofs.Steps.{call-malformed, call-other, call-source, call-goes, step-refuses}
+use Rattle.convert.proofs.Steps.{call-malformed, call-other, call-foreign, call-goes, of-trace, step-refuses}
 use Rattle.convert.proofs.Run.block.Statement.{statement}
 use Rattle.convert.proofs.Run.block.Tie as tie
 
@@ -33,18 +32,21 @@ returns-2 c =
     step-refuses (a .self) (now (a .zeroth)) (now (a .out))
     (call-other (a .self) (now (a .zeroth)) (now (a .block)) (was-true (c .before .before .before .before .is-sound .ensures) (c .before .before .before .if1 .left)) (read .result) (sym (read .ensures)) (c .before .match .keys2) ∙ ap refuses (sym (c .fault-of .ensures)))
 
+is-of-trace-requires : tie.Need-is-of-trace-requires
+is-of-trace-requires c κs = search needs
+
 returns-3 : tie.Need-returns-3
 returns-3 c =
     let a = c .before .before .before .before .before .before .before .before .before .before .before .args in
     let read = c .before .before .before .before .before .read-block in
     step-refuses (a .self) (now (a .zeroth)) (now (a .out))
-    (call-source (a .self) (now (a .zeroth)) (now (a .block)) (was-true (c .before .before .before .before .before .before .before .is-sound .ensures) (c .before .before .before .before .before .before .if1 .left)) (sym (read .ensures) ∙ c .before .before .before .read .given .1) (c .if2 .taken))
+    (call-foreign (a .self) (now (a .zeroth)) (now (a .block)) (was-true (c .before .before .before .before .before .before .before .is-sound .ensures) (c .before .before .before .before .before .before .if1 .left)) (sym (read .ensures) ∙ c .before .before .before .read .given .1) (was-false (c .before .is-of-trace .ensures) (c .if2 .taken)))
 
 arrivals-requires : tie.Need-arrivals-requires
 arrivals-requires c κs =
     let read = c .before .before .before .before .before .before .read-block in
     let is = c .before .before .before .before .read .given in
-    ((was-true (c .before .before .before .before .before .before .before .before .is-sound .ensures) (c .before .before .before .before .before .before .before .if1 .left)), sym (read .ensures) ∙ is .1 ∙ ap (read-as.Arrivals (is .0 .0) (is .0 .1 .0)) (c .before .if2 .left))
+    ((was-true (c .before .before .before .before .before .before .before .before .is-sound .ensures) (c .before .before .before .before .before .before .before .if1 .left)), sym (read .ensures) ∙ is .1 ∙ of-trace (c .before .before .before .before .before .before .before .before .before .before .before .before .args .self) (is .0 .0) (is .0 .1 .0) (is .0 .1 .1 .0) (was-true (c .before .before .is-of-trace .ensures) (c .before .if2 .left)))
 
 same-length : tie.Need-same-length
 same-length c = search needs
@@ -53,7 +55,7 @@ returns-4 : tie.Need-returns-4
 returns-4 c =
     let a = c .before .before .before .before .before .before .before .before .before .before .before .before .before .before .before .args in
     let read = c .before .before .before .before .before .before .before .before .before .read-block in
-    rw (call-goes (a .self) (now (a .zeroth)) (now (a .block)) (was-true (c .before .before .before .before .before .before .before .before .before .before .before .is-sound .ensures) (c .before .before .before .before .before .before .before .before .before .before .if1 .left)) (sym (read .ensures) ∙ c .before .before .before .before .before .before .before .read .given .1) (c .before .before .before .before .if2 .left))
+    rw (call-goes (a .self) (now (a .zeroth)) (now (a .block)) (was-true (c .before .before .before .before .before .before .before .before .before .before .before .is-sound .ensures) (c .before .before .before .before .before .before .before .before .before .before .if1 .left)) (sym (read .ensures) ∙ c .before .before .before .before .before .before .before .read .given .1) (was-true (c .before .before .before .before .before .is-of-trace .ensures) (c .before .before .before .before .if2 .left)))
     (c .before .before .arrivals .ensures)
 
 pub block-spec : {M : Type 1} → statement M
@@ -66,6 +68,7 @@ block-spec =
     enum-known-read
     fault-of-requires
     returns-2
+    is-of-trace-requires
     returns-3
     arrivals-requires
     same-length

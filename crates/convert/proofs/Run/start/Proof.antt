@@ -29,7 +29,7 @@ returns-2 : tie.Need-returns-2
 returns-2 c =
     let read = c .before .before .before .before .read-block in
     let is = c .before .before .read .given in
-    ap (λ (t : Totals). begin.Started (record { length = is .0 .1 .0; ssrc = is .0 .1 .1 .0; totals = t })) (c .fresh .ensures)
+    ap (λ (t : Totals). begin.Started (record { form = is .0 .0; length = is .0 .1 .0; ssrc = is .0 .1 .1 .0; totals = t })) (c .fresh .ensures)
     ∙ sym (start-label (now (c .before .before .before .before .before .before .args .zeroth)) (sym (read .ensures) ∙ is .1))
 
 pub start-spec : {M : Type 1} → statement M

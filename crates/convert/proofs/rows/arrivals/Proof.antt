@@ -15,7 +15,7 @@ row-requires c κs =
     let s = c .before .before .before .before .before in
     let octets : Octets (now (s .args .block)) = λ i. omega (arith, c .before .before .before .shared-slice-known2 .given i) in
     rw (c .before .counted .ensures)
-    (sound-good (arrived-good (s .args .run) (now (s .args .zeroth)) (s .args .form) (s .args .n) (now (s .args .block)) octets (good (s .pre .0))))
+    (sound-good (arrived-good (s .args .run) (now (s .args .zeroth)) (s .args .n) (now (s .args .block)) octets (good (s .pre .0))))
 
 same-length : tie.Need-same-length
 same-length c = search needs

@@ -59,7 +59,7 @@ returns c =
     let size : 8 + s .args .n * wide .result - 8 ≡ s .args .n * wide .result = omega arith in
     let count = c .before .count-block .ensures ∙ ap (λ (k : ℕ). blockCount (run .totals .source) (wide .result) (take k (drop 8 b))) size
     ∙ ap (λ (w : ℕ). blockCount (run .totals .source) w (take (s .args .n * w) (drop 8 b))) (wide .ensures) in
-    λ i. record { length = run .length; ssrc = run .ssrc; totals = (c .with-block .ensures ∙ ap (withBlock (run .totals)) count) i }
+    λ i. record { form = run .form; length = run .length; ssrc = run .ssrc; totals = (c .with-block .ensures ∙ ap (withBlock (run .totals)) count) i }
 
 pub counted-spec : {M : Type 1} → statement M
 counted-spec =

@@ -1,10 +1,19 @@
 -- `format::Form::width` meets its contract. Assumes nothing.
-use Rattle.format.proofs.Only.{only}
+use borrow.Author.Needs.{needs}
 use Rattle.format.proofs.Form.width.Statement.{statement}
 use Rattle.format.proofs.Form.width.Tie as tie
 
+enum-told : tie.Need-enum-told
+enum-told c = search needs
+
+enum-told-2 : tie.Need-enum-told-2
+enum-told-2 c = search needs
+
 returns : tie.Need-returns
-returns c = rw (only (c .args .self))
+returns c = rw (c .enum-told .given .1)
+
+returns-2 : tie.Need-returns-2
+returns-2 c = rw (c .enum-told2 .given .1)
 
 pub width-spec : {M : Type 1} → statement M
-width-spec = tie.close (tie.spec returns)
+width-spec = tie.close (tie.spec enum-told enum-told-2 returns returns-2)

@@ -7,10 +7,10 @@ use Rattle.shell.proofs.reading.read_some.Statement.{statement}
 use Rattle.shell.proofs.reading.read_some.Tie as tie
 
 abbrev Inv-loop : tie.InvT-loop
-Inv-loop program part₀ left₀ t6 part left = (length part ≡ length part₀)
+Inv-loop program part₀ left₀ part left = (length part ≡ length part₀)
 
 abbrev μ-loop : tie.MeasureT-loop
-μ-loop program part₀ left₀ t6 part left = left
+μ-loop program part₀ left₀ part left = left
 
 loop-holds : tie.Need-loop-holds Inv-loop μ-loop
 loop-holds c = search needs
@@ -45,11 +45,8 @@ loop-less c = search needs
 loop-again : tie.Need-loop-again Inv-loop μ-loop
 loop-again c = search needs
 
-slice-aggregate-tell : tie.Need-slice-aggregate-tell Inv-loop μ-loop
-slice-aggregate-tell c = search needs
-
-tell-requires : tie.Need-tell-requires Inv-loop μ-loop
-tell-requires c κs = search needs
+tell-at-once-requires : tie.Need-tell-at-once-requires Inv-loop μ-loop
+tell-at-once-requires c κs = search needs
 
 same-length-3 : tie.Need-same-length-3 Inv-loop μ-loop
 same-length-3 c = search needs
@@ -74,7 +71,6 @@ read-some-spec =
     tries-after-requires
     loop-less
     loop-again
-    slice-aggregate-tell
-    tell-requires
+    tell-at-once-requires
     same-length-3
     returns-3)

@@ -6,7 +6,7 @@ use native.Mathlib.Omega.{arith}
 use native.Mathlib.Nat.{zero-add}
 use lib.ListN.{length, drop}
 use denote.Ref.{now}
-use Rattle.trace.proofs.Tallies.{tally, tally-turn, tally-rule, label-fault, outside-small, outsideOf}
+use Rattle.trace.proofs.Tallies.{tally, tally-turn, tally-rule, rule-fault, rule-small, outsideOf}
 use Rattle.trace.specs.Contents.{labelByte}
 use Rattle.trace.proofs.contents.all_allowed.Statement.{statement}
 use Rattle.trace.proofs.contents.all_allowed.Tie as tie
@@ -21,7 +21,7 @@ loop-holds : tie.Need-loop-holds Inv-loop μ-loop
 loop-holds c = (omega arith, omega arith, zero-add _)
 
 small : (c : tie.After-outside Inv-loop μ-loop) → c .outside .result ≤ 1
-small c = rw (c .outside .ensures) (outside-small _)
+small c = rw (c .outside .ensures) (rule-small (labelByte _))
 
 shared-slice-read-outside : tie.Need-shared-slice-read-outside Inv-loop μ-loop
 shared-slice-read-outside c = search needs
@@ -49,7 +49,7 @@ loop-again c =
     )
 
 returns : tie.Need-returns Inv-loop μ-loop
-returns c = tally-rule outsideOf labelByte label-fault _ _ _ (c .before .loop .inv .2) (c .loop-test .left)
+returns c = tally-rule outsideOf labelByte (λ n. rule-fault (labelByte n)) _ _ _ (c .before .loop .inv .2) (c .loop-test .left)
 
 pub all-allowed-spec : {M : Type 1} → statement M
 all-allowed-spec =

@@ -1,115 +1,57 @@
 -- `trace::contents::all_records` meets its contract. Assumes nothing.
 use borrow.Author.Needs.{needs}
-use mathlib.Core.Path.{_≡_, refl, ap, _∙_}
-use Prim.Native.Nat.{ℕ, _+_, _-_, _*_, _≤_}
+use mathlib.Core.Path.{_≡_, sym, ap, _∙_}
 use native.Mathlib.Omega.{arith}
-use lib.ListN.{length, drop}
-use denote.Ref.{now}
-use mathlib.Core.Bool.{_&&_}
-use lib.Dec.{eqb}
-use Rattle.format.specs.Forms.{Shape, shapeOf, width}
+use Rattle.format.specs.Forms.{shapeOf, width}
+use Rattle.format.specs.declared.Form.{Form}
 use Rattle.format.proofs.Fits.{fits}
-use Rattle.trace.proofs.Tallies.{mul-turn, records-turn, records-done}
-use Rattle.trace.specs.Contents.{goodRecords}
 use Rattle.trace.proofs.contents.all_records.Statement.{statement}
 use Rattle.trace.proofs.contents.all_records.Tie as tie
 
-abbrev Inv-loop : tie.InvT-loop
-Inv-loop n body w mark sum₀ left₀ at₀ sum left at =
-    (at + left * w ≤ length body) × (left ≤ n) × (sum + 16384 * left ≤ 16384 * n)
-    × ((shape : Shape) → w ≡ width shape → (eqb sum 0 && goodRecords shape left (drop at body)) ≡ goodRecords shape n body)
+-- the step of each call
+wide : (c : tie.After-width) → c .width .result ≡ width (shapeOf (c .before .before .before .before .args .form))
+wide c = c .width .ensures ∙ ap (λ (f : Form). width (shapeOf f)) (sym (c .before .enum-told .given .1))
 
-abbrev μ-loop : tie.MeasureT-loop
-μ-loop n body w mark sum₀ left₀ at₀ sum left at = left
+wide-2 : (c : tie.After-width2) → c .width2 .result ≡ width (shapeOf (c .before .before .before .before .args .form))
+wide-2 c = c .width2 .ensures ∙ ap (λ (f : Form). width (shapeOf f)) (sym (c .before .enum-told2 .given .1))
 
-room : (c : tie.In-loop Inv-loop μ-loop) → c .before .loop .at + c .before .before .before .width .result ≤ length (now (c .before .before .before .before .before .args .body))
-room c = omega (arith, mul-turn (c .before .loop .left) (c .before .before .before .width .result) (c .loop-test .taken))
+enum-told : tie.Need-enum-told
+enum-told c = search needs
 
-width-requires : tie.Need-width-requires Inv-loop μ-loop
+width-requires : tie.Need-width-requires
 width-requires c κs = search needs
 
-time-bytes-requires : tie.Need-time-bytes-requires Inv-loop μ-loop
-time-bytes-requires c κs = search needs
+good-ends-requires : tie.Need-good-ends-requires
+good-ends-requires c κs =
+    let s = c .before .before .before .before in
+    (omega (arith, wide c), omega (arith, s .pre .0, fits (s .args .form) .few), rw (wide c) (s .pre .1))
 
-add-mark : tie.Need-add-mark Inv-loop μ-loop
-add-mark c = search needs
+enum-told-2 : tie.Need-enum-told-2
+enum-told-2 c = search needs
 
-loop-holds : tie.Need-loop-holds Inv-loop μ-loop
-loop-holds c = let same = ap (λ (k : ℕ). c .before .before .before .args .n * k) (c .before .width .ensures) in (omega (arith, same), search needs, search needs, λ shape e. refl)
+width-requires-2 : tie.Need-width-requires-2
+width-requires-2 c κs = search needs
 
-add-join16 : tie.Need-add-join16 Inv-loop μ-loop
-add-join16 c = omega (arith, room c)
+good-ends-requires-2 : tie.Need-good-ends-requires-2
+good-ends-requires-2 c κs =
+    let s = c .before .before .before .before in
+    (omega (arith, wide-2 c), omega (arith, s .pre .0, fits (s .args .form) .few), rw (wide-2 c) (s .pre .1))
 
-add-join16-2 : tie.Need-add-join16-2 Inv-loop μ-loop
-add-join16-2 c = omega (arith, room c)
+returns : tie.Need-returns
+returns c = c .good-ends .ensures (shapeOf (c .before .before .before .before .before .args .form)) (wide (c .before))
 
-shared-slice-read-join16 : tie.Need-shared-slice-read-join16 Inv-loop μ-loop
-shared-slice-read-join16 c = omega (arith, room (c .before))
-
-add-join16-3 : tie.Need-add-join16-3 Inv-loop μ-loop
-add-join16-3 c = omega (arith, room (c .before))
-
-shared-slice-read-join16-2 : tie.Need-shared-slice-read-join16-2 Inv-loop μ-loop
-shared-slice-read-join16-2 c = omega (arith, room (c .before .before))
-
-join16-requires : tie.Need-join16-requires Inv-loop μ-loop
-join16-requires c κs = search needs
-
-cast-sum : tie.Need-cast-sum Inv-loop μ-loop
-cast-sum c = search needs
-
-add-sum : tie.Need-add-sum Inv-loop μ-loop
-add-sum c = omega (arith, c .join16 .ok, fits (c .before .before .before .before .before .before .before .before .args .form) .few)
-
-sub-left : tie.Need-sub-left Inv-loop μ-loop
-sub-left c = search needs
-
-add-at : tie.Need-add-at Inv-loop μ-loop
-add-at c = omega (arith, room (c .before .before .before))
-
-loop-less : tie.Need-loop-less Inv-loop μ-loop
-loop-less c = search needs
-
-loop-again : tie.Need-loop-again Inv-loop μ-loop
-loop-again c =
-    let loop = c .before .before .before .before .loop in
-    let w = c .before .before .before .before .before .before .width .result in
-    let mark-at = loop .at + (c .before .before .before .before .before .time-bytes .result + 2) in
-    let turn = c .before .before .before .loop-test .taken in
-    let mark = c .before .shared-slice-known3 .given mark-at in (
-      omega (arith, mul-turn (loop .left) w turn),
-      omega arith,
-      omega (arith, c .join16 .ok),
-      λ shape e. records-turn shape (loop .left) (loop .at) (loop .sum) (c .join16 .result) (now (c .before .before .before .before .before .before .before .before .args .body)) {next = loop .at + w} {zero-at = mark-at + 1} {mark-at = mark-at} turn (omega arith) (omega arith) (omega arith) (omega (arith, mark)) (c .join16 .ensures)
-          ∙ loop .inv .3 shape e,
-    )
-
-returns : tie.Need-returns Inv-loop μ-loop
-returns c =
-    let loop = c .before .loop in
-    let a = c .before .before .before .before .before .args in
-    records-done (shapeOf (a .form)) (loop .left) (loop .sum) (a .n) (drop (loop .at) (now (a .body))) (now (a .body)) (c .loop-test .left) (loop .inv .3 (shapeOf (a .form)) (c .before .before .before .width .ensures))
+returns-2 : tie.Need-returns-2
+returns-2 c = c .good-ends2 .ensures (shapeOf (c .before .before .before .before .before .args .form)) (wide-2 (c .before))
 
 pub all-records-spec : {M : Type 1} → statement M
 all-records-spec =
     tie.close
     (tie.spec
-    Inv-loop
-    μ-loop
+    enum-told
     width-requires
-    time-bytes-requires
-    add-mark
-    loop-holds
-    add-join16
-    add-join16-2
-    shared-slice-read-join16
-    add-join16-3
-    shared-slice-read-join16-2
-    join16-requires
-    cast-sum
-    add-sum
-    sub-left
-    add-at
-    loop-less
-    loop-again
-    returns)
+    good-ends-requires
+    enum-told-2
+    width-requires-2
+    good-ends-requires-2
+    returns
+    returns-2)

@@ -4,11 +4,10 @@ use native.Mathlib.Omega.{arith}
 use Prim.Native.Nat.{ℕ, _+_}
 use lib.ListN.{getD}
 use denote.Ref.{now}
-use mathlib.Core.Path.{_≡_, sym, ap, _∙_}
+use mathlib.Core.Path.{_≡_, ap, _∙_}
 use Rattle.format.specs.Forms.{shapeOf}
 use Rattle.numbers.specs.BigEndian.{word}
 use Rattle.trace.specs.Layout.{recordAt}
-use Rattle.trace.proofs.Layouts.{time-four}
 use Rattle.trace.proofs.read.record_in.Statement.{statement}
 use Rattle.trace.proofs.read.record_in.Tie as tie
 
@@ -18,8 +17,8 @@ time-bytes-requires c κs = search needs
 add-behind : tie.Need-add-behind
 add-behind c = search needs
 
-read32-requires : tie.Need-read32-requires
-read32-requires c κs = search needs
+read-time-requires : tie.Need-read-time-requires
+read-time-requires c κs = search needs
 
 read16-requires : tie.Need-read16-requires
 read16-requires c κs = search needs
@@ -37,7 +36,7 @@ returns c =
     let time = c .before .before .before .time-bytes in
     let mark : a .at + time .result + 2 ≡ a .at + (shapeOf (a .form) .time + 2) = omega (arith, time .ensures) in
     λ i. record {
-      time = (c .before .before .read32 .ensures ∙ ap (λ (k : ℕ). word k (now (a .body)) (a .at)) (sym (time-four (a .form)))) i;
+      time = c .before .before .read-time .ensures i;
       number = record { 0 = (c .before .read16 .ensures ∙ ap (λ (k : ℕ). word 2 (now (a .body)) (a .at + k)) (time .ensures)) i };
       mark = ap (λ (k : ℕ). getD (now (a .body)) k 0) mark i;
     }
@@ -48,7 +47,7 @@ record-in-spec =
     (tie.spec
     time-bytes-requires
     add-behind
-    read32-requires
+    read-time-requires
     read16-requires
     add-t7
     shared-slice-read-t10

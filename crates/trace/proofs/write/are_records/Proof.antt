@@ -29,12 +29,27 @@ is-count-requires c κs = search needs
 returns-3 : tie.Need-returns-3
 returns-3 c = let a = c .before .before .before .before .before .before .before .args in lists-false (shapeOf (a .form)) (now (a .times)) (now (a .numbers)) (now (a .marks)) 2 (was-false (c .before .is-count .ensures) (c .if3 .taken))
 
-all-marks-requires : tie.Need-all-marks-requires
-all-marks-requires c κs = omega (arith, count-right _ _ (count c) .1, fits (c .before .before .before .before .before .before .before .args .form) .few)
+all-times-requires : tie.Need-all-times-requires
+all-times-requires c κs = omega (arith, count-right _ _ (count c) .1, fits (c .before .before .before .before .before .before .before .args .form) .few)
 
 returns-4 : tie.Need-returns-4
-returns-4 c = let a = c .before .before .before .before .before .before .before .before .args in lists-rest (shapeOf (a .form)) (now (a .times)) (now (a .numbers)) (now (a .marks)) (c .before .before .before .before .if1 .left) (c .before .before .before .if2 .left) (count (c .before)) (c .all-marks .ensures)
+returns-4 c = let a = c .before .before .before .before .before .before .before .before .before .args in lists-false (shapeOf (a .form)) (now (a .times)) (now (a .numbers)) (now (a .marks)) 3 (was-false (c .before .all-times .ensures) (c .if4 .taken))
+
+all-marks-requires : tie.Need-all-marks-requires
+all-marks-requires c κs = omega (arith, count-right _ _ (count (c .before .before)) .1, fits (c .before .before .before .before .before .before .before .before .before .args .form) .few)
+
+returns-5 : tie.Need-returns-5
+returns-5 c = let a = c .before .before .before .before .before .before .before .before .before .before .args in lists-rest (shapeOf (a .form)) (now (a .times)) (now (a .numbers)) (now (a .marks)) (c .before .before .before .before .before .before .if1 .left) (c .before .before .before .before .before .if2 .left) (count (c .before .before .before)) (was-true (c .before .before .all-times .ensures) (c .before .if4 .left)) (c .all-marks .ensures)
 
 pub are-records-spec : {M : Type 1} → statement M
 are-records-spec =
-    tie.close (tie.spec returns returns-2 is-count-requires returns-3 all-marks-requires returns-4)
+    tie.close
+    (tie.spec
+    returns
+    returns-2
+    is-count-requires
+    returns-3
+    all-times-requires
+    returns-4
+    all-marks-requires
+    returns-5)

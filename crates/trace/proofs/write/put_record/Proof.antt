@@ -1,19 +1,17 @@
 -- `trace::write::put_record` meets its contract. Assumes nothing.
 use borrow.Author.Needs.{needs}
-use mathlib.Core.Path.{_≡_, sym, ap, _∙_}
+use mathlib.Core.Path.{_≡_, ap, _∙_}
 use Prim.Native.Nat.{ℕ, _+_, _-_}
 use native.Mathlib.Omega.{arith}
 use lib.ListN.{length, length-set}
 use denote.Ref.{now}
-use lib.Seq.{sets}
 use Rattle.format.specs.Forms.{shapeOf}
-use Rattle.numbers.specs.BigEndian.{bytes}
-use Rattle.trace.proofs.Layouts.{time-four, record-stored}
+use Rattle.trace.proofs.Layouts.{record-stored}
 use Rattle.trace.proofs.write.put_record.Statement.{statement}
 use Rattle.trace.proofs.write.put_record.Tie as tie
 
 long : (c : tie.After-slice-known3) → length (c .before .before .write16 .last .1 .0) ≡ length (now (c .before .before .before .before .before .before .before .before .before .before .args .out))
-long c = c .before .before .write16 .kept .1 .0 ∙ c .before .before .before .before .before .before .write32 .kept .1 .0
+long c = c .before .before .write16 .kept .1 .0 ∙ c .before .before .before .before .before .before .write-time .kept .1 .1 .0
 
 time-bytes-requires : tie.Need-time-bytes-requires
 time-bytes-requires c κs = search needs
@@ -21,8 +19,8 @@ time-bytes-requires c κs = search needs
 add-behind : tie.Need-add-behind
 add-behind c = search needs
 
-write32-requires : tie.Need-write32-requires
-write32-requires c κs = search needs
+write-time-requires : tie.Need-write-time-requires
+write-time-requires c κs = search needs
 
 write16-requires : tie.Need-write16-requires
 write16-requires c κs = search needs
@@ -45,7 +43,7 @@ same-length c = simp length-set (long c)
 returns : tie.Need-returns
 returns c =
     let a = c .before .before .before .before .before .before .before .before .before .before .args in
-    let time = c .before .before .before .before .before .before .write32 .ensures ∙ ap (λ (k : ℕ). sets (now (a .out)) (a .at) (bytes k (a .r .time))) (sym (time-four (a .form))) in
+    let time = c .before .before .before .before .before .before .write-time .ensures in
     record-stored (shapeOf (a .form)) (now (a .out)) (a .at) _ (a .r) (ap (λ (k : ℕ). a .at + k) (c .before .before .before .before .before .before .before .before .time-bytes .ensures)) time (c .before .before .write16 .ensures)
 
 pub put-record-spec : {M : Type 1} → statement M
@@ -54,7 +52,7 @@ put-record-spec =
     (tie.spec
     time-bytes-requires
     add-behind
-    write32-requires
+    write-time-requires
     write16-requires
     add-out
     slice-write-out

@@ -1,0 +1,257 @@
+// ecnforms reads a trace on standard input and prints it in the other form (request L10). The crate `forms` says what each block does, and
+// `shell` moves the bytes.
+use answers::ROOM;
+use answers::Refusal;
+use answers::Written;
+use format::block::BLOCK;
+use format::block::BODY_BYTES;
+use forms::Begin;
+use forms::Conversion;
+use forms::Step;
+use libc::STDERR_FILENO;
+use libc::STDOUT_FILENO;
+use shell::failures::has_arguments;
+use shell::failures::tell_reading;
+use shell::printing::Output;
+use shell::reading::Ahead;
+use shell::reading::Input;
+use shell::reading::Next;
+
+// The blocks that one block may fill.
+const FILLED: usize = 2 * BLOCK;
+
+// So many blocks are read at a time, and so many are kept for output: what those fill, 62 records in the place of 50, fits, so nothing is printed
+// between a read that fails and its line. (Large pieces spare the system most of its work on a file's pages.)
+const PIECE: usize = 400 * BLOCK;
+
+const KEPT: usize = 520 * BLOCK;
+
+// How a run ended: at the end of the trace, at a refused block, or at a failed read.
+enum Ended {
+    Whole,
+    Refused(u8),
+    Unread,
+}
+
+// How far the run has come: the number of the next block, what is read and not taken yet, the blocks that are kept, and whether to go on.
+struct Progress {
+    conversion: Conversion,
+    block: u64,
+    input: Input,
+    out: Output,
+    going: bool,
+    ended: Ended,
+}
+
+// The number of the block behind one. (The greatest number stays.)
+fn number_after(block: u64) -> u64 {
+    if block == 0xffff_ffff_ffff_ffff {
+        return block;
+    }
+    block + 1
+}
+
+// Prints the line of a refused block on standard error.
+fn tell_refused(number: u8, block: u64, name: &[u8]) {
+    let mut space = [0u8; 64];
+    let line: &mut [u8] = &mut space;
+    let told = Output::new(STDERR_FILENO).with_refused(number, block, name, line);
+    told.flushed(name, line);
+}
+
+// Tells how a run ended before a block.
+fn tell_end(ended: Ended, block: u64, name: &[u8]) {
+    match ended {
+        Ended::Whole => {}
+        Ended::Refused(number) => tell_refused(number, block, name),
+        Ended::Unread => {
+            tell_refused(Refusal::Incomplete.number(), block, name);
+            tell_reading(name);
+        }
+    }
+}
+
+// The end of the run.
+fn stopped(p: Progress, out: Output, ended: Ended) -> Progress {
+    let conversion = p.conversion;
+    let input = p.input;
+    Progress {
+        conversion,
+        block: p.block,
+        input,
+        out,
+        going: false,
+        ended,
+    }
+}
+
+// Takes one block: the blocks that it fills are kept, or the run ends with its refusal. So it does where printing has failed.
+fn take_block(
+    p: Progress,
+    rest: Input,
+    name: &[u8],
+    part: &mut [u8],
+    block: &[u8],
+    blocks: &mut [u8],
+) -> Progress {
+    let conversion = p.conversion;
+    let kept = p.out;
+    let out = kept.with_room(FILLED, name, blocks);
+    let used = out.used;
+    match conversion.block(part, block, &mut blocks[used..]) {
+        Step::Taken(next, n) => Progress {
+            conversion: next,
+            block: number_after(p.block),
+            input: rest,
+            out: out.with_kept(n, blocks),
+            going: !out.failed,
+            ended: Ended::Whole,
+        },
+        Step::Room(_, _) => stopped(p, out, Ended::Refused(ROOM)),
+        Step::Refused(refusal, _) => stopped(p, out, Ended::Refused(refusal.number())),
+    }
+}
+
+// What is kept, printed before more is read. Where a read has failed it is not: printing could fail too, and put its error in the place of the read's.
+fn printed(p: Progress, name: &[u8], blocks: &[u8]) -> Output {
+    let input = p.input;
+    let out = p.out;
+    let ahead = input.ahead;
+    if input.from < input.to {
+        return out;
+    }
+    let Ahead::More = ahead else {
+        return out;
+    };
+    out.flushed(name, blocks)
+}
+
+// Takes the next block. One that could not be read is not a whole block.
+fn take_next(
+    p: Progress,
+    name: &[u8],
+    part: &mut [u8],
+    pieces: &mut [u8],
+    blocks: &mut [u8],
+) -> Progress {
+    let input = p.input;
+    let mut next = p;
+    next.out = printed(p, name, blocks);
+    let out = next.out;
+    match input.next(b"", pieces) {
+        Next::Block { from, to, rest } => take_block(
+            next,
+            rest,
+            name,
+            part,
+            &pieces[from..to],
+            blocks,
+        ),
+        Next::End => stopped(next, out, Ended::Whole),
+        Next::Failed => stopped(next, out, Ended::Unread),
+    }
+}
+
+// Takes the blocks behind block 0 to the end of the run.
+fn take_rest(
+    start: Progress,
+    name: &[u8],
+    part: &mut [u8],
+    pieces: &mut [u8],
+    blocks: &mut [u8],
+) -> Progress {
+    let mut p = start;
+    let mut turns: u64 = 0xffff_ffff_ffff_ffff;
+    while 0 < turns {
+        if !p.going {
+            return p;
+        }
+        p = take_next(p, name, part, pieces, blocks);
+        turns -= 1;
+    }
+    p
+}
+
+// Ends a run: the records that are held go into a last block, the refusal is told, and what is kept is printed.
+fn close(p: Progress, name: &[u8], part: &[u8], blocks: &mut [u8]) {
+    let conversion = p.conversion;
+    let ended = p.ended;
+    let kept = p.out;
+    let out = kept.with_room(BLOCK, name, blocks);
+    let used = out.used;
+    let last = match conversion.close(part, &mut blocks[used..]) {
+        Written::Length(n) => out.with_kept(n, blocks),
+        _ => out,
+    };
+    tell_end(ended, p.block, name);
+    last.flushed(name, blocks);
+}
+
+// Takes the blocks behind block 0, which gave a conversion and a block of n bytes.
+fn convert_rest(
+    conversion: Conversion,
+    n: usize,
+    rest: Input,
+    name: &[u8],
+    part: &mut [u8],
+    pieces: &mut [u8],
+    blocks: &mut [u8],
+) {
+    let out = Output::new(STDOUT_FILENO).with_kept(n, blocks);
+    let start = Progress {
+        conversion,
+        block: 1,
+        input: rest,
+        out,
+        going: true,
+        ended: Ended::Whole,
+    };
+    let end = take_rest(start, name, part, pieces, blocks);
+    close(end, name, part, blocks);
+}
+
+// Takes block 0 and the blocks behind it.
+fn convert_all(
+    zeroth: &[u8],
+    rest: Input,
+    name: &[u8],
+    part: &mut [u8],
+    pieces: &mut [u8],
+    blocks: &mut [u8],
+) {
+    match Conversion::start(zeroth, blocks) {
+        Begin::Started(conversion, n) => {
+            convert_rest(conversion, n, rest, name, part, pieces, blocks)
+        }
+        Begin::Room(_) => tell_refused(ROOM, 0, name),
+        Begin::Refused(refusal) => tell_refused(refusal.number(), 0, name),
+    }
+}
+
+// Reads block 0 into a buffer of its own and converts the trace.
+fn convert(name: &[u8], zeroth: &mut [u8], part: &mut [u8], pieces: &mut [u8], blocks: &mut [u8]) {
+    match Input::begin(b"", zeroth) {
+        Next::Block { from, to, rest } => {
+            convert_all(&zeroth[from..to], rest, name, part, pieces, blocks)
+        }
+        Next::End => tell_refused(Refusal::Incomplete.number(), 0, name),
+        Next::Failed => tell_end(Ended::Unread, 0, name),
+    }
+}
+
+fn main() {
+    if has_arguments(b"usage: ecnforms <TRACE >TRACE\n") {
+        return;
+    }
+    let mut zeroth = [0u8; BLOCK];
+    let mut part = [0u8; BODY_BYTES];
+    let mut pieces = [0u8; PIECE];
+    let mut blocks = [0u8; KEPT];
+    convert(
+        b"ecnforms",
+        &mut zeroth,
+        &mut part,
+        &mut pieces,
+        &mut blocks,
+    );
+}

@@ -1,0 +1,6 @@
+pub mod Packing
+pub mod Conversions
+pub mod Steps
+pub mod Converted
+pub mod Theorems
+pub mod Witnesses

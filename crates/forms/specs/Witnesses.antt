@@ -1,0 +1,58 @@
+-- The hypotheses of the theorems can be met: for each of them, values that meet them all.
+use mathlib.Core.Path.{_≡_}
+use mathlib.Core.List.{List, [], _∷_, _++_}
+use Prim.Native.Nat.{ℕ, _*_, _≤_}
+use lib.ListN.{length, drop, replicate}
+use Rattle.format.specs.Blocks.{blockBytes, bodyBytes}
+use Rattle.format.specs.Forms.{shapeOf}
+use Rattle.format.specs.declared.Form.the-variants.{One}
+use Rattle.trace.specs.Layout.{labelBlock, arrivalsBlock}
+use Rattle.trace.specs.Reading.{blockOf}
+use Rattle.trace.specs.Theorems.{Below}
+use Rattle.trace.specs.declared.Block.the-variants.{Label}
+use Rattle.trace.specs.declared.Record.{Record}
+use Rattle.walk.specs.Blocks.{blocksOf}
+use Rattle.forms.specs.Conversions.{beginOf, goes, stepOf}
+use Rattle.forms.specs.Converted.{converted}
+use Rattle.forms.specs.Theorems.{FullButLast}
+use Rattle.forms.specs.declared.Conversion.{Conversion}
+use Rattle.forms.specs.declared.Begin.the-variants as begin
+use Rattle.forms.specs.declared.Step.the-variants as step
+
+-- a trace of form 1: its label, a full block and one that is not
+abbrev pub text : List ℕ
+text = 112 ∷ 49 ∷ []
+
+abbrev pub arrival : ℕ → Record
+arrival number = record { time = 4294967295; number = record { 0 = number }; mark = 3 }
+
+abbrev pub fully : List Record
+fully = replicate 62 (arrival 65535)
+
+abbrev pub trace : List ℕ
+trace = labelBlock (shapeOf One) text 1 ++ (arrivalsBlock (shapeOf One) fully 1 ++ arrivalsBlock (shapeOf One) (arrival 0 ∷ []) 1)
+
+-- a conversion of it that holds no record
+abbrev pub fresh : Conversion
+fresh = record { form = One; ssrc = 1; held = 0 }
+
+-- lent bytes
+abbrev pub zeros : ℕ → List ℕ
+zeros n = replicate n 0
+
+-- what they meet, by theorem
+pub record Met : Type 0 where
+  -- Packs, ConvertedReads, SameRecords, SameBytes
+  pub label : blockOf (blocksOf trace .zeroth) ≡ Label One 2 1
+  pub octets : Below 256 trace
+  pub taken : converted trace .err ≡ []
+  pub some : 1 ≤ length (blocksOf trace .others)
+  pub full : FullButLast (shapeOf One .most) (blocksOf trace .others)
+  -- CallsConvert
+  pub enough : ℕ → 2 * blockBytes ≤ length (zeros 1024)
+  pub end : blockBytes ≤ length (zeros 512)
+  pub part : bodyBytes ≤ length (zeros 502)
+  pub behind : Below 256 (drop blockBytes trace)
+  -- LabelRoomIsExact, BlocksRoomIsExact: an empty output
+  pub label-short : beginOf (blocksOf trace .zeroth) [] ≡ begin.Room 512
+  pub short : stepOf fresh [] (goes fully) [] ≡ step.Room 512 fresh

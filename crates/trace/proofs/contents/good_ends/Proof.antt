@@ -1,0 +1,106 @@
+-- `trace::contents::good_ends` meets its contract. Assumes nothing.
+use borrow.Author.Needs.{needs}
+use mathlib.Core.Path.{_≡_, refl, _∙_}
+use Prim.Native.Nat.{_+_, _-_, _*_, _≤_}
+use native.Mathlib.Omega.{arith}
+use lib.ListN.{length, drop}
+use denote.Ref.{now}
+use mathlib.Core.Bool.{_&&_}
+use lib.Dec.{eqb}
+use Rattle.format.specs.Forms.{Shape, width}
+use Rattle.trace.proofs.Tallies.{mul-turn, records-turn, records-done}
+use Rattle.trace.specs.Contents.{goodRecords}
+use Rattle.trace.proofs.contents.good_ends.Statement.{statement}
+use Rattle.trace.proofs.contents.good_ends.Tie as tie
+
+abbrev Inv-loop : tie.InvT-loop
+Inv-loop step n body mark sum₀ left₀ at₀ sum left at =
+    (at + left * step ≤ length body) × (left ≤ n) × (sum + 16384 * left ≤ 16384 * n)
+    × ((shape : Shape) → step ≡ width shape → (eqb sum 0 && goodRecords shape left (drop at body)) ≡ goodRecords shape n body)
+
+abbrev μ-loop : tie.MeasureT-loop
+μ-loop step n body mark sum₀ left₀ at₀ sum left at = left
+
+room : (c : tie.In-loop Inv-loop μ-loop) → c .before .loop .at + c .before .before .before .args .step ≤ length (now (c .before .before .before .args .body))
+room c = omega (arith, mul-turn (c .before .loop .left) (c .before .before .before .args .step) (c .loop-test .taken))
+
+sub-mark : tie.Need-sub-mark Inv-loop μ-loop
+sub-mark c = search needs
+
+loop-holds : tie.Need-loop-holds Inv-loop μ-loop
+loop-holds c = (omega arith, search needs, search needs, λ shape e. refl)
+
+add-join16 : tie.Need-add-join16 Inv-loop μ-loop
+add-join16 c = omega (arith, room c)
+
+add-join16-2 : tie.Need-add-join16-2 Inv-loop μ-loop
+add-join16-2 c = omega (arith, room c)
+
+shared-slice-read-join16 : tie.Need-shared-slice-read-join16 Inv-loop μ-loop
+shared-slice-read-join16 c = omega (arith, room (c .before))
+
+add-join16-3 : tie.Need-add-join16-3 Inv-loop μ-loop
+add-join16-3 c = omega (arith, room (c .before))
+
+shared-slice-read-join16-2 : tie.Need-shared-slice-read-join16-2 Inv-loop μ-loop
+shared-slice-read-join16-2 c = omega (arith, room (c .before .before))
+
+join16-requires : tie.Need-join16-requires Inv-loop μ-loop
+join16-requires c κs = search needs
+
+cast-sum : tie.Need-cast-sum Inv-loop μ-loop
+cast-sum c = search needs
+
+add-sum : tie.Need-add-sum Inv-loop μ-loop
+add-sum c = omega (arith, c .join16 .ok)
+
+sub-left : tie.Need-sub-left Inv-loop μ-loop
+sub-left c = search needs
+
+add-at : tie.Need-add-at Inv-loop μ-loop
+add-at c = omega (arith, room (c .before .before .before))
+
+loop-less : tie.Need-loop-less Inv-loop μ-loop
+loop-less c = search needs
+
+loop-again : tie.Need-loop-again Inv-loop μ-loop
+loop-again c =
+    let loop = c .before .before .before .before .loop in
+    let a = c .before .before .before .before .before .before .args in
+    let mark-at = loop .at + (a .step - 2) in
+    let turn = c .before .before .before .loop-test .taken in
+    let mark = c .before .shared-slice-known3 .given mark-at in (
+      omega (arith, mul-turn (loop .left) (a .step) turn),
+      omega arith,
+      omega (arith, c .join16 .ok),
+      λ shape e. records-turn shape (loop .left) (loop .at) (loop .sum) (c .join16 .result) (now (a .body)) {next = loop .at + a .step} {zero-at = mark-at + 1} {mark-at = mark-at} turn (omega arith) (omega arith) (omega arith) (omega (arith, mark)) (c .join16 .ensures)
+          ∙ loop .inv .3 shape e,
+    )
+
+returns : tie.Need-returns Inv-loop μ-loop
+returns c =
+    let loop = c .before .loop in
+    let a = c .before .before .before .args in
+    λ shape e. records-done shape (loop .left) (loop .sum) (a .n) (drop (loop .at) (now (a .body))) (now (a .body)) (c .loop-test .left) (loop .inv .3 shape e)
+
+pub good-ends-spec : {M : Type 1} → statement M
+good-ends-spec =
+    tie.close
+    (tie.spec
+    Inv-loop
+    μ-loop
+    sub-mark
+    loop-holds
+    add-join16
+    add-join16-2
+    shared-slice-read-join16
+    add-join16-3
+    shared-slice-read-join16-2
+    join16-requires
+    cast-sum
+    add-sum
+    sub-left
+    add-at
+    loop-less
+    loop-again
+    returns)
