@@ -17,17 +17,8 @@ widened z f = subst⁻¹ (λ (y : ℤ). SFits w64 y) (toZ-ofZ w16 z f) (record {
 widened-is : (z : ℤ) → SFits w16 z → toZ w64 (ofZ w64 (toZ w16 (ofZ w16 z))) ≡ z
 widened-is z f = toZ-ofZ w64 (toZ w16 (ofZ w16 z)) (widened z f) ∙ toZ-ofZ w16 z f
 
-lost-since-requires : tie.Need-lost-since-requires
-lost-since-requires c κs = search needs
-
 cast-t4 : tie.Need-cast-t4
 cast-t4 c = widened (c .lost-since .result) (search needs)
-
-since16-requires : tie.Need-since16-requires
-since16-requires c κs = search needs
-
-cast-t6 : tie.Need-cast-t6
-cast-t6 c = search needs
 
 returns : tie.Need-returns
 unfolding signalsOf
@@ -36,4 +27,4 @@ returns c =
     λ i. record { lost = lost i; marked = c .since16 .ensures i }
 
 pub counters-spec : {M : Type 1} → statement M
-counters-spec = tie.close (tie.spec lost-since-requires cast-t4 since16-requires cast-t6 returns)
+counters-spec = tie.close (tie.spec (λ c κs. search needs) cast-t4 (λ c κs. search needs) (λ c. search needs) returns)

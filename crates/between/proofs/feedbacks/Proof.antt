@@ -6,16 +6,10 @@ use Rattle.between.specs.Differences.{expectingOf}
 use Rattle.between.proofs.feedbacks.Statement.{statement}
 use Rattle.between.proofs.feedbacks.Tie as tie
 
-counters-requires : tie.Need-counters-requires
-counters-requires c κs = search needs
-
-expecting-requires : tie.Need-expecting-requires
-expecting-requires c κs = search needs
-
 returns : tie.Need-returns
 returns c =
     let a = c .before .before .before .before .args in
     c .expecting .ensures ∙ ap (λ (s : Signals). expectingOf s (a .earlier .highest) (a .later .highest)) (c .before .counters .ensures)
 
 pub feedbacks-spec : {M : Type 1} → statement M
-feedbacks-spec = tie.close (tie.spec counters-requires expecting-requires returns)
+feedbacks-spec = tie.close (tie.spec (λ c κs. search needs) (λ c κs. search needs) returns)

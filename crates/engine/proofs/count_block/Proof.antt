@@ -9,15 +9,9 @@ use Rattle.engine.proofs.Counts.{no-block, a-block, roomy-of}
 use Rattle.engine.proofs.count_block.Statement.{statement}
 use Rattle.engine.proofs.count_block.Tie as tie
 
-is-sound-requires : tie.Need-is-sound-requires
-is-sound-requires c κs = search needs
-
 returns : tie.Need-returns
 unfolding blockCount
 returns c = rw (was-false (c .before .is-sound .ensures) (c .if1 .taken))
-
-records-in-requires : tie.Need-records-in-requires
-records-in-requires c κs = search needs
 
 returns-2 : tie.Need-returns-2
 unfolding blockCount
@@ -30,12 +24,6 @@ has-room-requires c κs =
     let a = c .before .before .before .before .before .args in
     (was-true (c .before .before .before .is-sound .ensures) (c .before .before .if1 .left), a-block (a .width) (now (a .records)) (c .before .records-in .ensures) (c .if2 .left) .few)
 
-count-block-requires : tie.Need-count-block-requires
-count-block-requires c κs = search needs
-
-returns-3 : tie.Need-returns-3
-returns-3 c = search needs
-
 count-requires : tie.Need-count-requires
 count-requires c κs =
     let a = c .before .before .before .before .before .before .before .args in (
@@ -43,19 +31,16 @@ count-requires c κs =
       roomy-of (a .s) (c .before .before .before .records-in .result) (was-true (c .before .before .before .before .before .is-sound .ensures) (c .before .before .before .before .if1 .left)) (was-true (c .before .has-room .ensures) (c .if3 .left)),
     )
 
-returns-4 : tie.Need-returns-4
-returns-4 c = search needs
-
 pub count-block-spec : {M : Type 1} → statement M
 count-block-spec =
     tie.close
     (tie.spec
-    is-sound-requires
+    (λ c κs. search needs)
     returns
-    records-in-requires
+    (λ c κs. search needs)
     returns-2
     has-room-requires
-    count-block-requires
-    returns-3
+    (λ c κs. search needs)
+    (λ c. search needs)
     count-requires
-    returns-4)
+    (λ c. search needs))

@@ -13,25 +13,10 @@ use Rattle.report.proofs.Faults.{carried-malformed, carried-fields}
 use Rattle.report.proofs.write_feedback.Statement.{statement}
 use Rattle.report.proofs.write_feedback.Tie as tie
 
-of-requires : tie.Need-of-requires
-of-requires c κs = search needs
-
-enum-told : tie.Need-enum-told
-enum-told c = search needs
-
-enum-known-highest : tie.Need-enum-known-highest
-enum-known-highest c = search needs
-
-feedback-requires : tie.Need-feedback-requires
-feedback-requires c κs = search needs
-
 returns : tie.Need-returns
 returns c =
     let a = c .before .before .before .before .args in
     wrote-refused (feedbackBytes (a .sender) (a .media) (a .s)) (now (a .out)) (carried-malformed (a .s) (sym (c .before .before .of .ensures) ∙ c .enum-told .given .1))
-
-same-length : tie.Need-same-length
-same-length c = search needs
 
 returns-2 : tie.Need-returns-2
 returns-2 c =
@@ -44,10 +29,10 @@ pub write-feedback-spec : {M : Type 1} → statement M
 write-feedback-spec =
     tie.close
     (tie.spec
-    of-requires
-    enum-told
-    enum-known-highest
-    feedback-requires
+    (λ c κs. search needs)
+    (λ c. search needs)
+    (λ c. search needs)
+    (λ c κs. search needs)
     returns
-    same-length
+    (λ c. search needs)
     returns-2)

@@ -12,25 +12,10 @@ use Rattle.report.proofs.Faults.{carried-malformed, carried-fields}
 use Rattle.report.proofs.write_summary.Statement.{statement}
 use Rattle.report.proofs.write_summary.Tie as tie
 
-of-requires : tie.Need-of-requires
-of-requires c κs = search needs
-
-enum-told : tie.Need-enum-told
-enum-told c = search needs
-
-enum-known-counts : tie.Need-enum-known-counts
-enum-known-counts c = search needs
-
-summary-requires : tie.Need-summary-requires
-summary-requires c κs = search needs
-
 returns : tie.Need-returns
 returns c =
     let a = c .before .before .before .before .args in
     wrote-refused (summaryBytes (a .media) (a .s)) (now (a .out)) (carried-malformed (a .s) (sym (c .before .before .of .ensures) ∙ c .enum-told .given .1))
-
-same-length : tie.Need-same-length
-same-length c = search needs
 
 returns-2 : tie.Need-returns-2
 returns-2 c =
@@ -43,10 +28,10 @@ pub write-summary-spec : {M : Type 1} → statement M
 write-summary-spec =
     tie.close
     (tie.spec
-    of-requires
-    enum-told
-    enum-known-counts
-    summary-requires
+    (λ c κs. search needs)
+    (λ c. search needs)
+    (λ c. search needs)
+    (λ c κs. search needs)
     returns
-    same-length
+    (λ c. search needs)
     returns-2)

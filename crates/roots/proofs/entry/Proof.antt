@@ -6,28 +6,13 @@ use Rattle.roots.proofs.Entries.{entry-root, zero-root}
 use Rattle.roots.proofs.entry.Statement.{statement}
 use Rattle.roots.proofs.entry.Tie as tie
 
-within-requires : tie.Need-within-requires
-within-requires c κs = search needs
-
 returns : tie.Need-returns
 returns c top bottom t =
     zero-root top bottom (c .before .before .args .t1) t (search needs) (min (c .before .before .args .n) 1024) (omega arith)
-
-sub-i : tie.Need-sub-i
-sub-i c = search needs
-
-mul-result : tie.Need-mul-result
-mul-result c = search needs
-
-array-read-result : tie.Need-array-read-result
-array-read-result c = search needs
-
-cast-result : tie.Need-cast-result
-cast-result c = search needs
 
 returns-2 : tie.Need-returns-2
 returns-2 c top bottom t =
     entry-root top bottom (c .before .before .args .t1) t (c .before .within .result - 1) (min (c .before .before .args .n) 1024) (search needs) (omega arith)
 
 pub entry-spec : {M : Type 1} → statement M
-entry-spec = tie.close (tie.spec within-requires returns sub-i mul-result array-read-result cast-result returns-2)
+entry-spec = tie.close (tie.spec (λ c κs. search needs) returns (λ c. search needs) (λ c. search needs) (λ c. search needs) (λ c. search needs) returns-2)

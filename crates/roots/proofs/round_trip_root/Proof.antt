@@ -6,11 +6,8 @@ use Rattle.roots.proofs.Floors.{as-radicand}
 use Rattle.roots.proofs.round_trip_root.Statement.{statement}
 use Rattle.roots.proofs.round_trip_root.Tie as tie
 
-entry-requires : tie.Need-entry-requires
-entry-requires c κs = search needs
-
 returns : tie.Need-returns
 returns c = c .entry .ensures 2 3072 refl ∙ as-radicand 2 3072 (min (c .before .args .n) 1024)
 
 pub round-trip-root-spec : {M : Type 1} → statement M
-round-trip-root-spec = tie.close (tie.spec entry-requires returns)
+round-trip-root-spec = tie.close (tie.spec (λ c κs. search needs) returns)

@@ -12,15 +12,6 @@ use Rattle.roots.proofs.scaled_denominator.Tie as tie
 sized : (c : tie.After-timeout-root) → Parts (c .before .before .within .result) (c .before .round-trip-root .result) (c .timeout-root .result)
 sized c = parts-of (omega arith) (c .before .round-trip-root .ensures) (c .timeout-root .ensures)
 
-within-requires : tie.Need-within-requires
-within-requires c κs = search needs
-
-round-trip-root-requires : tie.Need-round-trip-root-requires
-round-trip-root-requires c κs = search needs
-
-timeout-root-requires : tie.Need-timeout-root-requires
-timeout-root-requires c κs = search needs
-
 mul-result : tie.Need-mul-result
 mul-result c = omega (arith, sized c .first)
 
@@ -29,9 +20,6 @@ mul-result-2 c = omega (arith, sized c .root)
 
 mul-result-3 : tie.Need-mul-result-3
 mul-result-3 c = omega (arith, sized c .loss)
-
-mul-result-4 : tie.Need-mul-result-4
-mul-result-4 c = search needs
 
 mul-result-5 : tie.Need-mul-result-5
 mul-result-5 c = omega (arith, sized c .square)
@@ -60,13 +48,13 @@ pub scaled-denominator-spec : {M : Type 1} → statement M
 scaled-denominator-spec =
     tie.close
     (tie.spec
-    within-requires
-    round-trip-root-requires
-    timeout-root-requires
+    (λ c κs. search needs)
+    (λ c κs. search needs)
+    (λ c κs. search needs)
     mul-result
     mul-result-2
     mul-result-3
-    mul-result-4
+    (λ c. search needs)
     mul-result-5
     add-result
     mul-result-6

@@ -6,11 +6,8 @@ use Rattle.roots.proofs.Floors.{as-radicand}
 use Rattle.roots.proofs.timeout_root.Statement.{statement}
 use Rattle.roots.proofs.timeout_root.Tie as tie
 
-entry-requires : tie.Need-entry-requires
-entry-requires c κs = search needs
-
 returns : tie.Need-returns
 returns c = c .entry .ensures 3 8192 refl ∙ as-radicand 3 8192 (min (c .before .args .n) 1024)
 
 pub timeout-root-spec : {M : Type 1} → statement M
-timeout-root-spec = tie.close (tie.spec entry-requires returns)
+timeout-root-spec = tie.close (tie.spec (λ c κs. search needs) returns)

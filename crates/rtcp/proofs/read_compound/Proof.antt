@@ -21,13 +21,10 @@ returns-2 : tie.Need-returns-2
 unfolding reading
 returns-2 c = rw (le-leb 1 (length (now (c .before .before .before .args .bytes))) (some (c .before)), lt-leb (length (now (c .before .before .before .args .bytes))) 65507 (c .if2 .taken))
 
-read-packets-requires : tie.Need-read-packets-requires
-read-packets-requires c κs = search needs
-
 returns-3 : tie.Need-returns-3
 unfolding reading
 returns-3 c =
     rw (le-leb 1 (length (now (c .before .before .before .before .args .bytes))) (some (c .before .before)), le-leb (length (now (c .before .before .before .before .args .bytes))) 65507 (c .before .if2 .left)) (c .read-packets .ensures)
 
 pub read-compound-spec : {M : Type 1} → statement M
-read-compound-spec = tie.close (tie.spec returns returns-2 read-packets-requires returns-3)
+read-compound-spec = tie.close (tie.spec returns returns-2 (λ c κs. search needs) returns-3)

@@ -111,12 +111,6 @@ header-at-requires c κs = omega (arith, c .packets-test .taken)
 packet-verdict-requires : tie.Need-packet-verdict-requires Inv-loop μ-loop Inv-packets μ-packets
 packet-verdict-requires c κs = (omega (arith, c .before .packets-test .taken), omega (arith, c .header-at .ensures .1 .0))
 
-enum-told : tie.Need-enum-told Inv-loop μ-loop Inv-packets μ-packets
-enum-told c = search needs
-
-enum-told-2 : tie.Need-enum-told-2 Inv-loop μ-loop Inv-packets μ-packets
-enum-told-2 c = search needs
-
 add-next : tie.Need-add-next Inv-loop μ-loop Inv-packets μ-packets
 add-next c = omega (arith, c .before .before .before .before .before .packets-test .taken, c .before .before .before .before .header-at .ensures .1 .1)
 
@@ -177,9 +171,6 @@ first-report-requires c κs = fit (c .before .before .before)
 first-feedback-requires : tie.Need-first-feedback-requires Inv-loop μ-loop Inv-packets μ-packets
 first-feedback-requires c κs = fit (c .before .before .before .before)
 
-or-report-requires : tie.Need-or-report-requires Inv-loop μ-loop Inv-packets μ-packets
-or-report-requires c κs = search needs
-
 packets-less : tie.Need-packets-less Inv-loop μ-loop Inv-packets μ-packets
 packets-less c = omega (arith, c .before .before .before .before .before .before .before .before .before .before .packets-test .taken, c .before .before .before .before .before .before .before .before .before .header-at .ensures .1 .0)
 
@@ -206,9 +197,6 @@ packets-again-2 c =
           ∙ sym (packet-other (bytes p) (media p) (profile p) (at e) (found p) (c .before .before .before .before .before .before .before .before .before .before .packets-test .taken) (header e) (c .before .before .before .before .before .before .before .before .before .header-at .ensures .0) (no-fault e) (c .before .before .before .if1 .left))
           ∙ p .packets .inv .1,
     )
-
-unless-faulty-requires : tie.Need-unless-faulty-requires Inv-loop μ-loop Inv-packets μ-packets
-unless-faulty-requires c κs = search needs
 
 -- ---- the ways out of the scan
 
@@ -244,8 +232,8 @@ read-packets-spec =
     packets-holds
     header-at-requires
     packet-verdict-requires
-    enum-told
-    enum-told-2
+    (λ c. search needs)
+    (λ c. search needs)
     add-next
     padding-at-requires
     sub-end
@@ -260,10 +248,10 @@ read-packets-spec =
     loop-again
     first-report-requires
     first-feedback-requires
-    or-report-requires
+    (λ c κs. search needs)
     packets-less
     packets-again
     packets-less-2
     packets-again-2
-    unless-faulty-requires
+    (λ c κs. search needs)
     returns)

@@ -6,12 +6,6 @@ use Rattle.rtcp.specs.Compound.{unlessFaulty}
 use Rattle.rtcp.proofs.unless_faulty.Statement.{statement}
 use Rattle.rtcp.proofs.unless_faulty.Tie as tie
 
-enum-told : tie.Need-enum-told
-enum-told c = search needs
-
-enum-known-verdict : tie.Need-enum-known-verdict
-enum-known-verdict c = search needs
-
 returns : tie.Need-returns
 returns c = sym (ap (λ (v : Verdict). unlessFaulty v (c .before .before .args .found)) (c .enum-told .given .1))
 
@@ -19,4 +13,4 @@ returns-2 : tie.Need-returns-2
 returns-2 c = sym (ap (λ (v : Verdict). unlessFaulty v (c .before .before .before .args .found)) (c .before .verdict .given .1))
 
 pub unless-faulty-spec : {M : Type 1} → statement M
-unless-faulty-spec = tie.close (tie.spec enum-told enum-known-verdict returns returns-2)
+unless-faulty-spec = tie.close (tie.spec (λ c. search needs) (λ c. search needs) returns returns-2)

@@ -12,11 +12,5 @@ cast-signed c =
     let f : SFits w32 (c .args .lost) = search needs in
     rw (toZ-ofZ w32 (c .args .lost) f) (record { sfits = omega (arith, f .sfits) })
 
-signed-requires : tie.Need-signed-requires
-signed-requires c κs = search needs
-
-returns : tie.Need-returns
-returns c = search needs
-
 pub show-lost-spec : {M : Type 1} → statement M
-show-lost-spec = tie.close (tie.spec cast-signed signed-requires returns)
+show-lost-spec = tie.close (tie.spec cast-signed (λ c κs. search needs) (λ c. search needs))

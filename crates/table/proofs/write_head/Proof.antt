@@ -15,15 +15,6 @@ returns c =
     let a = c .before .before .args in
     wrote-short headBytes (now (a .out)) refl (c .if1 .taken) refl
 
-slice-aggregate-put-bytes : tie.Need-slice-aggregate-put-bytes
-slice-aggregate-put-bytes c = search needs
-
-put-bytes-requires : tie.Need-put-bytes-requires
-put-bytes-requires c κs = search needs
-
-same-length : tie.Need-same-length
-same-length c = search needs
-
 returns-2 : tie.Need-returns-2
 unfolding headBytes line
 returns-2 c =
@@ -32,4 +23,4 @@ returns-2 c =
 
 pub write-head-spec : {M : Type 1} → statement M
 write-head-spec =
-    tie.close (tie.spec returns slice-aggregate-put-bytes put-bytes-requires same-length returns-2)
+    tie.close (tie.spec returns (λ c. search needs) (λ c κs. search needs) (λ c. search needs) returns-2)

@@ -18,22 +18,10 @@ use Rattle.table.proofs.write_row.Tie as tie
 known : (c : tie.After-known-told) → Counted (c .before .before .before .before .before .before .before .args .t .source) (c .before .lost2 .given .0 .0)
 known c = lost-packets (c .before .before .before .before .before .before .before .args .t .source) (sym (c .before .before .before .lost .ensures) ∙ c .before .lost2 .given .1)
 
-lost-requires : tie.Need-lost-requires
-lost-requires c κs = search needs
-
-enum-known-lost : tie.Need-enum-known-lost
-enum-known-lost c = search needs
-
-enum-told : tie.Need-enum-told
-enum-told c = search needs
-
 returns : tie.Need-returns
 returns c =
     let a = c .before .before .before .before .before .before .args in
     wrote-refused (rowBytes (now (a .label)) (a .ssrc) (a .t)) (now (a .out)) (fault-record (now (a .label)) (a .t) (lost-refused (a .t .source) (sym (c .before .before .lost .ensures) ∙ c .enum-told .given .1)))
-
-is-label-requires : tie.Need-is-label-requires
-is-label-requires c κs = search needs
 
 returns-2 : tie.Need-returns-2
 returns-2 c =
@@ -63,9 +51,6 @@ row-requires c κs =
     let n = known (e .before .before) in
     (label-short (now (s .args .label)) (label-ok e), n .good, seen-is (e .before .before .before .lost2 .given .0 .0) (search needs) ∙ n .is)
 
-same-length : tie.Need-same-length
-same-length c = search needs
-
 returns-5 : tie.Need-returns-5
 returns-5 c =
     let a = c .before .before .before .before .before .before .before .before .before .before .before .before .before .before .before .before .before .args in
@@ -77,14 +62,14 @@ pub write-row-spec : {M : Type 1} → statement M
 write-row-spec =
     tie.close
     (tie.spec
-    lost-requires
-    enum-known-lost
-    enum-told
+    (λ c κs. search needs)
+    (λ c. search needs)
+    (λ c. search needs)
     returns
-    is-label-requires
+    (λ c κs. search needs)
     returns-2
     returns-3
     returns-4
     row-requires
-    same-length
+    (λ c. search needs)
     returns-5)

@@ -17,15 +17,9 @@ use Rattle.between.proofs.Signals.expecting.Tie as tie
 back : (c : tie.After-since32) {t : Bool} → leb (2 ^ 31) (c .since32 .result) ≡ t → leb (2 ^ 31) (since 32 (c .before .args .later) (c .before .args .earlier)) ≡ t
 back c e = sym (ap (leb (2 ^ 31)) (c .since32 .ensures)) ∙ e
 
-since32-requires : tie.Need-since32-requires
-since32-requires c κs = search needs
-
 returns : tie.Need-returns
 unfolding expectingOf
 returns c = cond-ends _ _ _ _ (back (c .before) (le-leb _ _ (c .if1 .taken))) refl
-
-cast-t7 : tie.Need-cast-t7
-cast-t7 c = search needs
 
 returns-2 : tie.Need-returns-2
 unfolding expectingOf
@@ -36,4 +30,4 @@ returns-2 c =
     (λ i. Between.Counts (record { lost = lost i; marked = a .self .marked; expected = c .before .before .since32 .ensures i }))
 
 pub expecting-spec : {M : Type 1} → statement M
-expecting-spec = tie.close (tie.spec since32-requires returns cast-t7 returns-2)
+expecting-spec = tie.close (tie.spec (λ c κs. search needs) returns (λ c. search needs) returns-2)

@@ -4,12 +4,9 @@ use Rattle.breaker.specs.Calls.{heardOf}
 use Rattle.breaker.proofs.Breaker.heard.Statement.{statement}
 use Rattle.breaker.proofs.Breaker.heard.Tie as tie
 
-timed-requires : tie.Need-timed-requires
-timed-requires c κs = search needs
-
 returns : tie.Need-returns
 unfolding heardOf
 returns c = c .timed .ensures
 
 pub heard-spec : {M : Type 1} → statement M
-heard-spec = tie.close (tie.spec timed-requires returns)
+heard-spec = tie.close (tie.spec (λ c κs. search needs) returns)

@@ -5,17 +5,8 @@ use Rattle.breaker.proofs.Chains.{malformed-ends, stop-ends}
 use Rattle.breaker.proofs.Breaker.opening.Statement.{statement}
 use Rattle.breaker.proofs.Breaker.opening.Tie as tie
 
-is-sound-requires : tie.Need-is-sound-requires
-is-sound-requires c κs = search needs
-
 returns : tie.Need-returns
 returns c = λ next. malformed-ends _ next (was-false (c .before .is-sound .ensures) (c .if1 .taken))
-
-enum-known-state : tie.Need-enum-known-state
-enum-known-state c = search needs
-
-enum-told : tie.Need-enum-told
-enum-told c = search needs
 
 returns-2 : tie.Need-returns-2
 returns-2 c =
@@ -27,4 +18,4 @@ returns-3 c = (was-true (c .before .before .before .is-sound .ensures) (c .befor
 
 pub opening-spec : {M : Type 1} → statement M
 opening-spec =
-    tie.close (tie.spec is-sound-requires returns enum-known-state enum-told returns-2 returns-3)
+    tie.close (tie.spec (λ c κs. search needs) returns (λ c. search needs) (λ c. search needs) returns-2 returns-3)

@@ -15,27 +15,9 @@ use Rattle.breaker.proofs.Breaker.report.Tie as tie
 opens : (c : tie.After-enum-told) → Opens (c .before .before .before .args .self) Open
 opens c = subst (Opens _) (c .enum-told .given .1) (c .before .before .opening .ensures)
 
-opening-requires : tie.Need-opening-requires
-opening-requires c κs = search needs
-
-enum-known-answer : tie.Need-enum-known-answer
-enum-known-answer c = search needs
-
-answered-requires : tie.Need-answered-requires
-answered-requires c κs = search needs
-
 returns : tie.Need-returns
 unfolding reportOf
 returns c = c .answered .ensures ∙ subst (Opens _) (c .before .before .answer .given .1) (c .before .before .before .before .opening .ensures) _
-
-enum-told : tie.Need-enum-told
-enum-told c = search needs
-
-report-ok-requires : tie.Need-report-ok-requires
-report-ok-requires c κs = search needs
-
-answered-requires-2 : tie.Need-answered-requires-2
-answered-requires-2 c κs = search needs
 
 returns-2 : tie.Need-returns-2
 unfolding reportOf
@@ -43,18 +25,12 @@ returns-2 c =
     open-goes _ _ (opens (c .before .before .before))
     (cond-ends _ _ _ _ (ap not (was-false (c .before .before .report-ok .ensures) (c .before .if1 .taken))) (c .answered2 .ensures))
 
-answered-requires-3 : tie.Need-answered-requires-3
-answered-requires-3 c κs = search needs
-
 returns-3 : tie.Need-returns-3
 unfolding reportOf
 returns-3 c =
     open-goes _ _ (opens (c .before .before .before .before .before .before))
     (cond-goes _ _ _ _ (ap not (was-true (c .before .before .before .before .before .report-ok .ensures) (c .before .before .before .before .if1 .left)))
     (cond-ends _ _ _ _ (le-leb _ _ (c .before .if2 .taken)) (c .answered3 .ensures)))
-
-answered-requires-4 : tie.Need-answered-requires-4
-answered-requires-4 c κs = search needs
 
 returns-4 : tie.Need-returns-4
 unfolding reportOf
@@ -87,17 +63,17 @@ pub report-spec : {M : Type 1} → statement M
 report-spec =
     tie.close
     (tie.spec
-    opening-requires
-    enum-known-answer
-    answered-requires
+    (λ c κs. search needs)
+    (λ c. search needs)
+    (λ c κs. search needs)
     returns
-    enum-told
-    report-ok-requires
-    answered-requires-2
+    (λ c. search needs)
+    (λ c κs. search needs)
+    (λ c κs. search needs)
     returns-2
-    answered-requires-3
+    (λ c κs. search needs)
     returns-3
-    answered-requires-4
+    (λ c κs. search needs)
     returns-4
     ruled-requires
     returns-5)

@@ -10,30 +10,15 @@ use Rattle.breaker.specs.Calls.{startOf}
 use Rattle.breaker.proofs.Breaker.start.Statement.{statement}
 use Rattle.breaker.proofs.Breaker.start.Tie as tie
 
-settings-ok-requires : tie.Need-settings-ok-requires
-settings-ok-requires c κs = search needs
-
-unstarted-requires : tie.Need-unstarted-requires
-unstarted-requires c κs = search needs
-
 returns : tie.Need-returns
 unfolding startOf
 returns c = cond-ends _ _ _ _ (ap not (was-false (c .before .before .settings-ok .ensures) (c .before .if1 .taken))) (c .unstarted .ensures)
-
-unstarted-requires-2 : tie.Need-unstarted-requires-2
-unstarted-requires-2 c κs = search needs
 
 returns-2 : tie.Need-returns-2
 unfolding startOf
 returns-2 c =
     cond-goes _ _ _ _ (ap not (was-true (c .before .before .before .settings-ok .ensures) (c .before .before .if1 .left)))
     (cond-ends _ _ _ _ (ap not (le-ltb _ _ (c .before .if2 .taken))) (c .unstarted2 .ensures))
-
-fresh-requires : tie.Need-fresh-requires
-fresh-requires c κs = search needs
-
-answered-requires : tie.Need-answered-requires
-answered-requires c κs = search needs
 
 returns-3 : tie.Need-returns-3
 unfolding startOf
@@ -46,11 +31,11 @@ pub start-spec : {M : Type 1} → statement M
 start-spec =
     tie.close
     (tie.spec
-    settings-ok-requires
-    unstarted-requires
+    (λ c κs. search needs)
+    (λ c κs. search needs)
     returns
-    unstarted-requires-2
+    (λ c κs. search needs)
     returns-2
-    fresh-requires
-    answered-requires
+    (λ c κs. search needs)
+    (λ c κs. search needs)
     returns-3)

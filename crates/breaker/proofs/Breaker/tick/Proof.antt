@@ -4,12 +4,9 @@ use Rattle.breaker.specs.Calls.{tickOf}
 use Rattle.breaker.proofs.Breaker.tick.Statement.{statement}
 use Rattle.breaker.proofs.Breaker.tick.Tie as tie
 
-timed-requires : tie.Need-timed-requires
-timed-requires c κs = search needs
-
 returns : tie.Need-returns
 unfolding tickOf
 returns c = c .timed .ensures
 
 pub tick-spec : {M : Type 1} → statement M
-tick-spec = tie.close (tie.spec timed-requires returns)
+tick-spec = tie.close (tie.spec (λ c κs. search needs) returns)

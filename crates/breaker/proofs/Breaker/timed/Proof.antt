@@ -23,36 +23,15 @@ opens c = subst (Opens _) (c .enum-told .given .1) (c .before .before .opening .
 not-early : (c : tie.Else2) → early (c .before .before .before .before .before .before .args .self) (c .before .before .before .before .before .before .args .time) ≡ false
 not-early c = sym (c .before .is-early .ensures) ∙ c .if2 .left
 
-opening-requires : tie.Need-opening-requires
-opening-requires c κs = search needs
-
-enum-known-answer : tie.Need-enum-known-answer
-enum-known-answer c = search needs
-
-answered-requires : tie.Need-answered-requires
-answered-requires c κs = search needs
-
 returns : tie.Need-returns
 unfolding timed
 returns c = c .answered .ensures ∙ subst (Opens _) (c .before .before .answer .given .1) (c .before .before .before .before .opening .ensures) _
-
-enum-told : tie.Need-enum-told
-enum-told c = search needs
-
-answered-requires-2 : tie.Need-answered-requires-2
-answered-requires-2 c κs = search needs
 
 returns-2 : tie.Need-returns-2
 unfolding timed
 returns-2 c =
     open-goes _ _ (opens (c .before .before))
     (cond-ends _ _ _ _ (ap not (le-ltb _ _ (c .before .if1 .taken))) (c .answered2 .ensures))
-
-is-early-requires : tie.Need-is-early-requires
-is-early-requires c κs = search needs
-
-answered-requires-3 : tie.Need-answered-requires-3
-answered-requires-3 c κs = search needs
 
 returns-3 : tie.Need-returns-3
 unfolding timed
@@ -67,9 +46,6 @@ sub-if3 c =
     let held : s .self .heard ≤ s .time = ltb-false _ _ (or-right (ltb (s .time) (s .self .last)) _ (not-early (c .before))) in
     search needs
 
-stopped-requires : tie.Need-stopped-requires
-stopped-requires c κs = search needs
-
 returns-4 : tie.Need-returns-4
 unfolding timed
 returns-4 c =
@@ -77,12 +53,6 @@ returns-4 c =
     (cond-goes _ _ _ _ (ap not (lt-ltb _ _ (c .before .before .before .before .before .before .if1 .left)))
     (cond-goes _ _ _ _ (not-early (c .before .before .before .before))
     (cond-ends _ _ _ _ (le-leb _ _ (c .before .if3 .taken)) (c .stopped .ensures))))
-
-holding-requires : tie.Need-holding-requires
-holding-requires c κs = search needs
-
-answered-requires-4 : tie.Need-answered-requires-4
-answered-requires-4 c κs = search needs
 
 returns-5 : tie.Need-returns-5
 unfolding timed
@@ -97,19 +67,19 @@ pub timed-spec : {M : Type 1} → statement M
 timed-spec =
     tie.close
     (tie.spec
-    opening-requires
-    enum-known-answer
-    answered-requires
+    (λ c κs. search needs)
+    (λ c. search needs)
+    (λ c κs. search needs)
     returns
-    enum-told
-    answered-requires-2
+    (λ c. search needs)
+    (λ c κs. search needs)
     returns-2
-    is-early-requires
-    answered-requires-3
+    (λ c κs. search needs)
+    (λ c κs. search needs)
     returns-3
     sub-if3
-    stopped-requires
+    (λ c κs. search needs)
     returns-4
-    holding-requires
-    answered-requires-4
+    (λ c κs. search needs)
+    (λ c κs. search needs)
     returns-5)

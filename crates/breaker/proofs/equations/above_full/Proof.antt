@@ -12,23 +12,11 @@ use Rattle.breaker.proofs.Products.{fits-product}
 use Rattle.breaker.proofs.equations.above_full.Statement.{statement}
 use Rattle.breaker.proofs.equations.above_full.Tie as tie
 
-mul-n : tie.Need-mul-n
-mul-n c = search needs
-
-div-n : tie.Need-div-n
-div-n c = search needs
-
 mul-product : tie.Need-mul-product
 mul-product c =
     let r = c .before .before .before .args .r in
     let h = c .before .before .before .pre .1 in
     fits-product 125000000 60000 (rate-high r h) (rtt-high r h) tt
-
-scaled-denominator-requires : tie.Need-scaled-denominator-requires
-scaled-denominator-requires c κs = search needs
-
-product-requires : tie.Need-product-requires
-product-requires c κs = search needs
 
 mul-product-2 : tie.Need-mul-product-2
 mul-product-2 c =
@@ -36,12 +24,6 @@ mul-product-2 c =
     let h = c .before .before .before .before .before .before .pre .1 in
     let s : r .size ≤ 65535 = size-high r h in
     search needs
-
-product-requires-2 : tie.Need-product-requires-2
-product-requires-2 c κs = search needs
-
-above-requires : tie.Need-above-requires
-above-requires c κs = search needs
 
 returns : tie.Need-returns
 returns c =
@@ -58,12 +40,12 @@ pub above-full-spec : {M : Type 1} → statement M
 above-full-spec =
     tie.close
     (tie.spec
-    mul-n
-    div-n
+    (λ c. search needs)
+    (λ c. search needs)
     mul-product
-    scaled-denominator-requires
-    product-requires
+    (λ c κs. search needs)
+    (λ c κs. search needs)
     mul-product-2
-    product-requires-2
-    above-requires
+    (λ c κs. search needs)
+    (λ c κs. search needs)
     returns)

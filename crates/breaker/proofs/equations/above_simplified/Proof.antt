@@ -30,23 +30,11 @@ mul-product-3 c =
     let p : s .sums .p ≤ 255 * 320000000 = omega (arith, h .0 .few, h .0 .share) in
     fits-product 125000000 (255 * 320000000) (rate-high (s .r) (h .1)) p tt
 
-product-requires : tie.Need-product-requires
-product-requires c κs = search needs
-
-mul-product-4 : tie.Need-mul-product-4
-mul-product-4 c = search needs
-
 mul-product-5 : tie.Need-mul-product-5
 mul-product-5 c =
     let r = c .before .before .before .before .before .before .before .args .r in
     let h = c .before .before .before .before .before .before .before .pre .1 in
     fits-product 65535 65535 (size-high r h) (size-high r h) tt
-
-product-requires-2 : tie.Need-product-requires-2
-product-requires-2 c κs = search needs
-
-above-requires : tie.Need-above-requires
-above-requires c κs = search needs
 
 returns : tie.Need-returns
 returns c =
@@ -63,9 +51,9 @@ above-simplified-spec =
     mul-product
     mul-product-2
     mul-product-3
-    product-requires
-    mul-product-4
+    (λ c κs. search needs)
+    (λ c. search needs)
     mul-product-5
-    product-requires-2
-    above-requires
+    (λ c κs. search needs)
+    (λ c κs. search needs)
     returns)

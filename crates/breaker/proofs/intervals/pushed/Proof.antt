@@ -6,12 +6,6 @@ use Prim.Native.Nat.{_+_, min}
 use Rattle.breaker.proofs.intervals.pushed.Statement.{statement}
 use Rattle.breaker.proofs.intervals.pushed.Tie as tie
 
-in-front-requires : tie.Need-in-front-requires
-in-front-requires c κs = search needs
-
-add-t8 : tie.Need-add-t8
-add-t8 c = search needs
-
 returns : tie.Need-returns
 returns c =
     let s = c .before .before .before .args in
@@ -25,4 +19,4 @@ returns-2 c =
     λ i. record { used = e i; intervals = c .before .in-front .ensures i }
 
 pub pushed-spec : {M : Type 1} → statement M
-pushed-spec = tie.close (tie.spec in-front-requires add-t8 returns returns-2)
+pushed-spec = tie.close (tie.spec (λ c κs. search needs) (λ c. search needs) returns returns-2)

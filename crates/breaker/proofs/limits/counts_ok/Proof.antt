@@ -12,9 +12,6 @@ use Rattle.breaker.specs.Limits.{countsOk}
 use Rattle.breaker.proofs.limits.counts_ok.Statement.{statement}
 use Rattle.breaker.proofs.limits.counts_ok.Tie as tie
 
-magnitude-requires : tie.Need-magnitude-requires
-magnitude-requires c κs = search needs
-
 -- the test of the number lost
 lost-test : (c : tie.After-magnitude) {t : Bool} → leb (c .magnitude .result) (2 ^ 31) ≡ t → leb (natAbs (c .before .before .args .c .lost)) (2 ^ 31) ≡ t
 lost-test c e =
@@ -38,4 +35,4 @@ returns-3 c =
     (sym (and-true _)))
 
 pub counts-ok-spec : {M : Type 1} → statement M
-counts-ok-spec = tie.close (tie.spec magnitude-requires returns returns-2 returns-3)
+counts-ok-spec = tie.close (tie.spec (λ c κs. search needs) returns returns-2 returns-3)

@@ -5,15 +5,6 @@ use Rattle.breaker.specs.Limits.{lossOk}
 use Rattle.breaker.proofs.limits.loss_ok.Statement.{statement}
 use Rattle.breaker.proofs.limits.loss_ok.Tie as tie
 
-enum-known-loss : tie.Need-enum-known-loss
-enum-known-loss c = search needs
-
-enum-known-loss-2 : tie.Need-enum-known-loss-2
-enum-known-loss-2 c = search needs
-
-counts-ok-requires : tie.Need-counts-ok-requires
-counts-ok-requires c κs = search needs
-
 returns : tie.Need-returns
 returns c = sym (ap lossOk (c .before .loss .given .1))
 
@@ -22,4 +13,4 @@ returns-2 c = c .counts-ok .ensures ∙ sym (ap lossOk (c .before .before .loss2
 
 pub loss-ok-spec : {M : Type 1} → statement M
 loss-ok-spec =
-    tie.close (tie.spec enum-known-loss enum-known-loss-2 counts-ok-requires returns returns-2)
+    tie.close (tie.spec (λ c. search needs) (λ c. search needs) (λ c κs. search needs) returns returns-2)

@@ -12,9 +12,6 @@ returns : tie.Need-returns
 unfolding reportOk
 returns c = and-ends _ _ (le-ltb _ _ (c .if1 .taken))
 
-loss-ok-requires : tie.Need-loss-ok-requires
-loss-ok-requires c κs = search needs
-
 returns-2 : tie.Need-returns-2
 unfolding reportOk
 returns-2 c =
@@ -27,9 +24,6 @@ returns-3 c =
     and-goes _ _ _ (lt-ltb _ _ (c .before .before .before .before .if1 .left))
     (and-goes _ _ _ (was-true (c .before .before .before .loss-ok .ensures) (c .before .before .if2 .left))
     (and-ends _ _ (lt-leb _ _ (c .if3 .taken))))
-
-is-within-requires : tie.Need-is-within-requires
-is-within-requires c κs = search needs
 
 returns-4 : tie.Need-returns-4
 unfolding reportOk
@@ -51,4 +45,4 @@ returns-5 c =
 pub report-ok-spec : {M : Type 1} → statement M
 report-ok-spec =
     tie.close
-    (tie.spec returns loss-ok-requires returns-2 returns-3 is-within-requires returns-4 returns-5)
+    (tie.spec returns (λ c κs. search needs) returns-2 returns-3 (λ c κs. search needs) returns-4 returns-5)

@@ -7,23 +7,14 @@ use mathlib.Core.Bool.{and-true}
 use Rattle.breaker.proofs.limits.settings_ok.Statement.{statement}
 use Rattle.breaker.proofs.limits.settings_ok.Tie as tie
 
-is-within-requires : tie.Need-is-within-requires
-is-within-requires c κs = search needs
-
 returns : tie.Need-returns
 unfolding settingsOk
 returns c = and-ends _ _ (was-false (c .before .is-within .ensures) (c .if1 .taken))
-
-is-within-requires-2 : tie.Need-is-within-requires-2
-is-within-requires-2 c κs = search needs
 
 returns-2 : tie.Need-returns-2
 unfolding settingsOk
 returns-2 c =
     and-goes _ _ _ (was-true (c .before .before .before .is-within .ensures) (c .before .before .if1 .left)) (and-ends _ _ (was-false (c .before .is-within2 .ensures) (c .if2 .taken)))
-
-is-within-requires-3 : tie.Need-is-within-requires-3
-is-within-requires-3 c κs = search needs
 
 returns-3 : tie.Need-returns-3
 unfolding settingsOk
@@ -34,9 +25,9 @@ pub settings-ok-spec : {M : Type 1} → statement M
 settings-ok-spec =
     tie.close
     (tie.spec
-    is-within-requires
+    (λ c κs. search needs)
     returns
-    is-within-requires-2
+    (λ c κs. search needs)
     returns-2
-    is-within-requires-3
+    (λ c κs. search needs)
     returns-3)

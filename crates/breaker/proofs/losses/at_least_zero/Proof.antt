@@ -19,9 +19,6 @@ none : (z : ℤ) → leZ (pos 0) z ≡ false → 0 ≡ atLeastZero z
 none (pos n) e = absurd (omega (arith, leb-false 0 n e))
 none (negsuc n) e = refl
 
-magnitude-requires : tie.Need-magnitude-requires
-magnitude-requires c κs = search needs
-
 returns : tie.Need-returns
 returns c =
     let z = c .before .before .args .lost in
@@ -34,4 +31,4 @@ returns-2 c =
     none z (sym (ap (leZ (pos 0)) (seen-is z (c .before .before .fits .lost))) ∙ c .if1 .left)
 
 pub at-least-zero-spec : {M : Type 1} → statement M
-at-least-zero-spec = tie.close (tie.spec magnitude-requires returns returns-2)
+at-least-zero-spec = tie.close (tie.spec (λ c κs. search needs) returns returns-2)

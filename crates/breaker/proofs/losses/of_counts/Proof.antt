@@ -26,9 +26,6 @@ returns : tie.Need-returns
 unfolding countsFraction
 returns c = cond-ends _ _ _ _ (eq-eqb _ _ (c .if1 .taken)) refl
 
-at-least-zero-requires : tie.Need-at-least-zero-requires
-at-least-zero-requires c κs = search needs
-
 add-congested : tie.Need-add-congested
 add-congested c =
     let s = c .before .before .before .before in
@@ -52,4 +49,4 @@ returns-3 c =
 pub of-counts-spec : {M : Type 1} → statement M
 of-counts-spec =
     tie.close
-    (tie.spec returns at-least-zero-requires add-congested returns-2 in-256ths-requires returns-3)
+    (tie.spec returns (λ c κs. search needs) add-congested returns-2 in-256ths-requires returns-3)

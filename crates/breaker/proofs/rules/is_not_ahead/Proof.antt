@@ -9,9 +9,6 @@ use Rattle.answers.proofs.Conditions.{or-ends, or-goes}
 use Rattle.breaker.proofs.rules.is_not_ahead.Statement.{statement}
 use Rattle.breaker.proofs.rules.is_not_ahead.Tie as tie
 
-since32-requires : tie.Need-since32-requires
-since32-requires c κs = search needs
-
 returns : tie.Need-returns
 returns c =
     let d = c .before .since32 .result in
@@ -23,4 +20,4 @@ returns-2 c =
     or-goes (eqb d 0) (leb (2 ^ 31) d) (leb (2 ^ 31) d) (ne-eqb _ _ (c .if1 .left)) refl ∙ ap (λ (n : ℕ). eqb n 0 || leb (2 ^ 31) n) (c .before .since32 .ensures)
 
 pub is-not-ahead-spec : {M : Type 1} → statement M
-is-not-ahead-spec = tie.close (tie.spec since32-requires returns returns-2)
+is-not-ahead-spec = tie.close (tie.spec (λ c κs. search needs) returns returns-2)

@@ -38,15 +38,6 @@ shown c e =
     let r = c .before .before .before .before .args .r in
     e ∙ ap (λ (n : ℕ). rules b r n (windowAfter b r)) (c .run-after .ensures)
 
-empty-requires : tie.Need-empty-requires
-empty-requires c κs = search needs
-
-stored-requires : tie.Need-stored-requires
-stored-requires c κs = search needs
-
-answered-requires : tie.Need-answered-requires
-answered-requires c κs = search needs
-
 returns : tie.Need-returns
 unfolding ruledBy ruled
 returns c =
@@ -54,23 +45,11 @@ returns c =
     let r = c .before .before .before .before .before .before .args .r in
     cond-ends _ _ _ _ (eq-eqb _ _ (c .before .before .before .if1 .taken)) (c .answered .ensures ∙ ap (answers Go) (c .before .stored .ensures ∙ ap (stored b r 0 (b .trial)) (c .before .before .empty .ensures)))
 
-run-after-requires : tie.Need-run-after-requires
-run-after-requires c κs = search needs
-
-sub-elapsed : tie.Need-sub-elapsed
-sub-elapsed c = search needs
-
-stopped-requires : tie.Need-stopped-requires
-stopped-requires c κs = search needs
-
 returns-2 : tie.Need-returns-2
 unfolding ruledBy ruled
 returns-2 c =
     cond-goes _ _ _ _ (ne-eqb _ _ (c .before .before .before .before .before .before .if1 .left))
     (cond-ends _ _ _ _ (le-leb _ _ (c .before .if2 .taken)) (c .stopped .ensures))
-
-stopped-requires-2 : tie.Need-stopped-requires-2
-stopped-requires-2 c κs = search needs
 
 returns-3 : tie.Need-returns-3
 unfolding rules
@@ -79,12 +58,6 @@ returns-3 c =
     (cond-goes _ _ _ _ (ne-eqb _ _ (c .before .before .before .before .before .before .before .before .if1 .left))
     (cond-goes _ _ _ _ (lt-leb _ _ (c .before .before .before .if2 .left))
     (cond-ends _ _ _ _ (le-leb _ _ (c .before .if3 .taken)) (c .stopped2 .ensures))))
-
-stored-requires-2 : tie.Need-stored-requires-2
-stored-requires-2 c κs = search needs
-
-answered-requires-2 : tie.Need-answered-requires-2
-answered-requires-2 c κs = search needs
 
 returns-4 : tie.Need-returns-4
 unfolding rules
@@ -112,18 +85,18 @@ pub ruled-spec : {M : Type 1} → statement M
 ruled-spec =
     tie.close
     (tie.spec
-    empty-requires
-    stored-requires
-    answered-requires
+    (λ c κs. search needs)
+    (λ c κs. search needs)
+    (λ c κs. search needs)
     returns
-    run-after-requires
-    sub-elapsed
-    stopped-requires
+    (λ c κs. search needs)
+    (λ c. search needs)
+    (λ c κs. search needs)
     returns-2
-    stopped-requires-2
+    (λ c κs. search needs)
     returns-3
-    stored-requires-2
-    answered-requires-2
+    (λ c κs. search needs)
+    (λ c κs. search needs)
     returns-4
     tested-requires
     returns-5)

@@ -12,9 +12,6 @@ returns : tie.Need-returns
 unfolding runAfter
 returns c = search needs
 
-is-not-ahead-requires : tie.Need-is-not-ahead-requires
-is-not-ahead-requires c κs = search needs
-
 add-result : tie.Need-add-result
 add-result c =
     let b = c .before .before .before .before .before .args .b in
@@ -31,4 +28,4 @@ unfolding runAfter
 returns-3 c = cond-goes _ _ _ _ (c .before .before .if1 .left) (cond-goes _ _ _ _ (sym (c .before .is-not-ahead .ensures) ∙ c .if2 .left) refl)
 
 pub run-after-spec : {M : Type 1} → statement M
-run-after-spec = tie.close (tie.spec returns is-not-ahead-requires add-result returns-2 returns-3)
+run-after-spec = tie.close (tie.spec returns (λ c κs. search needs) add-result returns-2 returns-3)

@@ -31,12 +31,6 @@ shown c e = e ∙ ap (tested (c .before .before .args .b) (c .before .before .ar
 window-after-requires : tie.Need-window-after-requires
 window-after-requires c κs = c .before .pre
 
-stored-requires : tie.Need-stored-requires
-stored-requires c κs = search needs
-
-answered-requires : tie.Need-answered-requires
-answered-requires c κs = search needs
-
 returns : tie.Need-returns
 unfolding tested
 returns c =
@@ -55,30 +49,12 @@ exceeds-requires c κs =
       h .inLimits,
     )
 
-stored-requires-2 : tie.Need-stored-requires-2
-stored-requires-2 c κs = search needs
-
-answered-requires-2 : tie.Need-answered-requires-2
-answered-requires-2 c κs = search needs
-
 returns-2 : tie.Need-returns-2
 unfolding tested
 returns-2 c =
     shown (c .before .before .before .before .before .before)
     (cond-goes _ _ _ _ (le-ltb _ _ (c .before .before .before .before .if1 .left))
     (cond-ends _ _ _ _ (ap not (was-false (c .before .before .before .exceeds .ensures) (c .before .before .if2 .taken))) (c .answered2 .ensures ∙ ap (answers Go) (c .before .stored2 .ensures))))
-
-may-reduce-requires : tie.Need-may-reduce-requires
-may-reduce-requires c κs = search needs
-
-empty-requires : tie.Need-empty-requires
-empty-requires c κs = search needs
-
-stored-requires-3 : tie.Need-stored-requires-3
-stored-requires-3 c κs = search needs
-
-answered-requires-3 : tie.Need-answered-requires-3
-answered-requires-3 c κs = search needs
 
 returns-3 : tie.Need-returns-3
 unfolding tested
@@ -89,9 +65,6 @@ returns-3 c =
     (cond-goes _ _ _ _ (ap not (was-true (c .before .before .before .before .before .before .exceeds .ensures) (c .before .before .before .before .before .if2 .left)))
     (cond-ends _ _ _ _ (sym (c .before .before .before .before .may-reduce .ensures) ∙ c .before .before .before .if3 .taken)
     (c .answered3 .ensures ∙ ap (answers Reduce) (c .before .stored3 .ensures ∙ ap (stored (s .b) (s .r) (s .run) true) (c .before .before .empty .ensures))))))
-
-stopped-requires : tie.Need-stopped-requires
-stopped-requires c κs = search needs
 
 returns-4 : tie.Need-returns-4
 unfolding tested
@@ -106,17 +79,17 @@ tested-spec =
     tie.close
     (tie.spec
     window-after-requires
-    stored-requires
-    answered-requires
+    (λ c κs. search needs)
+    (λ c κs. search needs)
     returns
     exceeds-requires
-    stored-requires-2
-    answered-requires-2
+    (λ c κs. search needs)
+    (λ c κs. search needs)
     returns-2
-    may-reduce-requires
-    empty-requires
-    stored-requires-3
-    answered-requires-3
+    (λ c κs. search needs)
+    (λ c κs. search needs)
+    (λ c κs. search needs)
+    (λ c κs. search needs)
     returns-3
-    stopped-requires
+    (λ c κs. search needs)
     returns-4)

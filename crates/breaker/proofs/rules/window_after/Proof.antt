@@ -7,12 +7,6 @@ use Rattle.breaker.proofs.Facts.{settings-of, used-of, k-low, k-high, l
 use Rattle.breaker.proofs.rules.window_after.Statement.{statement}
 use Rattle.breaker.proofs.rules.window_after.Tie as tie
 
-sub-stored-length : tie.Need-sub-stored-length
-sub-stored-length c = search needs
-
-stored-length-requires : tie.Need-stored-length-requires
-stored-length-requires c κs = search needs
-
 fraction-of-requires : tie.Need-fraction-of-requires
 fraction-of-requires c κs = let s = c .before .before .before .before in loss-of (s .args .r) (s .pre .inLimits)
 
@@ -33,8 +27,8 @@ pub window-after-spec : {M : Type 1} → statement M
 window-after-spec =
     tie.close
     (tie.spec
-    sub-stored-length
-    stored-length-requires
+    (λ c. search needs)
+    (λ c κs. search needs)
     fraction-of-requires
     pushed-requires
     returns)

@@ -20,15 +20,9 @@ small : (c : tie.Else3) → c .before .before .before .before .before .before .b
 small c =
     omega (arith, c .if3 .left, k-high (c .before .before .before .before .before .before .before .before .before .args .b .settings) (was-true (c .before .before .before .before .before .before .before .settings-ok .ensures) (c .before .before .before .before .before .before .if1 .left)))
 
-settings-ok-requires : tie.Need-settings-ok-requires
-settings-ok-requires c κs = search needs
-
 returns : tie.Need-returns
 unfolding sound
 returns c = all-false (conditions (c .before .before .before .args .b)) 0 (was-false (c .before .settings-ok .ensures) (c .if1 .taken))
-
-run-ok-requires : tie.Need-run-ok-requires
-run-ok-requires c κs = search needs
 
 returns-2 : tie.Need-returns-2
 unfolding sound
@@ -60,9 +54,6 @@ returns-7 : tie.Need-returns-7
 unfolding sound
 returns-7 c = all-false (conditions (c .before .before .before .before .before .before .before .before .before .before .before .before .before .before .before .before .before .args .b)) 7 (was-false (c .before .rest-ok .ensures) (c .if7 .taken))
 
-number-ok-requires : tie.Need-number-ok-requires
-number-ok-requires c κs = search needs
-
 returns-8 : tie.Need-returns-8
 unfolding sound
 returns-8 c =
@@ -82,9 +73,9 @@ pub is-sound-spec : {M : Type 1} → statement M
 is-sound-spec =
     tie.close
     (tie.spec
-    settings-ok-requires
+    (λ c κs. search needs)
     returns
-    run-ok-requires
+    (λ c κs. search needs)
     returns-2
     returns-3
     used-ok-requires
@@ -93,5 +84,5 @@ is-sound-spec =
     returns-6
     rest-ok-requires
     returns-7
-    number-ok-requires
+    (λ c κs. search needs)
     returns-8)

@@ -16,9 +16,6 @@ use Rattle.breaker.proofs.soundness.rest_ok.Tie as tie
 long : (c : tie.Start) → length (c .args .window .intervals) ≡ 32
 long c = search (needs, length-mapped)
 
-all-between-requires : tie.Need-all-between-requires
-all-between-requires c κs = search needs
-
 returns : tie.Need-returns
 returns c =
     let w = c .before .before .args .window in
@@ -26,4 +23,4 @@ returns c =
     c .all-between .ensures ∙ zero-limits (drop (w .used) _) ∙ ap (λ (l : List Interval). all (map isZero (drop (w .used) l))) (take-all 32 (w .intervals) e)
 
 pub rest-ok-spec : {M : Type 1} → statement M
-rest-ok-spec = tie.close (tie.spec all-between-requires returns)
+rest-ok-spec = tie.close (tie.spec (λ c κs. search needs) returns)

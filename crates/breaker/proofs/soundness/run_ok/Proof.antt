@@ -6,12 +6,6 @@ use Rattle.breaker.specs.Soundness.{runOk}
 use Rattle.breaker.proofs.soundness.run_ok.Statement.{statement}
 use Rattle.breaker.proofs.soundness.run_ok.Tie as tie
 
-enum-told : tie.Need-enum-told
-enum-told c = search needs
-
-enum-told-2 : tie.Need-enum-told-2
-enum-told-2 c = search needs
-
 returns : tie.Need-returns
 returns c = let a = c .before .before .args in sym (ap (λ (s : State). runOk s (a .run) (a .m)) (c .enum-told .given .1))
 
@@ -19,4 +13,4 @@ returns-2 : tie.Need-returns-2
 returns-2 c = let a = c .before .before .args in sym (ap (λ (s : State). runOk s (a .run) (a .m)) (c .enum-told2 .given .1))
 
 pub run-ok-spec : {M : Type 1} → statement M
-run-ok-spec = tie.close (tie.spec enum-told enum-told-2 returns returns-2)
+run-ok-spec = tie.close (tie.spec (λ c. search needs) (λ c. search needs) returns returns-2)

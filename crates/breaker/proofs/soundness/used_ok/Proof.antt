@@ -6,11 +6,8 @@ use Rattle.breaker.proofs.Places.{used-limits}
 use Rattle.breaker.proofs.soundness.used_ok.Statement.{statement}
 use Rattle.breaker.proofs.soundness.used_ok.Tie as tie
 
-all-between-requires : tie.Need-all-between-requires
-all-between-requires c κs = search needs
-
 returns : tie.Need-returns
 returns c = let w = c .before .before .args .window in c .all-between .ensures ∙ used-limits (take (w .used) (w .intervals))
 
 pub used-ok-spec : {M : Type 1} → statement M
-used-ok-spec = tie.close (tie.spec all-between-requires returns)
+used-ok-spec = tie.close (tie.spec (λ c κs. search needs) returns)

@@ -18,29 +18,14 @@ use Rattle.capi.proofs.Answers.{coded}
 use Rattle.capi.proofs.blocks.flasknib_write_arrivals.Statement.{statement}
 use Rattle.capi.proofs.blocks.flasknib_write_arrivals.Tie as tie
 
-is-form-requires : tie.Need-is-form-requires
-is-form-requires c κs = search needs
-
-length-requires : tie.Need-length-requires
-length-requires c κs = search needs
-
 returns : tie.Need-returns
 returns c =
     let a = c .before .before .before .before .before .before .before .args in
     let unknown = was-false (c .before .before .is-form .ensures) (c .before .if1 .taken) in
     coded (search needs) (c .length .ensures) (wrote-refused (arrivalsBlock (shapeOf (formOf (a .form))) (recordsOf (now (a .times)) (now (a .numbers)) (now (a .marks))) (a .ssrc)) (now (a .out)) (ap (λ (known : Bool). cond known (arrivalsFault (shapeOf (formOf (a .form))) (now (a .times)) (now (a .numbers)) (now (a .marks))) (some Limits)) unknown))
 
-form-of-requires : tie.Need-form-of-requires
-form-of-requires c κs = search needs
-
-write-arrivals-requires : tie.Need-write-arrivals-requires
-write-arrivals-requires c κs = search needs
-
 length-requires-2 : tie.Need-length-requires-2
 length-requires-2 c κs = omega (arith, wrote-size 512 (λ e. le-of-eq (arrivals-length (c .before .before .before .before .form-of .result) _ _ _ _ e)) (c .before .before .write-arrivals .ensures))
-
-same-length : tie.Need-same-length
-same-length c = search needs
 
 returns-2 : tie.Need-returns-2
 returns-2 c =
@@ -51,11 +36,11 @@ pub flasknib-write-arrivals-spec : {M : Type 1} → statement M
 flasknib-write-arrivals-spec =
     tie.close
     (tie.spec
-    is-form-requires
-    length-requires
+    (λ c κs. search needs)
+    (λ c κs. search needs)
     returns
-    form-of-requires
-    write-arrivals-requires
+    (λ c κs. search needs)
+    (λ c κs. search needs)
     length-requires-2
-    same-length
+    (λ c. search needs)
     returns-2)

@@ -18,29 +18,14 @@ use Rattle.capi.proofs.Answers.{coded}
 use Rattle.capi.proofs.blocks.flasknib_write_label.Statement.{statement}
 use Rattle.capi.proofs.blocks.flasknib_write_label.Tie as tie
 
-is-form-requires : tie.Need-is-form-requires
-is-form-requires c κs = search needs
-
-length-requires : tie.Need-length-requires
-length-requires c κs = search needs
-
 returns : tie.Need-returns
 returns c =
     let a = c .before .before .before .before .before .args in
     let unknown = was-false (c .before .before .is-form .ensures) (c .before .if1 .taken) in
     coded (search needs) (c .length .ensures) (wrote-refused (labelBlock (shapeOf (formOf (a .form))) (now (a .label)) (a .ssrc)) (now (a .out)) (ap (λ (known : Bool). cond known (labelFault (now (a .label))) (some Limits)) unknown))
 
-form-of-requires : tie.Need-form-of-requires
-form-of-requires c κs = search needs
-
-write-label-requires : tie.Need-write-label-requires
-write-label-requires c κs = search needs
-
 length-requires-2 : tie.Need-length-requires-2
 length-requires-2 c κs = omega (arith, wrote-size 512 (λ e. le-of-eq (label-length _ _ _ e)) (c .before .before .write-label .ensures))
-
-same-length : tie.Need-same-length
-same-length c = search needs
 
 returns-2 : tie.Need-returns-2
 returns-2 c =
@@ -51,11 +36,11 @@ pub flasknib-write-label-spec : {M : Type 1} → statement M
 flasknib-write-label-spec =
     tie.close
     (tie.spec
-    is-form-requires
-    length-requires
+    (λ c κs. search needs)
+    (λ c κs. search needs)
     returns
-    form-of-requires
-    write-label-requires
+    (λ c κs. search needs)
+    (λ c κs. search needs)
     length-requires-2
-    same-length
+    (λ c. search needs)
     returns-2)

@@ -16,19 +16,10 @@ returns c =
     let a = c .before .args in
     gives refusalCode (wrote-short (a .kind ∷ a .count ∷ a .ssrc ∷ []) (now (a .found)) refl (c .if1 .taken) refl) refl
 
-slice-write-found : tie.Need-slice-write-found
-slice-write-found c = search needs
-
 slice-write-found-2 : tie.Need-slice-write-found-2
 slice-write-found-2 c =
     let a = c .before .args in
     omega (arith, length-set (now (a .found)) 0 (a .kind), c .if1 .left)
-
-slice-write-found-3 : tie.Need-slice-write-found-3
-slice-write-found-3 c = search needs
-
-same-length : tie.Need-same-length
-same-length c = search needs
 
 returns-2 : tie.Need-returns-2
 returns-2 c =
@@ -40,8 +31,8 @@ put-found-spec =
     tie.close
     (tie.spec
     returns
-    slice-write-found
+    (λ c. search needs)
     slice-write-found-2
-    slice-write-found-3
-    same-length
+    (λ c. search needs)
+    (λ c. search needs)
     returns-2)

@@ -10,31 +10,16 @@ use Rattle.capi.proofs.Steps.{record-sized, call-malformed, call-made}
 use Rattle.capi.proofs.circuit.flasknib_breaker_heard.Statement.{statement}
 use Rattle.capi.proofs.circuit.flasknib_breaker_heard.Tie as tie
 
-record-in-requires : tie.Need-record-in-requires
-record-in-requires c κs = search needs
-
-code-requires : tie.Need-code-requires
-code-requires c κs = search needs
-
-same-length : tie.Need-same-length
-same-length c = search needs
-
 returns : tie.Need-returns
 returns c =
     let a = c .before .before .before .before .before .before .args in
     let fit = ap (λ (g : Loaded). g .ok) (c .before .before .before .record-in .ensures) in
     call-malformed _ (now (a .breaker)) (was-false fit (c .before .if1 .taken)) (c .code .ensures)
 
-heard-requires : tie.Need-heard-requires
-heard-requires c κs = search needs
-
 put-back-requires : tie.Need-put-back-requires
 put-back-requires c κs =
     let given = c .before .before .before .before .before .record-in .ensures in
     record-sized (now (c .before .before .before .before .before .before .before .before .args .breaker)) (was-true (ap (λ (g : Loaded). g .ok) given) (c .before .before .before .if1 .left))
-
-same-length-2 : tie.Need-same-length-2
-same-length-2 c = search needs
 
 returns-2 : tie.Need-returns-2
 unfolding called
@@ -49,11 +34,11 @@ pub flasknib-breaker-heard-spec : {M : Type 1} → statement M
 flasknib-breaker-heard-spec =
     tie.close
     (tie.spec
-    record-in-requires
-    code-requires
-    same-length
+    (λ c κs. search needs)
+    (λ c κs. search needs)
+    (λ c. search needs)
     returns
-    heard-requires
+    (λ c κs. search needs)
     put-back-requires
-    same-length-2
+    (λ c. search needs)
     returns-2)

@@ -14,12 +14,6 @@ use Rattle.capi.proofs.circuit.flasknib_breaker_report_ecn.Tie as tie
 same-call : (old : List ℕ) {a b : Call} {r : ℕ} {out : List ℕ} → a ≡ b → TakesCall a old r out → TakesCall b old r out
 same-call old {r = r} {out} e h = subst (λ (c : Call). TakesCall c old r out) e h
 
-take-report-requires : tie.Need-take-report-requires
-take-report-requires c κs = search needs
-
-same-length : tie.Need-same-length
-same-length c = search needs
-
 returns : tie.Need-returns
 returns c =
     let a = c .before .before .before .before .before .args in
@@ -39,4 +33,4 @@ returns c =
     (c .before .before .take-report .ensures)
 
 pub flasknib-breaker-report-ecn-spec : {M : Type 1} → statement M
-flasknib-breaker-report-ecn-spec = tie.close (tie.spec take-report-requires same-length returns)
+flasknib-breaker-report-ecn-spec = tie.close (tie.spec (λ c κs. search needs) (λ c. search needs) returns)

@@ -12,18 +12,12 @@ use Rattle.capi.proofs.Steps.{start-is, start-refused}
 use Rattle.capi.proofs.circuit.flasknib_breaker_start.Statement.{statement}
 use Rattle.capi.proofs.circuit.flasknib_breaker_start.Tie as tie
 
-code-requires : tie.Need-code-requires
-code-requires c κs = search needs
-
 returns : tie.Need-returns
 unfolding starts
 returns c =
     let a = c .before .before .before .args in
     let t = lt-leb (a .reduce) 1 (c .before .if1 .taken) in
     start-is (now (a .breaker)) (cond-ends _ _ _ unstarted (ap not t) refl) (start-refused (unstarted .answer) (breakerWords (unstarted .breaker)) (now (a .breaker)) refl (c .code .ensures))
-
-code-requires-2 : tie.Need-code-requires-2
-code-requires-2 c κs = search needs
 
 returns-2 : tie.Need-returns-2
 unfolding starts
@@ -32,15 +26,6 @@ returns-2 c =
     let reduce = le-leb (a .reduce) 1 (c .before .before .if1 .left) in
     let full = lt-leb (a .full) 1 (c .before .if2 .taken) in
     start-is (now (a .breaker)) (cond-goes _ _ _ _ (ap not reduce) (cond-ends _ _ _ unstarted (ap not full) refl)) (start-refused (unstarted .answer) (breakerWords (unstarted .breaker)) (now (a .breaker)) refl (c .code2 .ensures))
-
-start-requires : tie.Need-start-requires
-start-requires c κs = search needs
-
-put-front-requires : tie.Need-put-front-requires
-put-front-requires c κs = search needs
-
-same-length : tie.Need-same-length
-same-length c = search needs
 
 returns-3 : tie.Need-returns-3
 unfolding starts
@@ -54,11 +39,11 @@ pub flasknib-breaker-start-spec : {M : Type 1} → statement M
 flasknib-breaker-start-spec =
     tie.close
     (tie.spec
-    code-requires
+    (λ c κs. search needs)
     returns
-    code-requires-2
+    (λ c κs. search needs)
     returns-2
-    start-requires
-    put-front-requires
-    same-length
+    (λ c κs. search needs)
+    (λ c κs. search needs)
+    (λ c. search needs)
     returns-3)

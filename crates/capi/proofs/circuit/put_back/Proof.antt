@@ -12,25 +12,10 @@ use Rattle.capi.proofs.circuit.put_back.Tie as tie
 long : (c : tie.Start) → length (c .args .step .breaker .window .intervals) ≡ 32
 long c = search (needs, length-mapped)
 
-is-refused-requires : tie.Need-is-refused-requires
-is-refused-requires c κs = search needs
-
-code-requires : tie.Need-code-requires
-code-requires c κs = search needs
-
 returns : tie.Need-returns
 returns c =
     let refused = sym (c .before .before .is-refused .ensures) ∙ c .before .if1 .taken in
     record { answers = c .code .ensures; stores = cond-ends _ _ _ _ refused refl }
-
-store-requires : tie.Need-store-requires
-store-requires c κs = search needs
-
-code-requires-2 : tie.Need-code-requires-2
-code-requires-2 c κs = search needs
-
-same-length : tie.Need-same-length
-same-length c = search needs
 
 returns-2 : tie.Need-returns-2
 returns-2 c =
@@ -42,10 +27,10 @@ pub put-back-spec : {M : Type 1} → statement M
 put-back-spec =
     tie.close
     (tie.spec
-    is-refused-requires
-    code-requires
+    (λ c κs. search needs)
+    (λ c κs. search needs)
     returns
-    store-requires
-    code-requires-2
-    same-length
+    (λ c κs. search needs)
+    (λ c κs. search needs)
+    (λ c. search needs)
     returns-2)

@@ -17,22 +17,10 @@ use Rattle.capi.proofs.circuit.put_front.Tie as tie
 long : (c : tie.Start) → length (c .args .step .breaker .window .intervals) ≡ 32
 long c = search (needs, length-mapped)
 
-is-refused-requires : tie.Need-is-refused-requires
-is-refused-requires c κs = search needs
-
-code-requires : tie.Need-code-requires
-code-requires c κs = search needs
-
 returns : tie.Need-returns
 returns c =
     let a = c .before .before .before .before .before .args in
     start-refused (a .step .answer) (breakerWords (a .step .breaker)) (now (a .words)) (sym (c .before .before .is-refused .ensures) ∙ c .before .if1 .taken) (c .code .ensures)
-
-cast-result : tie.Need-cast-result
-cast-result c = search needs
-
-add-result : tie.Need-add-result
-add-result c = search needs
 
 returns-2 : tie.Need-returns-2
 returns-2 c =
@@ -40,15 +28,6 @@ returns-2 c =
     let b = s .args .step .breaker in
     let kept = sym (c .before .before .is-refused .ensures) ∙ c .before .if1 .left in
     gives startCode (wrote-short (breakerWords b) (now (s .args .words)) (no-refusal (s .args .step .answer) kept) (omega (arith, length-breaker b (long s), c .if2 .taken)) (sym (length-breaker b (long s)))) refl
-
-store-requires : tie.Need-store-requires
-store-requires c κs = search needs
-
-code-requires-2 : tie.Need-code-requires-2
-code-requires-2 c κs = search needs
-
-same-length : tie.Need-same-length
-same-length c = search needs
 
 returns-3 : tie.Need-returns-3
 returns-3 c =
@@ -61,13 +40,13 @@ pub put-front-spec : {M : Type 1} → statement M
 put-front-spec =
     tie.close
     (tie.spec
-    is-refused-requires
-    code-requires
+    (λ c κs. search needs)
+    (λ c κs. search needs)
     returns
-    cast-result
-    add-result
+    (λ c. search needs)
+    (λ c. search needs)
     returns-2
-    store-requires
-    code-requires-2
-    same-length
+    (λ c κs. search needs)
+    (λ c κs. search needs)
+    (λ c. search needs)
     returns-3)

@@ -12,9 +12,6 @@ use Rattle.capi.specs.BreakerCalls.{isRecord}
 use Rattle.capi.proofs.circuit.record_in.Statement.{statement}
 use Rattle.capi.proofs.circuit.record_in.Tie as tie
 
-load-requires : tie.Need-load-requires
-load-requires c κs = search needs
-
 returns : tie.Need-returns
 returns c =
     let ws = now (c .before .before .before .before .args .words) in
@@ -29,4 +26,4 @@ returns-2 c =
     c .before .load .ensures ∙ (λ i. record { ok = fit i; breaker = breakerOf ws })
 
 pub record-in-spec : {M : Type 1} → statement M
-record-in-spec = tie.close (tie.spec load-requires returns returns-2)
+record-in-spec = tie.close (tie.spec (λ c κs. search needs) returns returns-2)

@@ -10,32 +10,17 @@ use Rattle.capi.specs.Codes.{lengthCode}
 use Rattle.capi.proofs.codes.length.Statement.{statement}
 use Rattle.capi.proofs.codes.length.Tie as tie
 
-enum-known-answer : tie.Need-enum-known-answer
-enum-known-answer c = search needs
-
 cast-result : tie.Need-cast-result
 cast-result c = record { sfits = omega (arith, ap sizeIn (c .before .answer .given .1), c .before .before .before .pre) }
 
-enum-known-answer-2 : tie.Need-enum-known-answer-2
-enum-known-answer-2 c = search needs
-
 mul-negative : tie.Need-mul-negative
 mul-negative c = omega (arith, ap sizeIn (c .before .answer2 .given .1), c .before .before .before .pre)
-
-cast-negative : tie.Need-cast-negative
-cast-negative c = search needs
 
 add-negative : tie.Need-add-negative
 add-negative c = omega (arith, ap sizeIn (c .before .answer2 .given .1), c .before .before .before .pre)
 
 negative-requires : tie.Need-negative-requires
 negative-requires c κs = omega (arith, ap sizeIn (c .before .answer2 .given .1), c .before .before .before .pre)
-
-enum-known-answer-3 : tie.Need-enum-known-answer-3
-enum-known-answer-3 c = search needs
-
-minus-requires : tie.Need-minus-requires
-minus-requires c κs = search needs
 
 returns : tie.Need-returns
 returns c =
@@ -52,15 +37,15 @@ pub length-spec : {M : Type 1} → statement M
 length-spec =
     tie.close
     (tie.spec
-    enum-known-answer
+    (λ c. search needs)
     cast-result
-    enum-known-answer-2
+    (λ c. search needs)
     mul-negative
-    cast-negative
+    (λ c. search needs)
     add-negative
     negative-requires
-    enum-known-answer-3
-    minus-requires
+    (λ c. search needs)
+    (λ c κs. search needs)
     returns
     returns-2
     returns-3)

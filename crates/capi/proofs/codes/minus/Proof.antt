@@ -7,17 +7,8 @@ use Rattle.numbers.proofs.Signed.{seen-is}
 use Rattle.capi.proofs.codes.minus.Statement.{statement}
 use Rattle.capi.proofs.codes.minus.Tie as tie
 
-number-requires : tie.Need-number-requires
-number-requires c κs = search needs
-
-cast-negative : tie.Need-cast-negative
-cast-negative c = search needs
-
-negative-requires : tie.Need-negative-requires
-negative-requires c κs = search needs
-
 returns : tie.Need-returns
 returns c = seen-is (c .negative .result) (search needs) ∙ c .negative .ensures ∙ ap (λ (k : ℕ). negℤ (pos k)) (c .before .number .ensures)
 
 pub minus-spec : {M : Type 1} → statement M
-minus-spec = tie.close (tie.spec number-requires cast-negative negative-requires returns)
+minus-spec = tie.close (tie.spec (λ c κs. search needs) (λ c. search needs) (λ c κs. search needs) returns)

@@ -12,18 +12,6 @@ use Rattle.capi.proofs.Answers.{gives}
 use Rattle.capi.proofs.compound.flasknib_read_compound.Statement.{statement}
 use Rattle.capi.proofs.compound.flasknib_read_compound.Tie as tie
 
-read-by-requires : tie.Need-read-by-requires
-read-by-requires c κs = search needs
-
-enum-known-refusal : tie.Need-enum-known-refusal
-enum-known-refusal c = search needs
-
-number-requires : tie.Need-number-requires
-number-requires c κs = search needs
-
-enum-known-c : tie.Need-enum-known-c
-enum-known-c c = search needs
-
 returns : tie.Need-returns
 returns c =
     let a = c .before .before .before .before .before .before .before .args in
@@ -31,17 +19,11 @@ returns c =
     let told = sym (c .before .before .before .before .read-by .ensures) ∙ g .1 in
     rw told (gives refusalCode (wrote-short (compoundWords (g .0 .0)) (now (a .found)) refl (omega (arith, length-compound (g .0 .0), c .if1 .taken)) (sym (length-compound (g .0 .0)))) refl)
 
-store-requires : tie.Need-store-requires
-store-requires c κs = search needs
-
 returns-2 : tie.Need-returns-2
 returns-2 c =
     let a = c .before .before .before .before .before .before .before .args in
     let told = sym (c .before .before .before .before .read-by .ensures) ∙ c .before .before .refusal .given .1 in
     gives refusalCode (wrote-refused (readingWords (readingBy (a .profile) (now (a .bytes)) (a .media))) (now (a .found)) (ap readingFault told)) (c .number .ensures)
-
-same-length : tie.Need-same-length
-same-length c = search needs
 
 returns-3 : tie.Need-returns-3
 returns-3 c =
@@ -54,12 +36,12 @@ pub flasknib-read-compound-spec : {M : Type 1} → statement M
 flasknib-read-compound-spec =
     tie.close
     (tie.spec
-    read-by-requires
-    enum-known-refusal
-    number-requires
-    enum-known-c
+    (λ c κs. search needs)
+    (λ c. search needs)
+    (λ c κs. search needs)
+    (λ c. search needs)
     returns
-    store-requires
+    (λ c κs. search needs)
     returns-2
-    same-length
+    (λ c. search needs)
     returns-3)

@@ -12,12 +12,6 @@ returns : tie.Need-returns
 unfolding readingBy
 returns c = rw (lt-leb _ _ (c .if1 .taken))
 
-profile-of-requires : tie.Need-profile-of-requires
-profile-of-requires c κs = search needs
-
-read-compound-requires : tie.Need-read-compound-requires
-read-compound-requires c κs = search needs
-
 returns-2 : tie.Need-returns-2
 unfolding readingBy
 returns-2 c =
@@ -25,4 +19,4 @@ returns-2 c =
     rw (le-leb _ _ (c .before .before .if1 .left)) (c .read-compound .ensures ∙ ap (reading (now (a .bytes)) (a .media)) (c .before .profile-of .ensures))
 
 pub read-by-spec : {M : Type 1} → statement M
-read-by-spec = tie.close (tie.spec returns profile-of-requires read-compound-requires returns-2)
+read-by-spec = tie.close (tie.spec returns (λ c κs. search needs) (λ c κs. search needs) returns-2)

@@ -26,27 +26,6 @@ given c =
     let signals = c .before .counters .ensures ∙ (λ i. signalsOf (c .before .before .before .counters-of .ensures i) (c .before .before .counters-of2 .ensures i)) in
     c .expecting .ensures ∙ ap (λ (s : Signals). expectingOf s (a .earlier-highest) (a .later-highest)) signals
 
-counters-of-requires : tie.Need-counters-of-requires
-counters-of-requires c κs = search needs
-
-counters-of-requires-2 : tie.Need-counters-of-requires-2
-counters-of-requires-2 c κs = search needs
-
-counters-requires : tie.Need-counters-requires
-counters-requires c κs = search needs
-
-expecting-requires : tie.Need-expecting-requires
-expecting-requires c κs = search needs
-
-enum-known-refusal : tie.Need-enum-known-refusal
-enum-known-refusal c = search needs
-
-number-requires : tie.Need-number-requires
-number-requires c κs = search needs
-
-enum-known-c : tie.Need-enum-known-c
-enum-known-c c = search needs
-
 returns : tie.Need-returns
 returns c =
     let a = c .before .before .before .before .before .before .before .before .before .args in
@@ -54,17 +33,11 @@ returns c =
     let is = sym (given (c .before .before .before .before)) ∙ g .1 in
     rw is (gives refusalCode (wrote-short (ecnWords (g .0 .0)) (now (a .counts)) refl (c .if1 .taken) refl) refl)
 
-store-requires : tie.Need-store-requires
-store-requires c κs = search needs
-
 returns-2 : tie.Need-returns-2
 returns-2 c =
     let a = c .before .before .before .before .before .before .before .before .before .args in
     let is = sym (given (c .before .before .before .before)) ∙ c .before .before .refusal .given .1 in
     gives refusalCode (wrote-refused (betweenWords (told (c .before .before .before .before))) (now (a .counts)) (ap betweenFault is)) (c .number .ensures)
-
-same-length : tie.Need-same-length
-same-length c = search needs
 
 returns-3 : tie.Need-returns-3
 returns-3 c =
@@ -77,15 +50,15 @@ pub flasknib-ecn-between-spec : {M : Type 1} → statement M
 flasknib-ecn-between-spec =
     tie.close
     (tie.spec
-    counters-of-requires
-    counters-of-requires-2
-    counters-requires
-    expecting-requires
-    enum-known-refusal
-    number-requires
-    enum-known-c
+    (λ c κs. search needs)
+    (λ c κs. search needs)
+    (λ c κs. search needs)
+    (λ c κs. search needs)
+    (λ c. search needs)
+    (λ c κs. search needs)
+    (λ c. search needs)
     returns
-    store-requires
+    (λ c κs. search needs)
     returns-2
-    same-length
+    (λ c. search needs)
     returns-3)

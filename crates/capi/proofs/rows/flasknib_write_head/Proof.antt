@@ -9,19 +9,13 @@ use Rattle.capi.proofs.Answers.{coded}
 use Rattle.capi.proofs.rows.flasknib_write_head.Statement.{statement}
 use Rattle.capi.proofs.rows.flasknib_write_head.Tie as tie
 
-write-head-requires : tie.Need-write-head-requires
-write-head-requires c κs = search needs
-
 length-requires : tie.Need-length-requires
 unfolding headBytes line
 length-requires c κs = omega (arith, wrote-size 65 (λ _. leb→le 65 65 tt) (c .before .before .write-head .ensures))
-
-same-length : tie.Need-same-length
-same-length c = search needs
 
 returns : tie.Need-returns
 returns c = coded (search needs) (c .length .ensures) (c .before .before .before .write-head .ensures)
 
 pub flasknib-write-head-spec : {M : Type 1} → statement M
 flasknib-write-head-spec =
-    tie.close (tie.spec write-head-requires length-requires same-length returns)
+    tie.close (tie.spec (λ c κs. search needs) length-requires (λ c. search needs) returns)

@@ -13,32 +13,14 @@ use Rattle.capi.proofs.Records.{held-wrote, other-wrote}
 use Rattle.capi.proofs.rows.flasknib_write_row.Statement.{statement}
 use Rattle.capi.proofs.rows.flasknib_write_row.Tie as tie
 
-load-requires : tie.Need-load-requires
-load-requires c κs = search needs
-
-enum-known-source : tie.Need-enum-known-source
-enum-known-source c = search needs
-
-enum-told : tie.Need-enum-told
-enum-told c = search needs
-
-minus-requires : tie.Need-minus-requires
-minus-requires c κs = search needs
-
 returns : tie.Need-returns
 returns c =
     let a = c .before .before .before .before .before .before .before .args in
     coded (search needs) (c .minus .ensures)
     (other-wrote (now (a .words)) (λ (s : Source). rowFault (now (a .label)) (record { source = s; jumped = a .jumped; restarts = a .restarts })) (λ (s : Source). rowBytes (now (a .label)) (a .ssrc) (record { source = s; jumped = a .jumped; restarts = a .restarts })) (now (a .out)) (sym (c .before .before .before .load .ensures) ∙ c .before .enum-told .given .1))
 
-write-row-requires : tie.Need-write-row-requires
-write-row-requires c κs = search needs
-
 length-requires : tie.Need-length-requires
 length-requires c κs = omega (arith, wrote-size rowMost (λ e. row-fits _ _ _ (search needs) e) (c .before .before .write-row .ensures))
-
-same-length : tie.Need-same-length
-same-length c = search needs
 
 returns-2 : tie.Need-returns-2
 returns-2 c =
@@ -51,12 +33,12 @@ pub flasknib-write-row-spec : {M : Type 1} → statement M
 flasknib-write-row-spec =
     tie.close
     (tie.spec
-    load-requires
-    enum-known-source
-    enum-told
-    minus-requires
+    (λ c κs. search needs)
+    (λ c. search needs)
+    (λ c. search needs)
+    (λ c κs. search needs)
     returns
-    write-row-requires
+    (λ c κs. search needs)
     length-requires
-    same-length
+    (λ c. search needs)
     returns-2)

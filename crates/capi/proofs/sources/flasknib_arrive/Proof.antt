@@ -6,49 +6,10 @@ use Rattle.capi.proofs.Records.{arrives-other, arrives-next, arrives-re
 use Rattle.capi.proofs.sources.flasknib_arrive.Statement.{statement}
 use Rattle.capi.proofs.sources.flasknib_arrive.Tie as tie
 
-load-requires : tie.Need-load-requires
-load-requires c κs = search needs
-
-enum-known-source : tie.Need-enum-known-source
-enum-known-source c = search needs
-
-enum-told : tie.Need-enum-told
-enum-told c = search needs
-
-same-length : tie.Need-same-length
-same-length c = search needs
-
 returns : tie.Need-returns
 returns c =
     let a = c .before .before .before .before .before .args in
     arrives-other (now (a .words)) (a .wire) (a .mark) (sym (c .before .before .load .ensures) ∙ c .enum-told .given .1)
-
-arrive-requires : tie.Need-arrive-requires
-arrive-requires c κs = search needs
-
-enum-known-next : tie.Need-enum-known-next
-enum-known-next c = search needs
-
-store-requires : tie.Need-store-requires
-store-requires c κs = search needs
-
-enum-known-next-2 : tie.Need-enum-known-next-2
-enum-known-next-2 c = search needs
-
-store-requires-2 : tie.Need-store-requires-2
-store-requires-2 c κs = search needs
-
-enum-known-refusal : tie.Need-enum-known-refusal
-enum-known-refusal c = search needs
-
-number-requires : tie.Need-number-requires
-number-requires c κs = search needs
-
-store-requires-3 : tie.Need-store-requires-3
-store-requires-3 c κs = search needs
-
-same-length-2 : tie.Need-same-length-2
-same-length-2 c = search needs
 
 returns-2 : tie.Need-returns-2
 returns-2 c =
@@ -57,9 +18,6 @@ returns-2 c =
     let w = arrives-jumped (now (a .words)) (a .wire) (a .mark) _ e (sym (c .before .before .before .before .before .before .before .before .before .arrive .ensures) ∙ c .before .before .before .before .before .before .before .refusal .given .1) (sym (c .before .before .before .before .before .number .ensures) ∙ c .before .before .before .before .if1 .taken) in
     record { answers = w .answers; stores = c .before .before .store3 .ensures ∙ w .stores }
 
-same-length-3 : tie.Need-same-length-3
-same-length-3 c = search needs
-
 returns-3 : tie.Need-returns-3
 returns-3 c =
     let a = c .before .before .before .before .before .before .before .before .before .before .before .before .before .before .args in
@@ -67,18 +25,12 @@ returns-3 c =
     let w = arrives-next (now (a .words)) (a .wire) (a .mark) _ e (sym (c .before .before .before .before .before .before .before .arrive .ensures) ∙ c .before .before .before .before .before .next .given .1) in
     record { answers = w .answers; stores = c .before .before .store .ensures ∙ w .stores }
 
-same-length-4 : tie.Need-same-length-4
-same-length-4 c = search needs
-
 returns-4 : tie.Need-returns-4
 returns-4 c =
     let a = c .before .before .before .before .before .before .before .before .before .before .before .before .before .before .args in
     let e = sym (c .before .before .before .before .before .before .before .before .before .before .before .load .ensures) ∙ c .before .before .before .before .before .before .before .before .before .source .given .1 in
     let w = arrives-restarted (now (a .words)) (a .wire) (a .mark) _ e (sym (c .before .before .before .before .before .before .before .arrive .ensures) ∙ c .before .before .before .before .before .next2 .given .1) in
     record { answers = w .answers; stores = c .before .before .store2 .ensures ∙ w .stores }
-
-same-length-5 : tie.Need-same-length-5
-same-length-5 c = search needs
 
 returns-5 : tie.Need-returns-5
 returns-5 c =
@@ -91,24 +43,24 @@ pub flasknib-arrive-spec : {M : Type 1} → statement M
 flasknib-arrive-spec =
     tie.close
     (tie.spec
-    load-requires
-    enum-known-source
-    enum-told
-    same-length
+    (λ c κs. search needs)
+    (λ c. search needs)
+    (λ c. search needs)
+    (λ c. search needs)
     returns
-    arrive-requires
-    enum-known-next
-    store-requires
-    enum-known-next-2
-    store-requires-2
-    enum-known-refusal
-    number-requires
-    store-requires-3
-    same-length-2
+    (λ c κs. search needs)
+    (λ c. search needs)
+    (λ c κs. search needs)
+    (λ c. search needs)
+    (λ c κs. search needs)
+    (λ c. search needs)
+    (λ c κs. search needs)
+    (λ c κs. search needs)
+    (λ c. search needs)
     returns-2
-    same-length-3
+    (λ c. search needs)
     returns-3
-    same-length-4
+    (λ c. search needs)
     returns-4
-    same-length-5
+    (λ c. search needs)
     returns-5)

@@ -12,35 +12,11 @@ use Rattle.capi.proofs.Records.{counts-other, counts-next, counts-refus
 use Rattle.capi.proofs.sources.flasknib_count_block.Statement.{statement}
 use Rattle.capi.proofs.sources.flasknib_count_block.Tie as tie
 
-load-requires : tie.Need-load-requires
-load-requires c κs = search needs
-
-enum-known-source : tie.Need-enum-known-source
-enum-known-source c = search needs
-
-enum-told : tie.Need-enum-told
-enum-told c = search needs
-
-minus-requires : tie.Need-minus-requires
-minus-requires c κs = search needs
-
-same-length : tie.Need-same-length
-same-length c = search needs
-
 returns : tie.Need-returns
 returns c =
     let a = c .before .before .before .before .before .before .before .args in
     let w = counts-other (now (a .words)) (a .width) (now (a .records)) (sym (c .before .before .before .load .ensures) ∙ c .before .enum-told .given .1) in
     record { answers = seen-is (c .minus .result) (search needs) ∙ c .minus .ensures ∙ w .answers; stores = w .stores }
-
-count-block-requires : tie.Need-count-block-requires
-count-block-requires c κs = search needs
-
-enum-known-next : tie.Need-enum-known-next
-enum-known-next c = search needs
-
-store-requires : tie.Need-store-requires
-store-requires c κs = search needs
 
 mul-result : tie.Need-mul-result
 mul-result c =
@@ -69,15 +45,6 @@ cast-result c =
     let restarts = few-restarts _ (a .width) (now (a .records)) f in
     record { sfits = omega (arith, restarts, jumps) }
 
-enum-known-refusal : tie.Need-enum-known-refusal
-enum-known-refusal c = search needs
-
-minus-requires-2 : tie.Need-minus-requires-2
-minus-requires-2 c κs = search needs
-
-same-length-2 : tie.Need-same-length-2
-same-length-2 c = search needs
-
 returns-2 : tie.Need-returns-2
 returns-2 c =
     let a = c .before .before .before .before .before .before .before .before .before .before .before .before .before .before .before .args in
@@ -88,9 +55,6 @@ returns-2 c =
     let w = counts-next (now (a .words)) (a .width) (now (a .records)) _ e f in
     let n = c .before .before .before .before .before .next .given .0 in
     record { answers = toZ-pos w64 (256 * n .1 .1 .0 + n .1 .0) (omega (arith, restarts, jumps)) ∙ w .answers; stores = c .before .before .store .ensures ∙ w .stores }
-
-same-length-3 : tie.Need-same-length-3
-same-length-3 c = search needs
 
 returns-3 : tie.Need-returns-3
 returns-3 c =
@@ -104,21 +68,21 @@ pub flasknib-count-block-spec : {M : Type 1} → statement M
 flasknib-count-block-spec =
     tie.close
     (tie.spec
-    load-requires
-    enum-known-source
-    enum-told
-    minus-requires
-    same-length
+    (λ c κs. search needs)
+    (λ c. search needs)
+    (λ c. search needs)
+    (λ c κs. search needs)
+    (λ c. search needs)
     returns
-    count-block-requires
-    enum-known-next
-    store-requires
+    (λ c κs. search needs)
+    (λ c. search needs)
+    (λ c κs. search needs)
     mul-result
     add-result
     cast-result
-    enum-known-refusal
-    minus-requires-2
-    same-length-2
+    (λ c. search needs)
+    (λ c κs. search needs)
+    (λ c. search needs)
     returns-2
-    same-length-3
+    (λ c. search needs)
     returns-3)

@@ -14,17 +14,11 @@ negative-fits : (n : ℕ) → n < 2 ^ 63 → SFits w64 (negℤ (pos n))
 negative-fits zero h = record { sfits = omega arith }
 negative-fits (suc n) h = record { sfits = omega arith }
 
-cast-result : tie.Need-cast-result
-cast-result c = search needs
-
 sub-result : tie.Need-sub-result
 sub-result c =
     let n = c .args .n % 9223372036854775808 in
     let h : n < 2 ^ 63 = omega arith in
     subst⁻¹ (λ (z : ℤ). SFits w64 z) (ap (λ (z : ℤ). pos 0 -ℤ z) (toZ-pos w64 n h) ∙ +ℤ-idl (negℤ (pos n))) (negative-fits n h)
 
-returns : tie.Need-returns
-returns c = search needs
-
 pub minus-spec : {M : Type 1} → statement M
-minus-spec = tie.close (tie.spec cast-result sub-result returns)
+minus-spec = tie.close (tie.spec (λ c. search needs) sub-result (λ c. search needs))

@@ -8,22 +8,10 @@ use Rattle.convert.proofs.Steps.{call-malformed, call-other, call-forei
 use Rattle.convert.proofs.Run.block.Statement.{statement}
 use Rattle.convert.proofs.Run.block.Tie as tie
 
-is-sound-requires : tie.Need-is-sound-requires
-is-sound-requires c κs = search needs
-
 returns : tie.Need-returns
 returns c =
     let a = c .before .before .before .before .before .args in
     step-refuses (a .self) (now (a .zeroth)) (now (a .out)) (call-malformed (a .self) (now (a .zeroth)) (now (a .block)) (was-false (c .before .is-sound .ensures) (c .if1 .taken)))
-
-read-block-requires : tie.Need-read-block-requires
-read-block-requires c κs = search needs
-
-enum-known-read : tie.Need-enum-known-read
-enum-known-read c = search needs
-
-fault-of-requires : tie.Need-fault-of-requires
-fault-of-requires c κs = search needs
 
 returns-2 : tie.Need-returns-2
 returns-2 c =
@@ -31,9 +19,6 @@ returns-2 c =
     let read = c .before .before .read-block in
     step-refuses (a .self) (now (a .zeroth)) (now (a .out))
     (call-other (a .self) (now (a .zeroth)) (now (a .block)) (was-true (c .before .before .before .before .is-sound .ensures) (c .before .before .before .if1 .left)) (read .result) (sym (read .ensures)) (c .before .match .keys2) ∙ ap refuses (sym (c .fault-of .ensures)))
-
-is-of-trace-requires : tie.Need-is-of-trace-requires
-is-of-trace-requires c κs = search needs
 
 returns-3 : tie.Need-returns-3
 returns-3 c =
@@ -48,9 +33,6 @@ arrivals-requires c κs =
     let is = c .before .before .before .before .read .given in
     ((was-true (c .before .before .before .before .before .before .before .before .is-sound .ensures) (c .before .before .before .before .before .before .before .if1 .left)), sym (read .ensures) ∙ is .1 ∙ of-trace (c .before .before .before .before .before .before .before .before .before .before .before .before .args .self) (is .0 .0) (is .0 .1 .0) (is .0 .1 .1 .0) (was-true (c .before .before .is-of-trace .ensures) (c .before .if2 .left)))
 
-same-length : tie.Need-same-length
-same-length c = search needs
-
 returns-4 : tie.Need-returns-4
 returns-4 c =
     let a = c .before .before .before .before .before .before .before .before .before .before .before .before .before .before .before .args in
@@ -62,14 +44,14 @@ pub block-spec : {M : Type 1} → statement M
 block-spec =
     tie.close
     (tie.spec
-    is-sound-requires
+    (λ c κs. search needs)
     returns
-    read-block-requires
-    enum-known-read
-    fault-of-requires
+    (λ c κs. search needs)
+    (λ c. search needs)
+    (λ c κs. search needs)
     returns-2
-    is-of-trace-requires
+    (λ c κs. search needs)
     returns-3
     arrivals-requires
-    same-length
+    (λ c. search needs)
     returns-4)

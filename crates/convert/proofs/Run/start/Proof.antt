@@ -8,22 +8,10 @@ use Rattle.convert.proofs.Steps.{start-other, start-label}
 use Rattle.convert.proofs.Run.start.Statement.{statement}
 use Rattle.convert.proofs.Run.start.Tie as tie
 
-read-block-requires : tie.Need-read-block-requires
-read-block-requires c κs = search needs
-
-enum-known-read : tie.Need-enum-known-read
-enum-known-read c = search needs
-
-fault-of-requires : tie.Need-fault-of-requires
-fault-of-requires c κs = search needs
-
 returns : tie.Need-returns
 returns c =
     let read = c .before .before .read-block in
     ap begin.Refused (c .fault-of .ensures) ∙ sym (start-other (now (c .before .before .before .before .args .zeroth)) (read .result) (sym (read .ensures)) (c .before .match .keys2))
-
-fresh-requires : tie.Need-fresh-requires
-fresh-requires c κs = search needs
 
 returns-2 : tie.Need-returns-2
 returns-2 c =
@@ -36,9 +24,9 @@ pub start-spec : {M : Type 1} → statement M
 start-spec =
     tie.close
     (tie.spec
-    read-block-requires
-    enum-known-read
-    fault-of-requires
+    (λ c κs. search needs)
+    (λ c. search needs)
+    (λ c κs. search needs)
     returns
-    fresh-requires
+    (λ c κs. search needs)
     returns-2)

@@ -7,9 +7,6 @@ use Rattle.convert.proofs.Kept.{good, sound-good, arrived-good}
 use Rattle.convert.proofs.rows.arrivals.Statement.{statement}
 use Rattle.convert.proofs.rows.arrivals.Tie as tie
 
-counted-requires : tie.Need-counted-requires
-counted-requires c κs = search needs
-
 row-requires : tie.Need-row-requires
 row-requires c κs =
     let s = c .before .before .before .before .before in
@@ -17,11 +14,8 @@ row-requires c κs =
     rw (c .before .counted .ensures)
     (sound-good (arrived-good (s .args .run) (now (s .args .zeroth)) (s .args .n) (now (s .args .block)) octets (good (s .pre .0))))
 
-same-length : tie.Need-same-length
-same-length c = search needs
-
 returns : tie.Need-returns
 returns c = rw (← c .before .before .before .before .counted .ensures) (c .before .before .row .ensures)
 
 pub arrivals-spec : {M : Type 1} → statement M
-arrivals-spec = tie.close (tie.spec counted-requires row-requires same-length returns)
+arrivals-spec = tie.close (tie.spec (λ c κs. search needs) row-requires (λ c. search needs) returns)

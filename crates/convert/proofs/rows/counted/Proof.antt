@@ -13,9 +13,6 @@ use Rattle.convert.specs.Runs.{arrived}
 use Rattle.convert.proofs.rows.counted.Statement.{statement}
 use Rattle.convert.proofs.rows.counted.Tie as tie
 
-width-requires : tie.Need-width-requires
-width-requires c κs = search needs
-
 mul-end : tie.Need-mul-end
 mul-end c =
     let s = c .before .before .before .before in
@@ -30,24 +27,12 @@ add-end c =
     let few : s .args .n * c .width .result ≤ bodyBytes = rw (c .width .ensures) (h .block .room) in
     omega arith
 
-sub-count-block : tie.Need-sub-count-block
-sub-count-block c = search needs
-
-part-count-block-start : tie.Need-part-count-block-start
-part-count-block-start c = search needs
-
 part-count-block-end : tie.Need-part-count-block-end
 part-count-block-end c =
     let s = c .before .before .before .before in
     let h = accepted (now (s .args .block)) (s .pre) in
     let few : s .args .n * c .width .result ≤ bodyBytes = rw (c .width .ensures) (h .block .room) in
     omega (arith, h .block .whole)
-
-count-block-requires : tie.Need-count-block-requires
-count-block-requires c κs = search needs
-
-with-block-requires : tie.Need-with-block-requires
-with-block-requires c κs = search needs
 
 returns : tie.Need-returns
 unfolding arrived
@@ -65,12 +50,12 @@ pub counted-spec : {M : Type 1} → statement M
 counted-spec =
     tie.close
     (tie.spec
-    width-requires
+    (λ c κs. search needs)
     mul-end
     add-end
-    sub-count-block
-    part-count-block-start
+    (λ c. search needs)
+    (λ c. search needs)
     part-count-block-end
-    count-block-requires
-    with-block-requires
+    (λ c κs. search needs)
+    (λ c κs. search needs)
     returns)

@@ -31,29 +31,8 @@ written-row c =
 add-end : tie.Need-add-end
 add-end c = omega (arith, good (c .before .before .before .pre) .short)
 
-sub-write-row : tie.Need-sub-write-row
-sub-write-row c = search needs
-
-part-write-row-start : tie.Need-part-write-row-start
-part-write-row-start c = search needs
-
 part-write-row-end : tie.Need-part-write-row-end
 part-write-row-end c = let g = good (c .before .before .before .pre) in omega (arith, g .short, whole g)
-
-write-row-requires : tie.Need-write-row-requires
-write-row-requires c κs = search needs
-
-enum-known-n : tie.Need-enum-known-n
-enum-known-n c = search needs
-
-enum-known-n-2 : tie.Need-enum-known-n-2
-enum-known-n-2 c = search needs
-
-enum-known-refusal : tie.Need-enum-known-refusal
-enum-known-refusal c = search needs
-
-same-length : tie.Need-same-length
-same-length c = search needs
 
 returns : tie.Need-returns
 returns c =
@@ -62,18 +41,12 @@ returns c =
     let zeroth = now (s .args .zeroth) in
     step-goes (s .args .run) zeroth (now (s .args .out)) (written-row (c .before .before .before .before .before)) (sym (ap (stepBy (s .args .run) (goes next)) (c .before .n .given .1)))
 
-same-length-2 : tie.Need-same-length-2
-same-length-2 c = search needs
-
 returns-2 : tie.Need-returns-2
 returns-2 c =
     let s = c .before .before .before .before .before .before .before .before .before .before .before in
     let next = s .args .next in
     let zeroth = now (s .args .zeroth) in
     step-goes (s .args .run) zeroth (now (s .args .out)) (written-row (c .before .before .before .before .before)) (sym (ap (stepBy (s .args .run) (goes next)) (c .before .n2 .given .1)))
-
-same-length-3 : tie.Need-same-length-3
-same-length-3 c = search needs
 
 returns-3 : tie.Need-returns-3
 returns-3 c =
@@ -87,16 +60,16 @@ row-spec =
     tie.close
     (tie.spec
     add-end
-    sub-write-row
-    part-write-row-start
+    (λ c. search needs)
+    (λ c. search needs)
     part-write-row-end
-    write-row-requires
-    enum-known-n
-    enum-known-n-2
-    enum-known-refusal
-    same-length
+    (λ c κs. search needs)
+    (λ c. search needs)
+    (λ c. search needs)
+    (λ c. search needs)
+    (λ c. search needs)
     returns
-    same-length-2
+    (λ c. search needs)
     returns-2
-    same-length-3
+    (λ c. search needs)
     returns-3)

@@ -10,15 +10,6 @@ use Rattle.convert.proofs.Kept.{totals-last}
 use Rattle.convert.proofs.soundness.are_sound.Statement.{statement}
 use Rattle.convert.proofs.soundness.are_sound.Tie as tie
 
-lost-requires : tie.Need-lost-requires
-lost-requires c κs = search needs
-
-enum-told : tie.Need-enum-told
-enum-told c = search needs
-
-enum-told-2 : tie.Need-enum-told-2
-enum-told-2 c = search needs
-
 returns : tie.Need-returns
 returns c = let t = c .before .before .before .before .args .t in all-false (soundTotals t) 0 (lost-refused (t .source) (sym (c .before .before .lost .ensures) ∙ c .enum-told2 .given .1))
 
@@ -31,4 +22,4 @@ returns-3 c =
     totals-last t (lost-packets (t .source) (sym (c .before .before .before .before .before .lost .ensures) ∙ c .before .before .before .enum-told .given .1) .good) (c .before .if1 .left)
 
 pub are-sound-spec : {M : Type 1} → statement M
-are-sound-spec = tie.close (tie.spec lost-requires enum-told enum-told-2 returns returns-2 returns-3)
+are-sound-spec = tie.close (tie.spec (λ c κs. search needs) (λ c. search needs) (λ c. search needs) returns returns-2 returns-3)

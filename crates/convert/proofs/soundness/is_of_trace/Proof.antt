@@ -8,12 +8,6 @@ use Rattle.format.specs.Forms.{shapeOf, sameForm}
 use Rattle.convert.proofs.soundness.is_of_trace.Statement.{statement}
 use Rattle.convert.proofs.soundness.is_of_trace.Tie as tie
 
-label-requires : tie.Need-label-requires
-label-requires c κs = search needs
-
-label-requires-2 : tie.Need-label-requires-2
-label-requires-2 c κs = search needs
-
 returns : tie.Need-returns
 returns c =
     let a = c .before .before .before .args in
@@ -27,4 +21,4 @@ returns-2 c =
     rw same
 
 pub is-of-trace-spec : {M : Type 1} → statement M
-is-of-trace-spec = tie.close (tie.spec label-requires label-requires-2 returns returns-2)
+is-of-trace-spec = tie.close (tie.spec (λ c κs. search needs) (λ c κs. search needs) returns returns-2)

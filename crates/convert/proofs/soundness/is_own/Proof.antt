@@ -16,12 +16,6 @@ use Rattle.convert.proofs.soundness.is_own.Tie as tie
 returns : tie.Need-returns
 returns c = let a = c .before .before .args in all-false (ownLabel (a .run) (now (a .zeroth))) 0 (ne-eqb (length (now (a .zeroth))) blockBytes (c .if1 .taken))
 
-read16-requires : tie.Need-read16-requires
-read16-requires c κs = search needs
-
-label-requires : tie.Need-label-requires
-label-requires c κs = search needs
-
 returns-2 : tie.Need-returns-2
 returns-2 c =
     let a = c .before .before .before .before .before .args in
@@ -29,20 +23,11 @@ returns-2 c =
     let label = c .before .label in
     all-false (ownLabel (a .run) (now (a .zeroth))) 1 (ap₂ eqb (sym (kind .ensures)) (sym (label .ensures)) ∙ ne-eqb (kind .result) (label .result) (c .if2 .taken))
 
-read16-requires-2 : tie.Need-read16-requires-2
-read16-requires-2 c κs = search needs
-
-cast-if3 : tie.Need-cast-if3
-cast-if3 c = search needs
-
 returns-3 : tie.Need-returns-3
 returns-3 c =
     let a = c .before .before .before .before .before .before .before .before .args in
     let count = c .before .before .read162 in
     all-false (ownLabel (a .run) (now (a .zeroth))) 2 (ap (λ (n : ℕ). eqb n (a .run .length)) (sym (count .ensures)) ∙ ne-eqb (count .result) (a .run .length) (c .if3 .taken))
-
-read32-requires : tie.Need-read32-requires
-read32-requires c κs = search needs
 
 returns-4 : tie.Need-returns-4
 returns-4 c =
@@ -57,11 +42,11 @@ is-own-spec =
     tie.close
     (tie.spec
     returns
-    read16-requires
-    label-requires
+    (λ c κs. search needs)
+    (λ c κs. search needs)
     returns-2
-    read16-requires-2
-    cast-if3
+    (λ c κs. search needs)
+    (λ c. search needs)
     returns-3
-    read32-requires
+    (λ c κs. search needs)
     returns-4)

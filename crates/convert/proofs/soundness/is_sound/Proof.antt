@@ -14,9 +14,6 @@ use Rattle.convert.proofs.Kept.{sound-last}
 use Rattle.convert.proofs.soundness.is_sound.Statement.{statement}
 use Rattle.convert.proofs.soundness.is_sound.Tie as tie
 
-is-own-requires : tie.Need-is-own-requires
-is-own-requires c κs = search needs
-
 returns : tie.Need-returns
 unfolding soundRun
 returns c = let a = c .before .before .before .before .args in all-false (runConditions (a .run) (now (a .zeroth))) 0 (was-false (c .before .is-own .ensures) (c .if1 .taken))
@@ -25,24 +22,12 @@ returns-2 : tie.Need-returns-2
 unfolding soundRun
 returns-2 c = let a = c .before .before .before .before .before .args in all-false (runConditions (a .run) (now (a .zeroth))) 1 (lt-leb (a .run .length) bodyBytes (c .if2 .taken))
 
-add-end : tie.Need-add-end
-add-end c = search needs
-
-sub-is-label : tie.Need-sub-is-label
-sub-is-label c = search needs
-
-part-is-label-start : tie.Need-part-is-label-start
-part-is-label-start c = search needs
-
 part-is-label-end : tie.Need-part-is-label-end
 part-is-label-end c =
     let a = c .before .before .before .before .before .args in
     let own = was-true (c .before .before .is-own .ensures) (c .before .if1 .left) in
     let whole = eqb-true (length (now (a .zeroth))) blockBytes (all-true (ownLabel (a .run) (now (a .zeroth))) 0 own) in
     omega arith
-
-is-label-requires : tie.Need-is-label-requires
-is-label-requires c κs = search needs
 
 returns-3 : tie.Need-returns-3
 unfolding soundRun
@@ -51,9 +36,6 @@ returns-3 c =
     let same : 8 + a .run .length - 8 ≡ a .run .length = omega arith in
     let label = ap (λ (k : ℕ). take k (drop 8 (now (a .zeroth)))) same in
     all-false (runConditions (a .run) (now (a .zeroth))) 2 (ap labelOk (sym label) ∙ was-false (c .before .is-label .ensures) (c .if3 .taken))
-
-are-sound-requires : tie.Need-are-sound-requires
-are-sound-requires c κs = search needs
 
 returns-4 : tie.Need-returns-4
 returns-4 c =
@@ -67,14 +49,14 @@ pub is-sound-spec : {M : Type 1} → statement M
 is-sound-spec =
     tie.close
     (tie.spec
-    is-own-requires
+    (λ c κs. search needs)
     returns
     returns-2
-    add-end
-    sub-is-label
-    part-is-label-start
+    (λ c. search needs)
+    (λ c. search needs)
+    (λ c. search needs)
     part-is-label-end
-    is-label-requires
+    (λ c κs. search needs)
     returns-3
-    are-sound-requires
+    (λ c κs. search needs)
     returns-4)

@@ -9,22 +9,10 @@ use Rattle.engine.specs.Lean.{awaitedIn}
 use Rattle.engine.proofs.lean.awaited_in.Statement.{statement}
 use Rattle.engine.proofs.lean.awaited_in.Tie as tie
 
-enum-told : tie.Need-enum-told
-enum-told c = search needs
-
-enum-known-remembered : tie.Need-enum-known-remembered
-enum-known-remembered c = search needs
-
-cast-result : tie.Need-cast-result
-cast-result c = search needs
-
-returns : tie.Need-returns
-returns c = search needs
-
 returns-2 : tie.Need-returns-2
 returns-2 c =
     (sym (ap awaitedIn (c .before .before .remembered .given .1)), subst (λ (r : Remembered). wireNumber r ≡ true) (sym (c .before .before .remembered .given .1)) (lt-ltb (c .before .before .remembered .given .0 .0 .0) 65536 (search needs)))
 
 pub awaited-in-spec : {M : Type 1} → statement M
 awaited-in-spec =
-    tie.close (tie.spec enum-told enum-known-remembered cast-result returns returns-2)
+    tie.close (tie.spec (λ c. search needs) (λ c. search needs) (λ c. search needs) (λ c. search needs) returns-2)

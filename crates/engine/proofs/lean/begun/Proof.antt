@@ -6,15 +6,6 @@ use mathlib.Core.Path.{ap, _∙_}
 use Rattle.engine.proofs.lean.begun.Statement.{statement}
 use Rattle.engine.proofs.lean.begun.Tie as tie
 
-awaited-in-requires : tie.Need-awaited-in-requires
-awaited-in-requires c κs = search needs
-
-magnitude-requires : tie.Need-magnitude-requires
-magnitude-requires c κs = search needs
-
-magnitude-requires-2 : tie.Need-magnitude-requires-2
-magnitude-requires-2 c κs = search needs
-
 returns : tie.Need-returns
 returns c =
     let w = c .before .before .before .before .awaited-in .ensures in
@@ -25,4 +16,4 @@ returns c =
 
 pub begun-spec : {M : Type 1} → statement M
 begun-spec =
-    tie.close (tie.spec awaited-in-requires magnitude-requires magnitude-requires-2 returns)
+    tie.close (tie.spec (λ c κs. search needs) (λ c κs. search needs) (λ c κs. search needs) returns)

@@ -10,45 +10,21 @@ use Rattle.engine.specs.Lean.{byte, since, restored}
 use Rattle.engine.proofs.lean.restored.Statement.{statement}
 use Rattle.engine.proofs.lean.restored.Tie as tie
 
-remembered-as-requires : tie.Need-remembered-as-requires
-remembered-as-requires c κs = search needs
-
-cast-t6 : tie.Need-cast-t6
-cast-t6 c = search needs
-
-cast-t8 : tie.Need-cast-t8
-cast-t8 c = search needs
-
-since-requires : tie.Need-since-requires
-since-requires c κs = search needs
-
 add-t13 : tie.Need-add-t13
 add-t13 c =
     let f = facts (c .before .before .before .before .before .args .s) (c .before .before .before .before .before .pre .0) in omega (arith, f .most, f .fewer, c .since .ensures .1)
-
-since-requires-2 : tie.Need-since-requires-2
-since-requires-2 c κs = search needs
 
 add-t17 : tie.Need-add-t17
 add-t17 c =
     let f = facts (c .before .before .before .before .before .before .args .s) (c .before .before .before .before .before .before .pre .0) in omega (arith, f .most, f .fewer, c .since2 .ensures .1)
 
-since-requires-3 : tie.Need-since-requires-3
-since-requires-3 c κs = search needs
-
 add-t21 : tie.Need-add-t21
 add-t21 c =
     let f = facts (c .before .before .before .before .before .before .before .args .s) (c .before .before .before .before .before .before .before .pre .0) in omega (arith, f .most, f .fewer, c .since3 .ensures .1)
 
-since-requires-4 : tie.Need-since-requires-4
-since-requires-4 c κs = search needs
-
 add-t25 : tie.Need-add-t25
 add-t25 c =
     let f = facts (c .before .before .before .before .before .before .before .before .args .s) (c .before .before .before .before .before .before .before .before .pre .0) in omega (arith, f .most, f .fewer, c .since4 .ensures .1)
-
-since-requires-5 : tie.Need-since-requires-5
-since-requires-5 c κs = search needs
 
 add-t29 : tie.Need-add-t29
 add-t29 c =
@@ -75,17 +51,17 @@ pub restored-spec : {M : Type 1} → statement M
 restored-spec =
     tie.close
     (tie.spec
-    remembered-as-requires
-    cast-t6
-    cast-t8
-    since-requires
+    (λ c κs. search needs)
+    (λ c. search needs)
+    (λ c. search needs)
+    (λ c κs. search needs)
     add-t13
-    since-requires-2
+    (λ c κs. search needs)
     add-t17
-    since-requires-3
+    (λ c κs. search needs)
     add-t21
-    since-requires-4
+    (λ c κs. search needs)
     add-t25
-    since-requires-5
+    (λ c κs. search needs)
     add-t29
     returns)

@@ -7,16 +7,10 @@ use Rattle.engine.proofs.Counts.{none-in, some-in}
 use Rattle.engine.proofs.limits.whole_records.Statement.{statement}
 use Rattle.engine.proofs.limits.whole_records.Tie as tie
 
-rem-rest : tie.Need-rem-rest
-rem-rest c = search needs
-
 returns : tie.Need-returns
 returns c =
     let a = c .before .args in
     none-in (a .width) (a .size) 1 (ne-eqb (a .size % a .width) 0 (λ e. omega (arith, e)))
-
-div-n : tie.Need-div-n
-div-n c = search needs
 
 returns-2 : tie.Need-returns-2
 returns-2 c =
@@ -29,4 +23,4 @@ returns-3 c =
     some-in (a .width) (a .size) (c .before .before .pre) (omega arith) (c .if2 .left)
 
 pub whole-records-spec : {M : Type 1} → statement M
-whole-records-spec = tie.close (tie.spec rem-rest returns div-n returns-2 returns-3)
+whole-records-spec = tie.close (tie.spec (λ c. search needs) returns (λ c. search needs) returns-2 returns-3)

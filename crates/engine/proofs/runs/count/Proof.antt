@@ -15,9 +15,6 @@ use Rattle.engine.proofs.Turns.{begun-fits, run-behind}
 use Rattle.engine.proofs.runs.count.Statement.{statement}
 use Rattle.engine.proofs.runs.count.Tie as tie
 
-begun-requires : tie.Need-begun-requires
-begun-requires c κs = search needs
-
 along-requires : tie.Need-along-requires
 along-requires c κs =
     let p = c .before .before in
@@ -45,4 +42,4 @@ returns c =
     (subst (λ (x : Source). Behind (p .args .s) ps x (byte 0 counts) (byte 6 counts)) (sym source) stands)
 
 pub count-spec : {M : Type 1} → statement M
-count-spec = tie.close (tie.spec begun-requires along-requires restored-requires returns)
+count-spec = tie.close (tie.spec (λ c κs. search needs) along-requires restored-requires returns)

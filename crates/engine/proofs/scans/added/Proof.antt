@@ -49,12 +49,6 @@ returns-4 c =
     let p = c .before .before .before .before .before in
     subst (λ (w : ℕ). SumsOf (p .args .turned) (held w (now (p .args .records))) (c .added-up4 .result)) (sym (c .before .before .if3 .taken)) (c .added-up4 .ensures)
 
-added-up-requires-5 : tie.Need-added-up-requires-5
-added-up-requires-5 c κs = search needs
-
-returns-5 : tie.Need-returns-5
-returns-5 c = search needs
-
 pub added-spec : {M : Type 1} → statement M
 added-spec =
     tie.close
@@ -67,5 +61,5 @@ added-spec =
     returns-3
     added-up-requires-4
     returns-4
-    added-up-requires-5
-    returns-5)
+    (λ c κs. search needs)
+    (λ c. search needs))

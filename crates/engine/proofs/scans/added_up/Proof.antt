@@ -54,9 +54,6 @@ add-threes-2 c = omega (arith, few (c .before) .2)
 add-fours : tie.Need-add-fours Inv-loop μ-loop
 add-fours c = omega (arith, few (c .before) .3)
 
-differs-requires : tie.Need-differs-requires Inv-loop μ-loop
-differs-requires c κs = search needs
-
 add-strays : tie.Need-add-strays Inv-loop μ-loop
 add-strays c = omega (arith, few (c .before .before) .4, c .differs .ensures, bit-le (not (eqb (c .before .ending .result % 65536) (c .before .before .before .loop .expected))))
 
@@ -94,7 +91,7 @@ added-up-spec =
     add-threes
     add-threes-2
     add-fours
-    differs-requires
+    (λ c κs. search needs)
     add-strays
     add-expected
     add-at

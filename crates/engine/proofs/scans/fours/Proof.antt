@@ -45,12 +45,6 @@ returns-4 c =
     let p = c .before .before .before .before .before in
     subst (λ (w : ℕ). c .fours-along4 .result ≡ total (λ t. t / 4) (held w (now (p .args .records)))) (sym (c .before .before .if3 .taken)) (c .fours-along4 .ensures)
 
-fours-along-requires-5 : tie.Need-fours-along-requires-5
-fours-along-requires-5 c κs = search needs
-
-returns-5 : tie.Need-returns-5
-returns-5 c = search needs
-
 pub fours-spec : {M : Type 1} → statement M
 fours-spec =
     tie.close
@@ -63,5 +57,5 @@ fours-spec =
     returns-3
     fours-along-requires-4
     returns-4
-    fours-along-requires-5
-    returns-5)
+    (λ c κs. search needs)
+    (λ c. search needs))

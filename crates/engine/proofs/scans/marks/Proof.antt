@@ -11,25 +11,10 @@ use Rattle.engine.proofs.Marked.{some-fours, twice-fit, ones-fit, ones-
 use Rattle.engine.proofs.scans.marks.Statement.{statement}
 use Rattle.engine.proofs.scans.marks.Tie as tie
 
-added-requires : tie.Need-added-requires
-added-requires c κs = search needs
-
 returns : tie.Need-returns
 returns c =
     let a = c .before .before .before .before .args in
     rw (some-fours (held (a .width) (now (a .records))) (omega (arith, c .if1 .taken, c .before .before .added .ensures .fours)))
-
-cast-whole : tie.Need-cast-whole
-cast-whole c = search needs
-
-cast-halves : tie.Need-cast-halves
-cast-halves c = search needs
-
-cast-threes : tie.Need-cast-threes
-cast-threes c = search needs
-
-mul-ones : tie.Need-mul-ones
-mul-ones c = search needs
 
 sub-ones : tie.Need-sub-ones
 sub-ones c =
@@ -86,9 +71,6 @@ sub-t15 c =
     (known-halves (p .args .width) s (p .args .n) (p .args .turned) (d .result) h (d .ensures) none) (known-threes (p .args .width) s (p .args .n) (p .args .turned) (d .result) h (d .ensures) none)
     (known-all (p .args .width) s (p .args .n) (p .args .turned) (d .result) h (d .ensures) none)
 
-cast-t16 : tie.Need-cast-t16
-cast-t16 c = search needs
-
 returns-2 : tie.Need-returns-2
 returns-2 c =
     let p = c .before .before .before .before .before .before .before .before in
@@ -111,16 +93,16 @@ pub marks-spec : {M : Type 1} → statement M
 marks-spec =
     tie.close
     (tie.spec
-    added-requires
+    (λ c κs. search needs)
     returns
-    cast-whole
-    cast-halves
-    cast-threes
-    mul-ones
+    (λ c. search needs)
+    (λ c. search needs)
+    (λ c. search needs)
+    (λ c. search needs)
     sub-ones
     sub-ones-2
     sub-t13
     sub-t14
     sub-t15
-    cast-t16
+    (λ c. search needs)
     returns-2)

@@ -13,20 +13,8 @@ cast-lowest c = omega (arith, lowest-le (c .args .bits))
 sub-up : tie.Need-sub-up
 sub-up c = lowest-le (c .args .bits)
 
-shl-old : tie.Need-shl-old
-shl-old c = search needs
-
 shr-recent : tie.Need-shr-recent
 shr-recent c = omega (arith, lowest-le (c .before .args .bits))
-
-shl-older : tie.Need-shl-older
-shl-older c = search needs
-
-sub-older : tie.Need-sub-older
-sub-older c = search needs
-
-shr-older : tie.Need-shr-older
-shr-older c = search needs
 
 cast-before : tie.Need-cast-before
 cast-before c = let a = c .before .before .before .args in omega (arith, old-few (a .h) (search needs) (search needs) (a .bits) (search needs))
@@ -52,11 +40,11 @@ moved-on-spec =
     (tie.spec
     cast-lowest
     sub-up
-    shl-old
+    (λ c. search needs)
     shr-recent
-    shl-older
-    sub-older
-    shr-older
+    (λ c. search needs)
+    (λ c. search needs)
+    (λ c. search needs)
     cast-before
     cast-behind
     sub-t15

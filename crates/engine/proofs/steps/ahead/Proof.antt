@@ -6,18 +6,6 @@ use Rattle.engine.proofs.Chosen.{raised-same}
 use Rattle.engine.proofs.steps.ahead.Statement.{statement}
 use Rattle.engine.proofs.steps.ahead.Tie as tie
 
-moved-far-requires : tie.Need-moved-far-requires
-moved-far-requires c κs = search needs
-
-add-raised : tie.Need-add-raised
-add-raised c = search needs
-
-unit-requires : tie.Need-unit-requires
-unit-requires c κs = search needs
-
-raised-requires : tie.Need-raised-requires
-raised-requires c κs = search needs
-
 returns : tie.Need-returns
 unfolding ahead
 returns c =
@@ -25,4 +13,4 @@ returns c =
 
 pub ahead-spec : {M : Type 1} → statement M
 ahead-spec =
-    tie.close (tie.spec moved-far-requires add-raised unit-requires raised-requires returns)
+    tie.close (tie.spec (λ c κs. search needs) (λ c. search needs) (λ c κs. search needs) (λ c κs. search needs) returns)

@@ -6,19 +6,10 @@ use Rattle.engine.specs.Lean.{jumped}
 use Rattle.engine.proofs.steps.jumped.Statement.{statement}
 use Rattle.engine.proofs.steps.jumped.Tie as tie
 
-restarted-requires : tie.Need-restarted-requires
-restarted-requires c κs = search needs
-
 returns : tie.Need-returns
 unfolding jumped
 returns c =
     let a = c .before .before .before .before .args in c .restarted .ensures ∙ rw (eq-eqb (a .number) (a .t .awaited) (c .before .if1 .taken)) refl
-
-add-t6 : tie.Need-add-t6
-add-t6 c = search needs
-
-add-t8 : tie.Need-add-t8
-add-t8 c = search needs
 
 returns-2 : tie.Need-returns-2
 unfolding jumped
@@ -26,4 +17,4 @@ returns-2 c =
     let a = c .before .before .before .before .args in rw (ne-eqb (a .number) (a .t .awaited) (c .before .if1 .left)) refl
 
 pub jumped-spec : {M : Type 1} → statement M
-jumped-spec = tie.close (tie.spec restarted-requires returns add-t6 add-t8 returns-2)
+jumped-spec = tie.close (tie.spec (λ c κs. search needs) returns (λ c. search needs) (λ c. search needs) returns-2)

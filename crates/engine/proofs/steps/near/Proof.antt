@@ -12,37 +12,10 @@ use Rattle.engine.proofs.Chosen.{raised-same, nearBy, near-taken}
 use Rattle.engine.proofs.steps.near.Statement.{statement}
 use Rattle.engine.proofs.steps.near.Tie as tie
 
-rise-requires : tie.Need-rise-requires
-rise-requires c κs = search needs
-
-fall-requires : tie.Need-fall-requires
-fall-requires c κs = search needs
-
-moved-requires : tie.Need-moved-requires
-moved-requires c κs = search needs
-
-mark-at-requires : tie.Need-mark-at-requires
-mark-at-requires c κs = search needs
-
 with-mark-requires : tie.Need-with-mark-requires
 with-mark-requires c κs =
     let a = c .before .before .before .before .before .args in
     (c .before .before .fall .ensures .1, subst (λ (h : History). h .older < 2 ^ 36) (sym (c .before .moved .ensures)) (pack-lt 36 (λ k. moved (c .before .before .before .rise .result) (marks (a .t .history)) (64 + k))))
-
-add-raised : tie.Need-add-raised
-add-raised c = search needs
-
-unit-requires : tie.Need-unit-requires
-unit-requires c κs = search needs
-
-mul-raised : tie.Need-mul-raised
-mul-raised c = search needs
-
-add-raised-2 : tie.Need-add-raised-2
-add-raised-2 c = search needs
-
-raised-requires : tie.Need-raised-requires
-raised-requires c κs = search needs
 
 returns : tie.Need-returns
 returns c =
@@ -62,14 +35,14 @@ pub near-spec : {M : Type 1} → statement M
 near-spec =
     tie.close
     (tie.spec
-    rise-requires
-    fall-requires
-    moved-requires
-    mark-at-requires
+    (λ c κs. search needs)
+    (λ c κs. search needs)
+    (λ c κs. search needs)
+    (λ c κs. search needs)
     with-mark-requires
-    add-raised
-    unit-requires
-    mul-raised
-    add-raised-2
-    raised-requires
+    (λ c. search needs)
+    (λ c κs. search needs)
+    (λ c. search needs)
+    (λ c. search needs)
+    (λ c κs. search needs)
     returns)

@@ -21,22 +21,10 @@ size c = c .magnitude .ensures ∙ ap natAbs (seen-is (c .before .before .before
 told : (c : tie.After-find) → c .find .result ≡ foundIn (topOf (c .before .before .before .before .before .args .s)) (held (c .before .before .before .before .before .args .width) (now (c .before .before .before .before .before .args .records)))
 told c = c .find .ensures ∙ ap (λ (m : ℕ). foundIn (m % 65536 + 40) (held (c .before .before .before .before .before .args .width) (now (c .before .before .before .before .before .args .records)))) (size (c .before))
 
-magnitude-requires : tie.Need-magnitude-requires
-magnitude-requires c κs = search needs
-
-add-top : tie.Need-add-top
-add-top c = search needs
-
 find-requires : tie.Need-find-requires
 find-requires c κs =
     let p = c .before .before .before .before in
     ((p .pre .0 .0, omega arith), (p .pre .1 .0, scan-strays (p .args .width) (now (p .args .records)) (p .args .n) (turned (p .args .first)) (p .pre .0 .0) (p .args .scan) (p .pre .1 .1)))
-
-enum-known-found : tie.Need-enum-known-found
-enum-known-found c = search needs
-
-enum-told : tie.Need-enum-told
-enum-told c = search needs
 
 returns : tie.Need-returns
 returns c =
@@ -83,11 +71,11 @@ pub placed-spec : {M : Type 1} → statement M
 placed-spec =
     tie.close
     (tie.spec
-    magnitude-requires
-    add-top
+    (λ c κs. search needs)
+    (λ c. search needs)
     find-requires
-    enum-known-found
-    enum-told
+    (λ c. search needs)
+    (λ c. search needs)
     returns
     moved-on-requires
     settled-requires

@@ -41,9 +41,6 @@ module _ (s : Source) (n : ℕ) (scan : Scan) (shifted : Shifted) (a : Added s n
 size : (c : tie.After-magnitude) → c .magnitude .result ≡ natAbs (c .before .before .before .before .before .args .s .highest .0)
 size c = c .magnitude .ensures ∙ ap natAbs (seen-is (c .before .before .before .before .before .args .s .highest .0) (search needs))
 
-magnitude-requires : tie.Need-magnitude-requires
-magnitude-requires c κs = search needs
-
 add-t9 : tie.Need-add-t9
 add-t9 c =
     let m = size (c .before) in
@@ -56,12 +53,6 @@ cast-t10 : tie.Need-cast-t10
 cast-t10 c =
     let m = size (c .before) in
     record { sfits = rw m (height-small (c .before .before .before .before .before .before .args .s) (c .before .before .before .before .before .before .args .n) (c .before .before .before .before .before .before .args .scan) (c .before .before .before .before .before .before .args .shifted) (c .before .before .before .before .before .before .pre)) }
-
-add-t12 : tie.Need-add-t12
-add-t12 c = search needs
-
-add-t13 : tie.Need-add-t13
-add-t13 c = search needs
 
 add-t14 : tie.Need-add-t14
 add-t14 c = record { fits = ect0-fits (c .before .before .before .before .before .before .before .before .before .before .before .before .args .s) (c .before .before .before .before .before .before .before .before .before .before .before .before .args .n) (c .before .before .before .before .before .before .before .before .before .before .before .before .args .scan) (c .before .before .before .before .before .before .before .before .before .before .before .before .args .shifted) (c .before .before .before .before .before .before .before .before .before .before .before .before .pre) }
@@ -99,11 +90,11 @@ pub settled-spec : {M : Type 1} → statement M
 settled-spec =
     tie.close
     (tie.spec
-    magnitude-requires
+    (λ c κs. search needs)
     add-t9
     cast-t10
-    add-t12
-    add-t13
+    (λ c. search needs)
+    (λ c. search needs)
     add-t14
     add-t15
     sub-t17

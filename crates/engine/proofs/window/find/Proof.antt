@@ -24,9 +24,6 @@ narrow c =
     let a = c .before .args in
     rw (c .before .pre .1 .0) (word-lt (now (a .records)) (a .width - 4) 2 (octets c))
 
-add-below : tie.Need-add-below
-add-below c = search needs
-
 sub-below : tie.Need-sub-below
 sub-below c = omega (arith, narrow c)
 
@@ -34,9 +31,6 @@ returns : tie.Need-returns
 returns c =
     let p = c .before .before in
     rw (first-outside (p .args .top) (p .args .width) (now (p .args .records)) (p .args .n) (p .pre .0 .0) (rw (p .pre .1 .0) at (c .if1 .taken)))
-
-row-requires : tie.Need-row-requires
-row-requires c κs = search needs
 
 returns-2 : tie.Need-returns-2
 returns-2 c =
@@ -47,9 +41,6 @@ returns-2 c =
     c .row .ensures ∙ ap (λ (n : ℕ). rowFrom n ((a .top + 65536 - a .first) % 65536)) (sym size)
     ∙ row-found (a .top) (held (a .width) s) (a .first) ((a .top + 65536 - a .first) % 65536) (narrow (c .before .before .before))
     (packets-wired (a .width) (length s / a .width) s (octets (c .before .before .before))) (sym (p .pre .1 .1) ∙ c .before .if2 .taken) refl (c .before .before .if1 .left)
-
-seen-in-requires : tie.Need-seen-in-requires
-seen-in-requires c κs = search needs
 
 returns-3 : tie.Need-returns-3
 returns-3 c =
@@ -68,11 +59,11 @@ pub find-spec : {M : Type 1} → statement M
 find-spec =
     tie.close
     (tie.spec
-    add-below
+    (λ c. search needs)
     sub-below
     returns
-    row-requires
+    (λ c κs. search needs)
     returns-2
-    seen-in-requires
+    (λ c κs. search needs)
     returns-3
     returns-4)

@@ -11,20 +11,11 @@ use Rattle.engine.proofs.InRow.{row-bits}
 use Rattle.engine.proofs.window.row.Statement.{statement}
 use Rattle.engine.proofs.window.row.Tie as tie
 
-sub-last : tie.Need-sub-last
-sub-last c = search needs
-
 returns : tie.Need-returns
 returns c = let a = c .before .args in rw (lt-leb (a .n) (a .below + 1) (omega arith))
 
-shl-t6 : tie.Need-shl-t6
-shl-t6 c = search needs
-
 sub-t7 : tie.Need-sub-t7
 sub-t7 c = let a = c .before .args in rw (one-shl (a .n) (omega arith)) (pow-pos (a .n))
-
-shl-t9 : tie.Need-shl-t9
-shl-t9 c = search needs
 
 returns-2 : tie.Need-returns-2
 returns-2 c =
@@ -34,4 +25,4 @@ returns-2 c =
     rw (le-leb (a .n) (a .below + 1) few, one-shl (a .n) (omega arith)) (ap At (row-bits (a .n) (a .below - (a .n - 1)) (a .below) sum (c .before .pre .2)))
 
 pub row-spec : {M : Type 1} → statement M
-row-spec = tie.close (tie.spec sub-last returns shl-t6 sub-t7 shl-t9 returns-2)
+row-spec = tie.close (tie.spec (λ c. search needs) returns (λ c. search needs) sub-t7 (λ c. search needs) returns-2)

@@ -48,12 +48,6 @@ returns-4 c =
     let p = c .before .before .before .before .before in
     subst (λ (w : ℕ). SeenIn (p .args .top) (held w (now (p .args .records))) (c .seen-along4 .result)) (sym (c .before .before .if3 .taken)) (c .seen-along4 .ensures)
 
-seen-along-requires-5 : tie.Need-seen-along-requires-5
-seen-along-requires-5 c κs = search needs
-
-returns-5 : tie.Need-returns-5
-returns-5 c = search needs
-
 pub seen-in-spec : {M : Type 1} → statement M
 seen-in-spec =
     tie.close
@@ -66,5 +60,5 @@ seen-in-spec =
     returns-3
     seen-along-requires-4
     returns-4
-    seen-along-requires-5
-    returns-5)
+    (λ c κs. search needs)
+    (λ c. search needs))

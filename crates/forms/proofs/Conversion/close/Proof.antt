@@ -15,20 +15,11 @@ use Rattle.forms.proofs.Steps.{close-malformed, close-none, close-some}
 use Rattle.forms.proofs.Conversion.close.Statement.{statement}
 use Rattle.forms.proofs.Conversion.close.Tie as tie
 
-is-sound-requires : tie.Need-is-sound-requires
-is-sound-requires c κs = search needs
-
 returns : tie.Need-returns
 returns c = let a = c .before .before .before .before .args in close-malformed (a .self) (now (a .part)) (now (a .out)) (was-false (c .before .is-sound .ensures) (c .if1 .taken))
 
 returns-2 : tie.Need-returns-2
 returns-2 c = let a = c .before .before .before .before .before .args in close-none (a .self) (now (a .part)) (now (a .out)) (was-true (c .before .before .is-sound .ensures) (c .before .if1 .left)) (c .if2 .taken)
-
-other-requires : tie.Need-other-requires
-other-requires c κs = search needs
-
-width-requires : tie.Need-width-requires
-width-requires c κs = search needs
 
 -- the records lie in the part
 fits : (c : tie.After-width) → c .before .before .before .before .before .before .before .args .self .held * c .width .result ≤ length (now (c .before .before .before .before .before .before .before .args .part))
@@ -44,12 +35,6 @@ mul-end c = omega (arith, fits c)
 slice-aggregate-write-records : tie.Need-slice-aggregate-write-records
 slice-aggregate-write-records c = sym (length-take-le _ _ (fits (c .before)))
 
-write-records-requires : tie.Need-write-records-requires
-write-records-requires c κs = search needs
-
-same-length : tie.Need-same-length
-same-length c = search needs
-
 returns-3 : tie.Need-returns-3
 returns-3 c =
     let a = c .before .before .before .before .before .before .before .before .before .before .before .before .args in
@@ -60,13 +45,13 @@ pub close-spec : {M : Type 1} → statement M
 close-spec =
     tie.close
     (tie.spec
-    is-sound-requires
+    (λ c κs. search needs)
     returns
     returns-2
-    other-requires
-    width-requires
+    (λ c κs. search needs)
+    (λ c κs. search needs)
     mul-end
     slice-aggregate-write-records
-    write-records-requires
-    same-length
+    (λ c κs. search needs)
+    (λ c. search needs)
     returns-3)

@@ -11,15 +11,6 @@ use Rattle.forms.proofs.Steps.{begin-other, label-fits, begin-label}
 use Rattle.forms.proofs.Conversion.start.Statement.{statement}
 use Rattle.forms.proofs.Conversion.start.Tie as tie
 
-read-block-requires : tie.Need-read-block-requires
-read-block-requires c κs = search needs
-
-enum-known-read : tie.Need-enum-known-read
-enum-known-read c = search needs
-
-fault-of-requires : tie.Need-fault-of-requires
-fault-of-requires c κs = search needs
-
 returns : tie.Need-returns
 returns c =
     let a = c .before .before .before .before .before .args in
@@ -31,31 +22,10 @@ add-end c =
     let a = c .before .before .before .before .before .before .args in
     omega (arith, label-fits (now (a .zeroth)) (now (a .out)) (sym (c .before .before .before .read-block .ensures) ∙ c .before .read .given .1))
 
-other-requires : tie.Need-other-requires
-other-requires c κs = search needs
-
-sub-write-label : tie.Need-sub-write-label
-sub-write-label c = search needs
-
-part-write-label-start : tie.Need-part-write-label-start
-part-write-label-start c = search needs
-
 part-write-label-end : tie.Need-part-write-label-end
 part-write-label-end c =
     let a = c .before .before .before .before .before .before .before .args in
     label-fits (now (a .zeroth)) (now (a .out)) (sym (c .before .before .before .before .read-block .ensures) ∙ c .before .before .read .given .1)
-
-write-label-requires : tie.Need-write-label-requires
-write-label-requires c κs = search needs
-
-enum-known-n : tie.Need-enum-known-n
-enum-known-n c = search needs
-
-enum-known-n-2 : tie.Need-enum-known-n-2
-enum-known-n-2 c = search needs
-
-enum-known-refusal : tie.Need-enum-known-refusal
-enum-known-refusal c = search needs
 
 -- what the label's writer answered and stored
 begins : (c : tie.After-write-label) {r : Begin}
@@ -67,24 +37,15 @@ begins c e =
     let same : 8 + n - 8 ≡ n = omega arith in
     begin-label (now (a .zeroth)) (now (a .out)) (sym (c .before .before .before .before .before .before .before .read-block .ensures) ∙ c .before .before .before .before .before .read .given .1) (c .before .before .before .other .ensures) same (c .write-label .ensures) e
 
-same-length : tie.Need-same-length
-same-length c = search needs
-
 returns-2 : tie.Need-returns-2
 returns-2 c =
     let is = c .before .before .before .before .before .before .before .before .before .before .read .given .0 in
     begins (c .before .before .before .before .before) (ap (beginBy (read-as.Label (is .0) (is .1 .0) (is .1 .1 .0))) (c .before .n .given .1))
 
-same-length-2 : tie.Need-same-length-2
-same-length-2 c = search needs
-
 returns-3 : tie.Need-returns-3
 returns-3 c =
     let is = c .before .before .before .before .before .before .before .before .before .before .read .given .0 in
     begins (c .before .before .before .before .before) (ap (beginBy (read-as.Label (is .0) (is .1 .0) (is .1 .1 .0))) (c .before .n2 .given .1))
-
-same-length-3 : tie.Need-same-length-3
-same-length-3 c = search needs
 
 returns-4 : tie.Need-returns-4
 returns-4 c =
@@ -95,22 +56,22 @@ pub start-spec : {M : Type 1} → statement M
 start-spec =
     tie.close
     (tie.spec
-    read-block-requires
-    enum-known-read
-    fault-of-requires
+    (λ c κs. search needs)
+    (λ c. search needs)
+    (λ c κs. search needs)
     returns
     add-end
-    other-requires
-    sub-write-label
-    part-write-label-start
+    (λ c κs. search needs)
+    (λ c. search needs)
+    (λ c. search needs)
     part-write-label-end
-    write-label-requires
-    enum-known-n
-    enum-known-n-2
-    enum-known-refusal
-    same-length
+    (λ c κs. search needs)
+    (λ c. search needs)
+    (λ c. search needs)
+    (λ c. search needs)
+    (λ c. search needs)
     returns-2
-    same-length-2
+    (λ c. search needs)
     returns-3
-    same-length-3
+    (λ c. search needs)
     returns-4)

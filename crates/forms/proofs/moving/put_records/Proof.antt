@@ -30,15 +30,6 @@ Inv-loop form n body out₀ at w step left₀ from₀ to₀ out left from to =
 abbrev μ-loop : tie.MeasureT-loop
 μ-loop form n body out₀ at w step left₀ from₀ to₀ out left from to = left
 
-width-requires : tie.Need-width-requires Inv-loop μ-loop
-width-requires c κs = search needs
-
-other-requires : tie.Need-other-requires Inv-loop μ-loop
-other-requires c κs = search needs
-
-width-requires-2 : tie.Need-width-requires-2 Inv-loop μ-loop
-width-requires-2 c κs = search needs
-
 loop-holds : tie.Need-loop-holds Inv-loop μ-loop
 loop-holds c =
     let s = c .before .before .before .before .before in
@@ -73,12 +64,6 @@ add-from c = omega (arith, room (c .before .before .before .before))
 add-to : tie.Need-add-to Inv-loop μ-loop
 add-to c = omega (arith, room (c .before .before .before .before))
 
-sub-left : tie.Need-sub-left Inv-loop μ-loop
-sub-left c = search needs
-
-loop-less : tie.Need-loop-less Inv-loop μ-loop
-loop-less c = search needs
-
 loop-again : tie.Need-loop-again Inv-loop μ-loop
 loop-again c =
     let a = c .before .before .before .before .before .before .before .before .before .before .before .args in
@@ -105,9 +90,6 @@ loop-again c =
       sets-step (loop .out) (loop .to) (recordsBytes to first) (recordsBytes to rest) both (put .ensures) (omega (arith, size)) ∙ loop .inv .6,
     )
 
-same-length : tie.Need-same-length Inv-loop μ-loop
-same-length c = search needs
-
 returns : tie.Need-returns Inv-loop μ-loop
 returns c =
     let a = c .before .before .before .before .before .before .before .args in
@@ -120,15 +102,15 @@ put-records-spec =
     (tie.spec
     Inv-loop
     μ-loop
-    width-requires
-    other-requires
-    width-requires-2
+    (λ c κs. search needs)
+    (λ c κs. search needs)
+    (λ c κs. search needs)
     loop-holds
     put-record-requires
     add-from
     add-to
-    sub-left
-    loop-less
+    (λ c. search needs)
+    (λ c. search needs)
     loop-again
-    same-length
+    (λ c. search needs)
     returns)

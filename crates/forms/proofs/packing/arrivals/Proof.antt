@@ -15,12 +15,6 @@ use Rattle.forms.proofs.packing.arrivals.Tie as tie
 add-total : tie.Need-add-total
 add-total c = omega (arith, few-records (c .before .before .before .before .pre) .0)
 
-other-requires : tie.Need-other-requires
-other-requires c κs = search needs
-
-most-requires : tie.Need-most-requires
-most-requires c κs = search needs
-
 div-full : tie.Need-div-full
 div-full c = omega (arith, c .most .ensures, most-some (c .before .other .result))
 
@@ -29,9 +23,6 @@ mul-bytes c = let a = c .before .before .before .before .before .before .args in
 
 returns : tie.Need-returns
 returns c = let s = c .before .before .before .before .before .before .before in step-short (s .pre) (now (s .args .out)) (c .before .before .other .ensures) (c .before .most .ensures) (c .if1 .taken)
-
-slice-aggregate-pack : tie.Need-slice-aggregate-pack
-slice-aggregate-pack c = search needs
 
 pack-requires : tie.Need-pack-requires
 pack-requires c κs =
@@ -46,12 +37,6 @@ mul-t15 c = let a = c .before .before .before .before .before .before .before .b
 sub-t24 : tie.Need-sub-t24
 sub-t24 c = let a = c .before .before .before .before .before .before .before .before .before .before .before .before .before .before .before .before .args in omega (arith, div-mul-le-self (a .c .held + a .n) (c .before .before .before .before .before .before .before .before .before .before .most .result))
 
-same-length : tie.Need-same-length
-same-length c = search needs
-
-same-length-2 : tie.Need-same-length-2
-same-length-2 c = search needs
-
 returns-2 : tie.Need-returns-2
 returns-2 c =
     let s = c .before .before .before .before .before .before .before .before .before .before .before .before .before .before .before .before in
@@ -62,15 +47,15 @@ arrivals-spec =
     tie.close
     (tie.spec
     add-total
-    other-requires
-    most-requires
+    (λ c κs. search needs)
+    (λ c κs. search needs)
     div-full
     mul-bytes
     returns
-    slice-aggregate-pack
+    (λ c. search needs)
     pack-requires
     mul-t15
     sub-t24
-    same-length
-    same-length-2
+    (λ c. search needs)
+    (λ c. search needs)
     returns-2)

@@ -19,12 +19,6 @@ use Rattle.forms.proofs.Held.{is-sound, held-fits}
 use Rattle.forms.proofs.packing.gather.Statement.{statement}
 use Rattle.forms.proofs.packing.gather.Tie as tie
 
-other-requires : tie.Need-other-requires
-other-requires c κs = search needs
-
-width-requires : tie.Need-width-requires
-width-requires c κs = search needs
-
 wide : (c : tie.After-width) → c .width .result ≡ width (toShape (c .before .before .before .before .before .args .c))
 wide c = c .width .ensures ∙ ap (λ (f : Form). width (shapeOf f)) (c .before .other .ensures)
 
@@ -41,9 +35,6 @@ mul-at c = omega (arith, fits c)
 slice-aggregate-put-bytes : tie.Need-slice-aggregate-put-bytes
 slice-aggregate-put-bytes c = sym (length-take-le _ _ (fits (c .before)))
 
-put-bytes-requires : tie.Need-put-bytes-requires
-put-bytes-requires c κs = search needs
-
 put-records-requires : tie.Need-put-records-requires
 put-records-requires c κs =
     let s = c .before .before .before .before .before .before .before .before .before .before .before in
@@ -51,9 +42,6 @@ put-records-requires c κs =
     let size = add-mul (s .args .c .held) (s .args .n) (width (toShape (s .args .c))) in
     let at = ap (λ (k : ℕ). s .args .c .held * k) w in
     (s .pre .0 .1, s .pre .0 .2, omega (arith, size, at, s .pre .1, c .before .before .before .put-bytes .kept .1 .0))
-
-same-length : tie.Need-same-length
-same-length c = search needs
 
 returns : tie.Need-returns
 returns c =
@@ -75,11 +63,11 @@ pub gather-spec : {M : Type 1} → statement M
 gather-spec =
     tie.close
     (tie.spec
-    other-requires
-    width-requires
+    (λ c κs. search needs)
+    (λ c κs. search needs)
     mul-at
     slice-aggregate-put-bytes
-    put-bytes-requires
+    (λ c κs. search needs)
     put-records-requires
-    same-length
+    (λ c. search needs)
     returns)

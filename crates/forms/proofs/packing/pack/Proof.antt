@@ -17,23 +17,8 @@ use Rattle.forms.proofs.Gathered.{all-fit, full-good, full-stored, rest
 use Rattle.forms.proofs.packing.pack.Statement.{statement}
 use Rattle.forms.proofs.packing.pack.Tie as tie
 
-add-total : tie.Need-add-total
-add-total c = search needs
-
-other-requires : tie.Need-other-requires
-other-requires c κs = search needs
-
-most-requires : tie.Need-most-requires
-most-requires c κs = search needs
-
-width-requires : tie.Need-width-requires
-width-requires c κs = search needs
-
 div-full : tie.Need-div-full
 div-full c = omega (arith, c .before .most .ensures, most-some (c .before .before .other .result))
-
-gather-requires : tie.Need-gather-requires
-gather-requires c κs = search needs
 
 -- what is known once the records are gathered
 abbrev start : tie.After-gather → tie.Start
@@ -93,15 +78,6 @@ mul-keep-3 c = omega (arith, fit (c .before .before .before .before .before .bef
 keep-requires : tie.Need-keep-requires
 keep-requires c κs = (kept-bytes (c .before .before .before .before .before .before .before .before .before), fit (c .before .before .before .before .before .before .before .before .before))
 
-same-length : tie.Need-same-length
-same-length c = search needs
-
-same-length-2 : tie.Need-same-length-2
-same-length-2 c = search needs
-
-same-length-3 : tie.Need-same-length-3
-same-length-3 c = search needs
-
 returns : tie.Need-returns
 returns c =
     let g = c .before .before .before .before .before .before .before .before .before .before .before .before in
@@ -120,18 +96,18 @@ pub pack-spec : {M : Type 1} → statement M
 pack-spec =
     tie.close
     (tie.spec
-    add-total
-    other-requires
-    most-requires
-    width-requires
+    (λ c. search needs)
+    (λ c κs. search needs)
+    (λ c κs. search needs)
+    (λ c κs. search needs)
     div-full
-    gather-requires
+    (λ c κs. search needs)
     write-full-requires
     mul-keep
     mul-keep-2
     mul-keep-3
     keep-requires
-    same-length
-    same-length-2
-    same-length-3
+    (λ c. search needs)
+    (λ c. search needs)
+    (λ c. search needs)
     returns)

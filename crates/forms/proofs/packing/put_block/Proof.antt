@@ -19,9 +19,6 @@ use Rattle.forms.proofs.Blocks.{part-stored, block-is, no-fault, length
 use Rattle.forms.proofs.packing.put_block.Statement.{statement}
 use Rattle.forms.proofs.packing.put_block.Tie as tie
 
-width-requires : tie.Need-width-requires
-width-requires c κs = search needs
-
 -- the records lie in `all`
 fits : (c : tie.After-width) → c .before .before .before .args .from + c .before .before .before .args .n * c .width .result ≤ length (now (c .before .before .before .args .all))
 fits c = rw (c .width .ensures) (c .before .before .before .pre .1 .0)
@@ -32,32 +29,8 @@ mul-end c = omega (arith, fits c)
 add-end : tie.Need-add-end
 add-end c = omega (arith, fits c)
 
-add-stop : tie.Need-add-stop
-add-stop c = search needs
-
-sub-write-records : tie.Need-sub-write-records
-sub-write-records c = search needs
-
-part-write-records-start : tie.Need-part-write-records-start
-part-write-records-start c = search needs
-
 part-write-records-end : tie.Need-part-write-records-end
 part-write-records-end c = fits c
-
-sub-write-records-2 : tie.Need-sub-write-records-2
-sub-write-records-2 c = search needs
-
-part-write-records-start-2 : tie.Need-part-write-records-start-2
-part-write-records-start-2 c = search needs
-
-part-write-records-end-2 : tie.Need-part-write-records-end-2
-part-write-records-end-2 c = search needs
-
-write-records-requires : tie.Need-write-records-requires
-write-records-requires c κs = search needs
-
-same-length : tie.Need-same-length
-same-length c = search needs
 
 returns : tie.Need-returns
 returns c =
@@ -82,16 +55,16 @@ pub put-block-spec : {M : Type 1} → statement M
 put-block-spec =
     tie.close
     (tie.spec
-    width-requires
+    (λ c κs. search needs)
     mul-end
     add-end
-    add-stop
-    sub-write-records
-    part-write-records-start
+    (λ c. search needs)
+    (λ c. search needs)
+    (λ c. search needs)
     part-write-records-end
-    sub-write-records-2
-    part-write-records-start-2
-    part-write-records-end-2
-    write-records-requires
-    same-length
+    (λ c. search needs)
+    (λ c. search needs)
+    (λ c. search needs)
+    (λ c κs. search needs)
+    (λ c. search needs)
     returns)

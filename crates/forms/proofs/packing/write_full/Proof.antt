@@ -31,12 +31,6 @@ Inv-loop to n all ssrc out₀ most size left₀ from₀ at₀ out left from at =
 abbrev μ-loop : tie.MeasureT-loop
 μ-loop to n all ssrc out₀ most size left₀ from₀ at₀ out left from at = left
 
-most-requires : tie.Need-most-requires Inv-loop μ-loop
-most-requires c κs = search needs
-
-width-requires : tie.Need-width-requires Inv-loop μ-loop
-width-requires c κs = search needs
-
 -- the bytes of a full block's records
 size-is : (c : tie.After-width Inv-loop μ-loop) → c .before .most .result * c .width .result ≡ shapeOf (c .before .before .before .before .args .to) .most * width (shapeOf (c .before .before .before .before .args .to))
 size-is c = rw (c .before .most .ensures, c .width .ensures)
@@ -77,12 +71,6 @@ add-from c = omega (arith, room (c .before .before .before .before))
 add-at : tie.Need-add-at Inv-loop μ-loop
 add-at c = omega (arith, room (c .before .before .before .before))
 
-sub-left : tie.Need-sub-left Inv-loop μ-loop
-sub-left c = search needs
-
-loop-less : tie.Need-loop-less Inv-loop μ-loop
-loop-less c = search needs
-
 loop-again : tie.Need-loop-again Inv-loop μ-loop
 loop-again c =
     let a = c .before .before .before .before .before .before .before .before .before .before .args in
@@ -107,9 +95,6 @@ loop-again c =
       sets-step (loop .out) (loop .at) first more (full-turn shape (a .ssrc) (now (a .all)) (loop .left) (loop .from) turn next) stores (omega (arith, long)) ∙ loop .inv .6,
     )
 
-same-length : tie.Need-same-length Inv-loop μ-loop
-same-length c = search needs
-
 returns : tie.Need-returns Inv-loop μ-loop
 returns c =
     let a = c .before .before .before .before .before .before .args in
@@ -122,15 +107,15 @@ write-full-spec =
     (tie.spec
     Inv-loop
     μ-loop
-    most-requires
-    width-requires
+    (λ c κs. search needs)
+    (λ c κs. search needs)
     mul-size
     loop-holds
     put-block-requires
     add-from
     add-at
-    sub-left
-    loop-less
+    (λ c. search needs)
+    (λ c. search needs)
     loop-again
-    same-length
+    (λ c. search needs)
     returns)

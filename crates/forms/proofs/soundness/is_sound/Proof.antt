@@ -15,14 +15,8 @@ use Rattle.forms.proofs.Held.{not-sound, held-fits, sound-last, sound-n
 use Rattle.forms.proofs.soundness.is_sound.Statement.{statement}
 use Rattle.forms.proofs.soundness.is_sound.Tie as tie
 
-other-requires : tie.Need-other-requires
-other-requires c κs = search needs
-
 returns : tie.Need-returns
 returns c = let a = c .before .before .before .args in not-sound (a .c) (now (a .part)) 0 (lt-leb _ _ (c .if1 .taken))
-
-most-requires : tie.Need-most-requires
-most-requires c κs = search needs
 
 returns-2 : tie.Need-returns-2
 returns-2 c =
@@ -41,9 +35,6 @@ returns-3 c =
     let a = c .before .before .before .before .before .before .args in
     sound-none (a .c) (now (a .part)) (c .before .before .before .if1 .left) (few (c .before)) (c .if3 .taken)
 
-width-requires : tie.Need-width-requires
-width-requires c κs = search needs
-
 -- and they lie in the part
 fits : (c : tie.After-width) → c .before .before .before .before .before .before .before .args .c .held * c .width .result ≤ length (now (c .before .before .before .before .before .before .before .args .part))
 fits c =
@@ -56,9 +47,6 @@ mul-end c = omega (arith, fits c)
 
 slice-aggregate-is-body : tie.Need-slice-aggregate-is-body
 slice-aggregate-is-body c = sym (length-take-le _ _ (fits (c .before)))
-
-is-body-requires : tie.Need-is-body-requires
-is-body-requires c κs = search needs
 
 returns-4 : tie.Need-returns-4
 returns-4 c =
@@ -76,13 +64,13 @@ pub is-sound-spec : {M : Type 1} → statement M
 is-sound-spec =
     tie.close
     (tie.spec
-    other-requires
+    (λ c κs. search needs)
     returns
-    most-requires
+    (λ c κs. search needs)
     returns-2
     returns-3
-    width-requires
+    (λ c κs. search needs)
     mul-end
     slice-aggregate-is-body
-    is-body-requires
+    (λ c κs. search needs)
     returns-4)

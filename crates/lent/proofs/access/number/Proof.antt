@@ -30,19 +30,10 @@ below word h l = ap negsuc (omega arith) ∙ sym (signed-high 63 word l ∙ minu
 fits : (word : ℕ) → 2 ^ 63 ≤ word → SFits w64 (negsuc (2 ^ 64 - 1 - word))
 fits word l = record { sfits = omega arith }
 
-cast-result : tie.Need-cast-result
-cast-result c = search needs
-
 returns : tie.Need-returns
 returns c =
     let word = c .before .args .word in
     toZ-pos w64 word (c .if1 .taken) ∙ sym (signed-low 63 word (c .if1 .taken))
-
-sub-below : tie.Need-sub-below
-sub-below c = search needs
-
-cast-below : tie.Need-cast-below
-cast-below c = search needs
 
 sub-result : tie.Need-sub-result
 sub-result c =
@@ -55,4 +46,4 @@ returns-2 c =
     ap seen (turned (2 ^ 64 - 1 - word) (omega arith)) ∙ seen-is (negsuc (2 ^ 64 - 1 - word)) (fits word (c .if1 .left)) ∙ below word (search needs) (c .if1 .left)
 
 pub number-spec : {M : Type 1} → statement M
-number-spec = tie.close (tie.spec cast-result returns sub-below cast-below sub-result returns-2)
+number-spec = tie.close (tie.spec (λ c. search needs) returns (λ c. search needs) (λ c. search needs) sub-result returns-2)

@@ -21,17 +21,11 @@ abbrev μ-loop : tie.MeasureT-loop
 loop-holds : tie.Need-loop-holds Inv-loop μ-loop
 loop-holds c = (refl, omega arith, ap (λ (n : ℕ). sets (now (c .before .before .args .words)) n (now (c .before .before .args .new))) (add-zero (c .before .before .args .at)))
 
-mul-put : tie.Need-mul-put Inv-loop μ-loop
-mul-put c = search needs
-
 shared-slice-read-put : tie.Need-shared-slice-read-put Inv-loop μ-loop
 shared-slice-read-put c = omega arith
 
 add-put : tie.Need-add-put Inv-loop μ-loop
 add-put c = omega arith
-
-put-requires : tie.Need-put-requires Inv-loop μ-loop
-put-requires c κs = search needs
 
 add-i : tie.Need-add-i Inv-loop μ-loop
 add-i c = omega arith
@@ -61,10 +55,10 @@ put-all-spec =
     Inv-loop
     μ-loop
     loop-holds
-    mul-put
+    (λ c. search needs)
     shared-slice-read-put
     add-put
-    put-requires
+    (λ c κs. search needs)
     add-i
     loop-less
     loop-again

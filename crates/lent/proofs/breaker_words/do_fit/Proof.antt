@@ -11,43 +11,25 @@ use Rattle.lent.specs.BreakerWords.{wordsFit}
 use Rattle.lent.proofs.breaker_words.do_fit.Statement.{statement}
 use Rattle.lent.proofs.breaker_words.do_fit.Tie as tie
 
-word-at-requires : tie.Need-word-at-requires
-word-at-requires c κs = search needs
-
 returns : tie.Need-returns
 unfolding wordsFit
 returns c = all-false (wordsFit (now (c .before .before .before .args .words))) 0 (ap (λ (n : ℕ). leb n 1) (sym (c .before .word-at .ensures)) ∙ lt-leb (c .before .word-at .result) 1 (c .if1 .taken))
-
-word-at-requires-2 : tie.Need-word-at-requires-2
-word-at-requires-2 c κs = search needs
 
 returns-2 : tie.Need-returns-2
 unfolding wordsFit
 returns-2 c = all-false (wordsFit (now (c .before .before .before .before .before .args .words))) 1 (ap (λ (n : ℕ). leb n 1) (sym (c .before .word-at2 .ensures)) ∙ lt-leb (c .before .word-at2 .result) 1 (c .if2 .taken))
 
-word-at-requires-3 : tie.Need-word-at-requires-3
-word-at-requires-3 c κs = search needs
-
 returns-3 : tie.Need-returns-3
 unfolding wordsFit
 returns-3 c = all-false (wordsFit (now (c .before .before .before .before .before .before .before .args .words))) 2 (ap (λ (n : ℕ). leb n 3) (sym (c .before .word-at3 .ensures)) ∙ lt-leb (c .before .word-at3 .result) 3 (c .if3 .taken))
-
-word-at-requires-4 : tie.Need-word-at-requires-4
-word-at-requires-4 c κs = search needs
 
 returns-4 : tie.Need-returns-4
 unfolding wordsFit
 returns-4 c = all-false (wordsFit (now (c .before .before .before .before .before .before .before .before .before .args .words))) 3 (ap (λ (n : ℕ). leb n 1) (sym (c .before .word-at4 .ensures)) ∙ lt-leb (c .before .word-at4 .result) 1 (c .if4 .taken))
 
-word-at-requires-5 : tie.Need-word-at-requires-5
-word-at-requires-5 c κs = search needs
-
 returns-5 : tie.Need-returns-5
 unfolding wordsFit
 returns-5 c = all-false (wordsFit (now (c .before .before .before .before .before .before .before .before .before .before .before .args .words))) 4 (ap (λ (n : ℕ). ltb n (2 ^ 32)) (sym (c .before .word-at5 .ensures)) ∙ le-ltb (c .before .word-at5 .result) (2 ^ 32) (c .if5 .taken))
-
-word-at-requires-6 : tie.Need-word-at-requires-6
-word-at-requires-6 c κs = search needs
 
 returns-6 : tie.Need-returns-6
 unfolding wordsFit
@@ -63,15 +45,15 @@ pub do-fit-spec : {M : Type 1} → statement M
 do-fit-spec =
     tie.close
     (tie.spec
-    word-at-requires
+    (λ c κs. search needs)
     returns
-    word-at-requires-2
+    (λ c κs. search needs)
     returns-2
-    word-at-requires-3
+    (λ c κs. search needs)
     returns-3
-    word-at-requires-4
+    (λ c κs. search needs)
     returns-4
-    word-at-requires-5
+    (λ c κs. search needs)
     returns-5
-    word-at-requires-6
+    (λ c κs. search needs)
     returns-6)

@@ -5,21 +5,6 @@ use Rattle.lent.specs.BreakerWords.{settingsOf}
 use Rattle.lent.proofs.breaker_words.settings_in.Statement.{statement}
 use Rattle.lent.proofs.breaker_words.settings_in.Tie as tie
 
-word-at-requires : tie.Need-word-at-requires
-word-at-requires c κs = search needs
-
-word-at-requires-2 : tie.Need-word-at-requires-2
-word-at-requires-2 c κs = search needs
-
-word-at-requires-3 : tie.Need-word-at-requires-3
-word-at-requires-3 c κs = search needs
-
-word-at-requires-4 : tie.Need-word-at-requires-4
-word-at-requires-4 c κs = search needs
-
-word-at-requires-5 : tie.Need-word-at-requires-5
-word-at-requires-5 c κs = search needs
-
 returns : tie.Need-returns
 unfolding settingsOf
 returns c =
@@ -28,4 +13,4 @@ returns c =
 pub settings-in-spec : {M : Type 1} → statement M
 settings-in-spec =
     tie.close
-    (tie.spec word-at-requires word-at-requires-2 word-at-requires-3 word-at-requires-4 word-at-requires-5 returns)
+    (tie.spec (λ c κs. search needs) (λ c κs. search needs) (λ c κs. search needs) (λ c κs. search needs) (λ c κs. search needs) returns)

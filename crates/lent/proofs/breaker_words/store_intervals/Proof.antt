@@ -22,9 +22,6 @@ abbrev μ-loop : tie.MeasureT-loop
 loop-holds : tie.Need-loop-holds Inv-loop μ-loop
 loop-holds c = (refl, omega arith, search needs, refl)
 
-mul-x : tie.Need-mul-x Inv-loop μ-loop
-mul-x c = search needs
-
 array-copy-out-x : tie.Need-array-copy-out-x Inv-loop μ-loop
 array-copy-out-x c = omega arith
 
@@ -34,14 +31,8 @@ mul-at c = omega arith
 add-at : tie.Need-add-at Inv-loop μ-loop
 add-at c = omega arith
 
-put-requires : tie.Need-put-requires Inv-loop μ-loop
-put-requires c κs = search needs
-
 add-put : tie.Need-add-put Inv-loop μ-loop
 add-put c = omega arith
-
-put-requires-2 : tie.Need-put-requires-2 Inv-loop μ-loop
-put-requires-2 c κs = search needs
 
 add-i : tie.Need-add-i Inv-loop μ-loop
 add-i c = omega arith
@@ -82,13 +73,13 @@ store-intervals-spec =
     Inv-loop
     μ-loop
     loop-holds
-    mul-x
+    (λ c. search needs)
     array-copy-out-x
     mul-at
     add-at
-    put-requires
+    (λ c κs. search needs)
     add-put
-    put-requires-2
+    (λ c κs. search needs)
     add-i
     loop-less
     loop-again

@@ -20,32 +20,8 @@ widened z f = subst⁻¹ (λ (y : ℤ). SFits w64 y) (toZ-ofZ w32 z f) (record {
 widened-is : (z : ℤ) → SFits w32 z → toZ w64 (ofZ w64 (toZ w32 (ofZ w32 z))) ≡ z
 widened-is z f = toZ-ofZ w64 (toZ w32 (ofZ w32 z)) (widened z f) ∙ toZ-ofZ w32 z f
 
-enum-known-report : tie.Need-enum-known-report
-enum-known-report c = search needs
-
-cast-t4 : tie.Need-cast-t4
-cast-t4 c = search needs
-
 cast-complement : tie.Need-cast-complement
 cast-complement c = widened (c .before .before .before .before .report .given .0 .0 .lost) (search needs)
-
-complement-requires : tie.Need-complement-requires
-complement-requires c κs = search needs
-
-cast-t7 : tie.Need-cast-t7
-cast-t7 c = search needs
-
-cast-t8 : tie.Need-cast-t8
-cast-t8 c = search needs
-
-cast-t9 : tie.Need-cast-t9
-cast-t9 c = search needs
-
-cast-t10 : tie.Need-cast-t10
-cast-t10 c = search needs
-
-enum-told : tie.Need-enum-told
-enum-told c = search needs
 
 returns : tie.Need-returns
 unfolding reportWords
@@ -63,14 +39,14 @@ pub report-in-spec : {M : Type 1} → statement M
 report-in-spec =
     tie.close
     (tie.spec
-    enum-known-report
-    cast-t4
+    (λ c. search needs)
+    (λ c. search needs)
     cast-complement
-    complement-requires
-    cast-t7
-    cast-t8
-    cast-t9
-    cast-t10
-    enum-told
+    (λ c κs. search needs)
+    (λ c. search needs)
+    (λ c. search needs)
+    (λ c. search needs)
+    (λ c. search needs)
+    (λ c. search needs)
     returns
     returns-2)

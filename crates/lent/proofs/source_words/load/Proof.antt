@@ -15,20 +15,11 @@ returns : tie.Need-returns
 unfolding loaded
 returns c = rw (ne-eqb (length (now (c .before .before .args .words))) 10 (c .if1 .taken))
 
-word-at-requires : tie.Need-word-at-requires
-word-at-requires c κs = search needs
-
 returns-2 : tie.Need-returns-2
 unfolding loaded
 returns-2 c =
     let words = now (c .before .before .before .before .args .words) in
     rw (eq-eqb (length words) 10 (c .before .before .if1 .left), lt-leb (getD words 9 0) 65536 (omega (arith, c .before .word-at .ensures, c .if2 .taken)))
-
-remembered-in-requires : tie.Need-remembered-in-requires
-remembered-in-requires c κs = search needs
-
-source-with-requires : tie.Need-source-with-requires
-source-with-requires c κs = search needs
 
 returns-3 : tie.Need-returns-3
 unfolding loaded
@@ -43,8 +34,8 @@ load-spec =
     tie.close
     (tie.spec
     returns
-    word-at-requires
+    (λ c κs. search needs)
     returns-2
-    remembered-in-requires
-    source-with-requires
+    (λ c κs. search needs)
+    (λ c κs. search needs)
     returns-3)

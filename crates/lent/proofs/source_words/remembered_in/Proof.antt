@@ -8,14 +8,8 @@ use Rattle.lent.proofs.source_words.remembered_in.Tie as tie
 returns : tie.Need-returns
 returns c = rw (eq-eqb (c .before .args .word) 0 (c .if1 .taken))
 
-sub-t3 : tie.Need-sub-t3
-sub-t3 c = search needs
-
-cast-t4 : tie.Need-cast-t4
-cast-t4 c = search needs
-
 returns-2 : tie.Need-returns-2
 returns-2 c = rw (ne-eqb (c .before .args .word) 0 (c .if1 .left))
 
 pub remembered-in-spec : {M : Type 1} → statement M
-remembered-in-spec = tie.close (tie.spec returns sub-t3 cast-t4 returns-2)
+remembered-in-spec = tie.close (tie.spec returns (λ c. search needs) (λ c. search needs) returns-2)

@@ -7,39 +7,6 @@ use Rattle.lent.specs.SourceWords.{sourceWith}
 use Rattle.lent.proofs.source_words.source_with.Statement.{statement}
 use Rattle.lent.proofs.source_words.source_with.Tie as tie
 
-word-at-requires : tie.Need-word-at-requires
-word-at-requires c κs = search needs
-
-number-requires : tie.Need-number-requires
-number-requires c κs = search needs
-
-word-at-requires-2 : tie.Need-word-at-requires-2
-word-at-requires-2 c κs = search needs
-
-number-requires-2 : tie.Need-number-requires-2
-number-requires-2 c κs = search needs
-
-word-at-requires-3 : tie.Need-word-at-requires-3
-word-at-requires-3 c κs = search needs
-
-word-at-requires-4 : tie.Need-word-at-requires-4
-word-at-requires-4 c κs = search needs
-
-word-at-requires-5 : tie.Need-word-at-requires-5
-word-at-requires-5 c κs = search needs
-
-word-at-requires-6 : tie.Need-word-at-requires-6
-word-at-requires-6 c κs = search needs
-
-word-at-requires-7 : tie.Need-word-at-requires-7
-word-at-requires-7 c κs = search needs
-
-word-at-requires-8 : tie.Need-word-at-requires-8
-word-at-requires-8 c κs = search needs
-
-word-at-requires-9 : tie.Need-word-at-requires-9
-word-at-requires-9 c κs = search needs
-
 returns : tie.Need-returns
 unfolding sourceWith
 returns c =
@@ -62,15 +29,15 @@ pub source-with-spec : {M : Type 1} → statement M
 source-with-spec =
     tie.close
     (tie.spec
-    word-at-requires
-    number-requires
-    word-at-requires-2
-    number-requires-2
-    word-at-requires-3
-    word-at-requires-4
-    word-at-requires-5
-    word-at-requires-6
-    word-at-requires-7
-    word-at-requires-8
-    word-at-requires-9
+    (λ c κs. search needs)
+    (λ c κs. search needs)
+    (λ c κs. search needs)
+    (λ c κs. search needs)
+    (λ c κs. search needs)
+    (λ c κs. search needs)
+    (λ c κs. search needs)
+    (λ c κs. search needs)
+    (λ c κs. search needs)
+    (λ c κs. search needs)
+    (λ c κs. search needs)
     returns)

@@ -11,24 +11,6 @@ use Rattle.lent.specs.SourceWords.{sourceWords}
 use Rattle.lent.proofs.source_words.store.Statement.{statement}
 use Rattle.lent.proofs.source_words.store.Tie as tie
 
-complement-requires : tie.Need-complement-requires
-complement-requires c κs = search needs
-
-complement-requires-2 : tie.Need-complement-requires-2
-complement-requires-2 c κs = search needs
-
-word-of-requires : tie.Need-word-of-requires
-word-of-requires c κs = search needs
-
-slice-aggregate-put-all : tie.Need-slice-aggregate-put-all
-slice-aggregate-put-all c = search needs
-
-put-all-requires : tie.Need-put-all-requires
-put-all-requires c κs = search needs
-
-same-length : tie.Need-same-length
-same-length c = search needs
-
 returns : tie.Need-returns
 unfolding sourceWords
 returns c =
@@ -45,10 +27,10 @@ pub store-spec : {M : Type 1} → statement M
 store-spec =
     tie.close
     (tie.spec
-    complement-requires
-    complement-requires-2
-    word-of-requires
-    slice-aggregate-put-all
-    put-all-requires
-    same-length
+    (λ c κs. search needs)
+    (λ c κs. search needs)
+    (λ c κs. search needs)
+    (λ c. search needs)
+    (λ c κs. search needs)
+    (λ c. search needs)
     returns)

@@ -5,24 +5,9 @@ use Rattle.lent.specs.SourceWords.{rememberedWord}
 use Rattle.lent.proofs.source_words.word_of.Statement.{statement}
 use Rattle.lent.proofs.source_words.word_of.Tie as tie
 
-enum-told : tie.Need-enum-told
-enum-told c = search needs
-
-enum-known-remembered : tie.Need-enum-known-remembered
-enum-known-remembered c = search needs
-
-cast-result : tie.Need-cast-result
-cast-result c = search needs
-
-add-result : tie.Need-add-result
-add-result c = search needs
-
-returns : tie.Need-returns
-returns c = search needs
-
 returns-2 : tie.Need-returns-2
 returns-2 c = sym (ap rememberedWord (c .before .before .remembered .given .1))
 
 pub word-of-spec : {M : Type 1} → statement M
 word-of-spec =
-    tie.close (tie.spec enum-told enum-known-remembered cast-result add-result returns returns-2)
+    tie.close (tie.spec (λ c. search needs) (λ c. search needs) (λ c. search needs) (λ c. search needs) (λ c. search needs) returns-2)

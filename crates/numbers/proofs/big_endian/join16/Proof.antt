@@ -6,14 +6,8 @@ use Rattle.numbers.proofs.BigEndian.{word-two}
 use Rattle.numbers.proofs.big_endian.join16.Statement.{statement}
 use Rattle.numbers.proofs.big_endian.join16.Tie as tie
 
-mul-result : tie.Need-mul-result
-mul-result c = search needs
-
-add-result : tie.Need-add-result
-add-result c = search needs
-
 returns : tie.Need-returns
 returns c = sym (word-two (c .args .high ∷ c .args .low ∷ []) 0)
 
 pub join16-spec : {M : Type 1} → statement M
-join16-spec = tie.close (tie.spec mul-result add-result returns)
+join16-spec = tie.close (tie.spec (λ c. search needs) (λ c. search needs) returns)

@@ -18,32 +18,11 @@ returns c =
     let a = c .before .args in
     sym (sets-out (now (a .out)) (a .at) (bytes 2 (a .n)) (c .if1 .taken))
 
-cast-out : tie.Need-cast-out
-cast-out c = search needs
-
-slice-write-out : tie.Need-slice-write-out
-slice-write-out c = search needs
-
-add-next : tie.Need-add-next
-add-next c = search needs
-
-same-length : tie.Need-same-length
-same-length c = search needs
-
 returns-2 : tie.Need-returns-2
 returns-2 c =
     let a = c .before .before .args in
     let high : a .n / 256 % 256 ≡ a .n / 256 = omega arith in
     rw (bytes-two, high) (sym (set-out (set (now (a .out)) (a .at) (a .n / 256)) (suc (a .at)) (a .n % 256) (omega (arith, simp length-set at (c .if2 .taken), length-set (now (a .out)) (a .at) (a .n / 256)))))
-
-cast-out-2 : tie.Need-cast-out-2
-cast-out-2 c = search needs
-
-slice-write-out-2 : tie.Need-slice-write-out-2
-slice-write-out-2 c = search needs
-
-same-length-2 : tie.Need-same-length-2
-same-length-2 c = search needs
 
 returns-3 : tie.Need-returns-3
 returns-3 c =
@@ -56,12 +35,12 @@ write16-spec =
     tie.close
     (tie.spec
     returns
-    cast-out
-    slice-write-out
-    add-next
-    same-length
+    (λ c. search needs)
+    (λ c. search needs)
+    (λ c. search needs)
+    (λ c. search needs)
     returns-2
-    cast-out-2
-    slice-write-out-2
-    same-length-2
+    (λ c. search needs)
+    (λ c. search needs)
+    (λ c. search needs)
     returns-3)

@@ -14,24 +14,6 @@ returns c =
     let a = c .before .before .args in
     sym (sets-out (now (a .out)) (a .at) (bytes 4 (a .n)) (c .if1 .taken))
 
-cast-write16 : tie.Need-cast-write16
-cast-write16 c = search needs
-
-write16-requires : tie.Need-write16-requires
-write16-requires c κs = search needs
-
-cast-write16-2 : tie.Need-cast-write16-2
-cast-write16-2 c = search needs
-
-add-write16 : tie.Need-add-write16
-add-write16 c = search needs
-
-write16-requires-2 : tie.Need-write16-requires-2
-write16-requires-2 c κs = search needs
-
-same-length : tie.Need-same-length
-same-length c = search needs
-
 returns-2 : tie.Need-returns-2
 returns-2 c =
     let a = c .before .before .before .before .before .before .before .before .before .before .args in
@@ -44,10 +26,10 @@ write32-spec =
     tie.close
     (tie.spec
     returns
-    cast-write16
-    write16-requires
-    cast-write16-2
-    add-write16
-    write16-requires-2
-    same-length
+    (λ c. search needs)
+    (λ c κs. search needs)
+    (λ c. search needs)
+    (λ c. search needs)
+    (λ c κs. search needs)
+    (λ c. search needs)
     returns-2)

@@ -14,24 +14,6 @@ returns c =
     let a = c .before .before .args in
     sym (sets-out (now (a .out)) (a .at) (bytes 6 (a .n)) (c .if1 .taken))
 
-cast-write16 : tie.Need-cast-write16
-cast-write16 c = search needs
-
-write16-requires : tie.Need-write16-requires
-write16-requires c κs = search needs
-
-cast-write32 : tie.Need-cast-write32
-cast-write32 c = search needs
-
-add-write32 : tie.Need-add-write32
-add-write32 c = search needs
-
-write32-requires : tie.Need-write32-requires
-write32-requires c κs = search needs
-
-same-length : tie.Need-same-length
-same-length c = search needs
-
 returns-2 : tie.Need-returns-2
 returns-2 c =
     let a = c .before .before .before .before .before .before .before .before .before .before .args in
@@ -44,10 +26,10 @@ write48-spec =
     tie.close
     (tie.spec
     returns
-    cast-write16
-    write16-requires
-    cast-write32
-    add-write32
-    write32-requires
-    same-length
+    (λ c. search needs)
+    (λ c κs. search needs)
+    (λ c. search needs)
+    (λ c. search needs)
+    (λ c κs. search needs)
+    (λ c. search needs)
     returns-2)

@@ -13,16 +13,10 @@ low-half : (z : ℤ) → modulo (2 ^ 32) z % 65536 ≡ modulo (2 ^ 16) z
 low-half (pos n) = omega arith
 low-half (negsuc n) = omega arith
 
-low32-requires : tie.Need-low32-requires
-low32-requires c κs = search needs
-
-cast-result : tie.Need-cast-result
-cast-result c = search needs
-
 returns : tie.Need-returns
 returns c =
     let z = c .before .args .z in
     ap (λ (n : ℕ). n % 65536) (c .low32 .ensures) ∙ low-half (seen z) ∙ ap (modulo (2 ^ 16)) (seen-is z (c .before .fits .z))
 
 pub low16-spec : {M : Type 1} → statement M
-low16-spec = tie.close (tie.spec low32-requires cast-result returns)
+low16-spec = tie.close (tie.spec (λ c κs. search needs) (λ c. search needs) returns)

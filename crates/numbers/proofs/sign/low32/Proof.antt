@@ -24,20 +24,11 @@ sub-below c = known c .minus-fits
 cast-below : tie.Need-cast-below
 cast-below c = turned-cast (known c)
 
-sub-result : tie.Need-sub-result
-sub-result c = search needs
-
-cast-result : tie.Need-cast-result
-cast-result c = search needs
-
 returns : tie.Need-returns
 returns c = negative-modulo (known c) (2 ^ 32) refl (omega arith)
 
 cast-result-2 : tie.Need-cast-result-2
 cast-result-2 c = natural-cast (c .before .args .z) (c .before .fits .z) (natural c)
-
-cast-result-3 : tie.Need-cast-result-3
-cast-result-3 c = search needs
 
 returns-2 : tie.Need-returns-2
 returns-2 c = natural-modulo (2 ^ 32) (c .before .args .z) (c .before .fits .z) (natural c) refl
@@ -49,9 +40,9 @@ low32-spec =
     add-below
     sub-below
     cast-below
-    sub-result
-    cast-result
+    (λ c. search needs)
+    (λ c. search needs)
     returns
     cast-result-2
-    cast-result-3
+    (λ c. search needs)
     returns-2)

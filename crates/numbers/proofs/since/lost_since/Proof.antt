@@ -23,12 +23,6 @@ fits32 d h = record { sfits = omega arith }
 fits16 : (d : ℕ) → 32768 ≤ d → SFits w16 (negsuc (65536 - suc d))
 fits16 d h = record { sfits = omega arith }
 
-wrapping-sub-u16-requires : tie.Need-wrapping-sub-u16-requires
-wrapping-sub-u16-requires c κs = search needs
-
-cast-result : tie.Need-cast-result
-cast-result c = search needs
-
 returns : tie.Need-returns
 unfolding since
 returns c =
@@ -36,9 +30,6 @@ returns c =
     let d = c .before .wrapping-sub-u16 .result in
     let e = since-unique (2 ^ 16) (a .later) (a .earlier) d (search needs) (search needs) (search needs) (c .before .wrapping-sub-u16 .ensures) in
     toZ-pos w16 d (c .if1 .taken) ∙ sym (signed-low 15 d (c .if1 .taken)) ∙ ap (signed 16) e
-
-cast-result-2 : tie.Need-cast-result-2
-cast-result-2 c = search needs
 
 sub-result : tie.Need-sub-result
 sub-result c =
@@ -63,10 +54,10 @@ pub lost-since-spec : {M : Type 1} → statement M
 lost-since-spec =
     tie.close
     (tie.spec
-    wrapping-sub-u16-requires
-    cast-result
+    (λ c κs. search needs)
+    (λ c. search needs)
     returns
-    cast-result-2
+    (λ c. search needs)
     sub-result
     cast-result-3
     returns-2)

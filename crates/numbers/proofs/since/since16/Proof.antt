@@ -6,9 +6,6 @@ use Rattle.numbers.proofs.Differences.{since-unique}
 use Rattle.numbers.proofs.since.since16.Statement.{statement}
 use Rattle.numbers.proofs.since.since16.Tie as tie
 
-wrapping-sub-u16-requires : tie.Need-wrapping-sub-u16-requires
-wrapping-sub-u16-requires c κs = search needs
-
 returns : tie.Need-returns
 unfolding since
 returns c =
@@ -16,4 +13,4 @@ returns c =
     since-unique (2 ^ 16) (a .later) (a .earlier) (c .wrapping-sub-u16 .result) (search needs) (search needs) (search needs) (c .wrapping-sub-u16 .ensures)
 
 pub since16-spec : {M : Type 1} → statement M
-since16-spec = tie.close (tie.spec wrapping-sub-u16-requires returns)
+since16-spec = tie.close (tie.spec (λ c κs. search needs) returns)

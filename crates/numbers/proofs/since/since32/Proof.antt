@@ -6,9 +6,6 @@ use Rattle.numbers.proofs.Differences.{since-unique}
 use Rattle.numbers.proofs.since.since32.Statement.{statement}
 use Rattle.numbers.proofs.since.since32.Tie as tie
 
-wrapping-sub-u32-requires : tie.Need-wrapping-sub-u32-requires
-wrapping-sub-u32-requires c κs = search needs
-
 returns : tie.Need-returns
 unfolding since
 returns c =
@@ -16,4 +13,4 @@ returns c =
     since-unique (2 ^ 32) (a .later) (a .earlier) (c .wrapping-sub-u32 .result) (search needs) (search needs) (search needs) (c .wrapping-sub-u32 .ensures)
 
 pub since32-spec : {M : Type 1} → statement M
-since32-spec = tie.close (tie.spec wrapping-sub-u32-requires returns)
+since32-spec = tie.close (tie.spec (λ c κs. search needs) returns)

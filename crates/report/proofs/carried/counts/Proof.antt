@@ -8,24 +8,6 @@ use Rattle.report.specs.Carried.{countsOf}
 use Rattle.report.proofs.carried.counts.Statement.{statement}
 use Rattle.report.proofs.carried.counts.Tie as tie
 
-low16-requires : tie.Need-low16-requires
-low16-requires c κs = search needs
-
-cast-t5 : tie.Need-cast-t5
-cast-t5 c = search needs
-
-cast-t7 : tie.Need-cast-t7
-cast-t7 c = search needs
-
-cast-t9 : tie.Need-cast-t9
-cast-t9 c = search needs
-
-cast-t11 : tie.Need-cast-t11
-cast-t11 c = search needs
-
-cast-t13 : tie.Need-cast-t13
-cast-t13 c = search needs
-
 returns : tie.Need-returns
 unfolding countsOf
 returns c =
@@ -40,4 +22,4 @@ returns c =
     }
 
 pub counts-spec : {M : Type 1} → statement M
-counts-spec = tie.close (tie.spec low16-requires cast-t5 cast-t7 cast-t9 cast-t11 cast-t13 returns)
+counts-spec = tie.close (tie.spec (λ c κs. search needs) (λ c. search needs) (λ c. search needs) (λ c. search needs) (λ c. search needs) (λ c. search needs) returns)

@@ -13,18 +13,6 @@ use Rattle.report.proofs.carried.of.Tie as tie
 known : (c : tie.After-highest) → Counted (c .before .before .before .before .before .args .s) (c .before .before .lost2 .given .0 .0)
 known c = lost-packets (c .before .before .before .before .before .args .s) (sym (c .before .before .before .before .lost .ensures) ∙ c .before .before .lost2 .given .1)
 
-lost-requires : tie.Need-lost-requires
-lost-requires c κs = search needs
-
-enum-told : tie.Need-enum-told
-enum-told c = search needs
-
-enum-known-lost : tie.Need-enum-known-lost
-enum-known-lost c = search needs
-
-low32-requires : tie.Need-low32-requires
-low32-requires c κs = search needs
-
 counts-requires : tie.Need-counts-requires
 counts-requires c κs =
     let n = known (c .before .before) in
@@ -46,10 +34,10 @@ pub of-spec : {M : Type 1} → statement M
 of-spec =
     tie.close
     (tie.spec
-    lost-requires
-    enum-told
-    enum-known-lost
-    low32-requires
+    (λ c κs. search needs)
+    (λ c. search needs)
+    (λ c. search needs)
+    (λ c κs. search needs)
     counts-requires
     returns
     returns-2)

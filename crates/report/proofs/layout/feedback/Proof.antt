@@ -17,21 +17,6 @@ returns c =
     let a = c .before .before .args in
     wrote-short (feedbackOf (a .sender) (a .media) (a .highest) (a .c)) (now (a .out)) refl (omega (arith, length-feedback (a .sender) (a .media) (a .highest) (a .c))) (sym (length-feedback (a .sender) (a .media) (a .highest) (a .c)))
 
-pair-requires : tie.Need-pair-requires
-pair-requires c κs = search needs
-
-pair-requires-2 : tie.Need-pair-requires-2
-pair-requires-2 c κs = search needs
-
-slice-aggregate-put-words : tie.Need-slice-aggregate-put-words
-slice-aggregate-put-words c = search needs
-
-put-words-requires : tie.Need-put-words-requires
-put-words-requires c κs = search needs
-
-same-length : tie.Need-same-length
-same-length c = search needs
-
 returns-2 : tie.Need-returns-2
 returns-2 c =
     let a = c .before .before .before .before .before .before .before .before .before .args in
@@ -46,9 +31,9 @@ feedback-spec =
     tie.close
     (tie.spec
     returns
-    pair-requires
-    pair-requires-2
-    slice-aggregate-put-words
-    put-words-requires
-    same-length
+    (λ c κs. search needs)
+    (λ c κs. search needs)
+    (λ c. search needs)
+    (λ c κs. search needs)
+    (λ c. search needs)
     returns-2)

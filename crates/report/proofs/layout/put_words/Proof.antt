@@ -21,17 +21,11 @@ abbrev μ-loop : tie.MeasureT-loop
 loop-holds : tie.Need-loop-holds Inv-loop μ-loop
 loop-holds c = (refl, omega arith, refl)
 
-mul-write32 : tie.Need-mul-write32 Inv-loop μ-loop
-mul-write32 c = search needs
-
 shared-slice-read-write32 : tie.Need-shared-slice-read-write32 Inv-loop μ-loop
 shared-slice-read-write32 c = omega arith
 
 mul-write32-2 : tie.Need-mul-write32-2 Inv-loop μ-loop
 mul-write32-2 c = omega arith
-
-write32-requires : tie.Need-write32-requires Inv-loop μ-loop
-write32-requires c κs = search needs
 
 add-i : tie.Need-add-i Inv-loop μ-loop
 add-i c = omega arith
@@ -60,10 +54,10 @@ put-words-spec =
     Inv-loop
     μ-loop
     loop-holds
-    mul-write32
+    (λ c. search needs)
     shared-slice-read-write32
     mul-write32-2
-    write32-requires
+    (λ c κs. search needs)
     add-i
     loop-less
     loop-again

@@ -18,15 +18,9 @@ within c =
     let s = c .before .before .before .pre in
     omega (arith, s .whole, feedback-within (a .header) (now (a .b)) (a .at) s (was-true (c .before .is-feedback .ensures) (c .if1 .left)))
 
-is-feedback-requires : tie.Need-is-feedback-requires
-is-feedback-requires c κs = search needs
-
 returns : tie.Need-returns
 unfolding feedbackIn
 returns c = rw (was-false (c .before .is-feedback .ensures) (c .if1 .taken))
-
-add-number32 : tie.Need-add-number32
-add-number32 c = search needs
 
 number32-requires : tie.Need-number32-requires
 number32-requires c κs = omega (arith, within (c))
@@ -35,20 +29,11 @@ returns-2 : tie.Need-returns-2
 unfolding feedbackIn
 returns-2 c = rw (was-true (c .before .before .before .is-feedback .ensures) (c .before .before .if1 .left), ← (c .before .number32 .ensures), ne-eqb _ _ (c .if2 .taken))
 
-add-number32-2 : tie.Need-add-number32-2
-add-number32-2 c = search needs
-
 number32-requires-2 : tie.Need-number32-requires-2
 number32-requires-2 c κs = omega (arith, within (c .before .before))
 
-add-number32-3 : tie.Need-add-number32-3
-add-number32-3 c = search needs
-
 number32-requires-3 : tie.Need-number32-requires-3
 number32-requires-3 c κs = omega (arith, within (c .before .before .before))
-
-add-counts-at : tie.Need-add-counts-at
-add-counts-at c = search needs
 
 counts-at-requires : tie.Need-counts-at-requires
 counts-at-requires c κs = omega (arith, within (c .before .before .before .before))
@@ -61,15 +46,15 @@ pub feedback-in-spec : {M : Type 1} → statement M
 feedback-in-spec =
     tie.close
     (tie.spec
-    is-feedback-requires
+    (λ c κs. search needs)
     returns
-    add-number32
+    (λ c. search needs)
     number32-requires
     returns-2
-    add-number32-2
+    (λ c. search needs)
     number32-requires-2
-    add-number32-3
+    (λ c. search needs)
     number32-requires-3
-    add-counts-at
+    (λ c. search needs)
     counts-at-requires
     returns-3)

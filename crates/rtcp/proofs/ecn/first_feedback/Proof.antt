@@ -10,15 +10,6 @@ use Rattle.rtcp.proofs.Left.{feedback-last}
 use Rattle.rtcp.proofs.ecn.first_feedback.Statement.{statement}
 use Rattle.rtcp.proofs.ecn.first_feedback.Tie as tie
 
-enum-known-old : tie.Need-enum-known-old
-enum-known-old c = search needs
-
-enum-told : tie.Need-enum-told
-enum-told c = search needs
-
-feedback-in-requires : tie.Need-feedback-in-requires
-feedback-in-requires c κs = search needs
-
 returns : tie.Need-returns
 returns c =
     let a = c .before .before .before .before .args in
@@ -31,4 +22,4 @@ returns-2 c =
     ∙ ap (λ (n : MaybeFeedback). firstFeedback (c .before .before .before .before .args .old ∷ n ∷ [])) (c .feedback-in .ensures)
 
 pub first-feedback-spec : {M : Type 1} → statement M
-first-feedback-spec = tie.close (tie.spec enum-known-old enum-told feedback-in-requires returns returns-2)
+first-feedback-spec = tie.close (tie.spec (λ c. search needs) (λ c. search needs) (λ c κs. search needs) returns returns-2)

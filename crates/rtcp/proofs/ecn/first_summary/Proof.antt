@@ -10,15 +10,6 @@ use Rattle.rtcp.proofs.Left.{summary-last}
 use Rattle.rtcp.proofs.ecn.first_summary.Statement.{statement}
 use Rattle.rtcp.proofs.ecn.first_summary.Tie as tie
 
-enum-known-old : tie.Need-enum-known-old
-enum-known-old c = search needs
-
-enum-told : tie.Need-enum-told
-enum-told c = search needs
-
-summary-in-requires : tie.Need-summary-in-requires
-summary-in-requires c κs = search needs
-
 returns : tie.Need-returns
 returns c =
     let a = c .before .before .before .before .args in
@@ -31,4 +22,4 @@ returns-2 c =
     ∙ ap (λ (n : MaybeSummary). firstSummary (c .before .before .before .before .args .old ∷ n ∷ [])) (c .summary-in .ensures)
 
 pub first-summary-spec : {M : Type 1} → statement M
-first-summary-spec = tie.close (tie.spec enum-known-old enum-told summary-in-requires returns returns-2)
+first-summary-spec = tie.close (tie.spec (λ c. search needs) (λ c. search needs) (λ c κs. search needs) returns returns-2)

@@ -35,23 +35,11 @@ returns-2 : tie.Need-returns-2
 unfolding summaryIn isSummary
 returns-2 c = rw (eq-eqb _ _ (c .before .before .if1 .left), ne-eqb _ _ (c .if2 .taken))
 
-add-find-entry : tie.Need-add-find-entry
-add-find-entry c = search needs
-
-find-entry-requires : tie.Need-find-entry-requires
-find-entry-requires c κs = search needs
-
-enum-known-place : tie.Need-enum-known-place
-enum-known-place c = search needs
-
 add-counts-at : tie.Need-add-counts-at
 add-counts-at c = omega (arith, within c)
 
 counts-at-requires : tie.Need-counts-at-requires
 counts-at-requires c κs = omega (arith, within c)
-
-enum-told : tie.Need-enum-told
-enum-told c = search needs
 
 returns-3 : tie.Need-returns-3
 returns-3 c = ap MaybeSummary.Present (c .counts-at .ensures) ∙ is (c .before .before .before .before) (Place.At (c .before .before .place .given .0 .0)) (sym (c .before .before .place .given .1))
@@ -65,11 +53,11 @@ summary-in-spec =
     (tie.spec
     returns
     returns-2
-    add-find-entry
-    find-entry-requires
-    enum-known-place
+    (λ c. search needs)
+    (λ c κs. search needs)
+    (λ c. search needs)
     add-counts-at
     counts-at-requires
-    enum-told
+    (λ c. search needs)
     returns-3
     returns-4)

@@ -10,18 +10,6 @@ returns : tie.Need-returns
 unfolding padding
 returns c = (rw (not-true (c .before .before .before .args .header .padded) (c .if1 .taken)), omega arith)
 
-add-byte : tie.Need-add-byte
-add-byte c = search needs
-
-sub-byte : tie.Need-sub-byte
-sub-byte c = search needs
-
-byte-requires : tie.Need-byte-requires
-byte-requires c κs = search needs
-
-cast-result : tie.Need-cast-result
-cast-result c = search needs
-
 returns-2 : tie.Need-returns-2
 unfolding padding
 returns-2 c = (
@@ -30,4 +18,4 @@ returns-2 c = (
 )
 
 pub padding-at-spec : {M : Type 1} → statement M
-padding-at-spec = tie.close (tie.spec returns add-byte sub-byte byte-requires cast-result returns-2)
+padding-at-spec = tie.close (tie.spec returns (λ c. search needs) (λ c. search needs) (λ c κs. search needs) (λ c. search needs) returns-2)

@@ -5,26 +5,17 @@ use Rattle.rtcp.specs.Packets.{mayStand}
 use Rattle.rtcp.proofs.packet.may_stand.Statement.{statement}
 use Rattle.rtcp.proofs.packet.may_stand.Tie as tie
 
-enum-told : tie.Need-enum-told
-enum-told c = search needs
-
 returns : tie.Need-returns
 unfolding mayStand
 returns c = search needs
 
-enum-told-2 : tie.Need-enum-told-2
-enum-told-2 c = search needs
-
 returns-2 : tie.Need-returns-2
 unfolding mayStand
 returns-2 c = rw (c .before .enum-told2 .given .1, ne-eqb _ _ (c .if1 .taken))
-
-is-report-requires : tie.Need-is-report-requires
-is-report-requires c κs = search needs
 
 returns-3 : tie.Need-returns-3
 unfolding mayStand
 returns-3 c = rw (c .before .before .enum-told2 .given .1, eq-eqb _ _ (c .before .if1 .left)) (c .is-report .ensures)
 
 pub may-stand-spec : {M : Type 1} → statement M
-may-stand-spec = tie.close (tie.spec enum-told returns enum-told-2 returns-2 is-report-requires returns-3)
+may-stand-spec = tie.close (tie.spec (λ c. search needs) returns (λ c. search needs) returns-2 (λ c κs. search needs) returns-3)

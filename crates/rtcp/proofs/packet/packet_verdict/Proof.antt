@@ -8,9 +8,6 @@ use Rattle.rtcp.proofs.Whole.{padding-le}
 use Rattle.rtcp.proofs.packet.packet_verdict.Statement.{statement}
 use Rattle.rtcp.proofs.packet.packet_verdict.Tie as tie
 
-sub-left : tie.Need-sub-left
-sub-left c = search needs
-
 returns : tie.Need-returns
 unfolding packetVerdict
 returns c = rw (lt-leb _ _ (c .if1 .taken))
@@ -23,22 +20,10 @@ returns-3 : tie.Need-returns-3
 unfolding packetVerdict
 returns-3 c = rw (le-leb _ _ (c .before .before .before .before .if1 .left), eq-eqb _ _ (c .before .before .if2 .left), lt-leb _ _ (c .if3 .taken))
 
-padding-at-requires : tie.Need-padding-at-requires
-padding-at-requires c κs = search needs
-
-add-padding-right : tie.Need-add-padding-right
-add-padding-right c = search needs
-
-padding-right-requires : tie.Need-padding-right-requires
-padding-right-requires c κs = search needs
-
 returns-4 : tie.Need-returns-4
 unfolding packetVerdict
 returns-4 c =
     rw (le-leb _ _ (c .before .before .before .before .before .before .before .before .if1 .left), eq-eqb _ _ (c .before .before .before .before .before .before .if2 .left), le-leb _ _ (c .before .before .before .before .if3 .left), ← (c .before .before .before .padding-at .ensures .0), was-false (c .before .padding-right .ensures) (c .if4 .taken))
-
-may-stand-requires : tie.Need-may-stand-requires
-may-stand-requires c κs = search needs
 
 returns-5 : tie.Need-returns-5
 unfolding packetVerdict
@@ -50,9 +35,6 @@ sub-body-right c =
     let a = c .before .before .before .before .before .before .before .before .before .before .before .before .before .args in
     let p = c .before .before .before .before .before .before .padding-at in
     padding-le (a .header) (now (a .b)) (a .at) _ (p .result) (p .ensures .0) (was-true (c .before .before .before .before .padding-right .ensures) (c .before .before .before .if4 .left))
-
-body-right-requires : tie.Need-body-right-requires
-body-right-requires c κs = search needs
 
 returns-6 : tie.Need-returns-6
 unfolding packetVerdict
@@ -68,17 +50,17 @@ pub packet-verdict-spec : {M : Type 1} → statement M
 packet-verdict-spec =
     tie.close
     (tie.spec
-    sub-left
+    (λ c. search needs)
     returns
     returns-2
     returns-3
-    padding-at-requires
-    add-padding-right
-    padding-right-requires
+    (λ c κs. search needs)
+    (λ c. search needs)
+    (λ c κs. search needs)
     returns-4
-    may-stand-requires
+    (λ c κs. search needs)
     returns-5
     sub-body-right
-    body-right-requires
+    (λ c κs. search needs)
     returns-6
     returns-7)

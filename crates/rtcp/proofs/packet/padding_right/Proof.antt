@@ -28,9 +28,6 @@ returns-4 c =
     let a = c .before .before .before .before .before .args in
     rw (not-false (a .header .padded) (c .before .before .before .if1 .left)) (all-false (paddingRules (a .header) (a .last) (a .padding)) 2 (lt-leb _ _ (c .if4 .taken)))
 
-add-if5 : tie.Need-add-if5
-add-if5 c = search needs
-
 returns-5 : tie.Need-returns-5
 unfolding paddingRight
 returns-5 c =
@@ -44,4 +41,4 @@ returns-6 c =
     rw (not-false (a .header .padded) (c .before .before .before .before .before .if1 .left), not-false (a .last) (c .before .before .before .before .if2 .left), eq-eqb _ _ (c .before .before .before .if3 .left), le-leb _ _ (c .before .before .if4 .left), le-leb _ _ (c .if5 .left))
 
 pub padding-right-spec : {M : Type 1} → statement M
-padding-right-spec = tie.close (tie.spec returns returns-2 returns-3 returns-4 add-if5 returns-5 returns-6)
+padding-right-spec = tie.close (tie.spec returns returns-2 returns-3 returns-4 (λ c. search needs) returns-5 returns-6)

@@ -10,15 +10,6 @@ use Rattle.rtcp.proofs.Left.{report-last}
 use Rattle.rtcp.proofs.reports.first_report.Statement.{statement}
 use Rattle.rtcp.proofs.reports.first_report.Tie as tie
 
-enum-known-old : tie.Need-enum-known-old
-enum-known-old c = search needs
-
-enum-told : tie.Need-enum-told
-enum-told c = search needs
-
-report-in-requires : tie.Need-report-in-requires
-report-in-requires c κs = search needs
-
 returns : tie.Need-returns
 returns c =
     let a = c .before .before .before .before .args in
@@ -31,4 +22,4 @@ returns-2 c =
     ∙ ap (λ (n : MaybeReport). firstReport (c .before .before .before .before .args .old ∷ n ∷ [])) (c .report-in .ensures)
 
 pub first-report-spec : {M : Type 1} → statement M
-first-report-spec = tie.close (tie.spec enum-known-old enum-told report-in-requires returns returns-2)
+first-report-spec = tie.close (tie.spec (λ c. search needs) (λ c. search needs) (λ c κs. search needs) returns returns-2)

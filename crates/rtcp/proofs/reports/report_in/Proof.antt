@@ -34,27 +34,12 @@ is c p e =
     ap (reportAt (now (c .before .before .before .before .before .before .args .b))) (e ∙ c .find-entry .ensures)
     ∙ rw (is-one (c .before .before), ← (c .before .before .blocks-from .ensures .0))
 
-is-report-requires : tie.Need-is-report-requires
-is-report-requires c κs = search needs
-
 returns : tie.Need-returns
 unfolding reportIn
 returns c = rw (was-false (c .before .is-report .ensures) (c .if1 .taken))
 
-blocks-from-requires : tie.Need-blocks-from-requires
-blocks-from-requires c κs = search needs
-
-add-from : tie.Need-add-from
-add-from c = search needs
-
-cast-find-entry : tie.Need-cast-find-entry
-cast-find-entry c = search needs
-
 find-entry-requires : tie.Need-find-entry-requires
 find-entry-requires c κs = (omega arith, within (c .before))
-
-enum-known-place : tie.Need-enum-known-place
-enum-known-place c = search needs
 
 report-block-at-requires : tie.Need-report-block-at-requires
 report-block-at-requires c κs =
@@ -63,9 +48,6 @@ report-block-at-requires c κs =
     let from = a .at + c .before .before .before .before .before .blocks-from .result in
     let e = sym (c .before .before .before .find-entry .ensures) ∙ c .before .place .given .1 in
     omega (arith, within (c .before .before .before .before .before), entry-within reportSize (now (a .b)) (a .header .count) from (a .media) at e)
-
-enum-told : tie.Need-enum-told
-enum-told c = search needs
 
 returns-2 : tie.Need-returns-2
 returns-2 c = ap MaybeReport.Present (c .report-block-at .ensures) ∙ is (c .before .before .before .before) (Place.At (c .before .before .place .given .0 .0)) (sym (c .before .before .place .given .1))
@@ -77,14 +59,14 @@ pub report-in-spec : {M : Type 1} → statement M
 report-in-spec =
     tie.close
     (tie.spec
-    is-report-requires
+    (λ c κs. search needs)
     returns
-    blocks-from-requires
-    add-from
-    cast-find-entry
+    (λ c κs. search needs)
+    (λ c. search needs)
+    (λ c. search needs)
     find-entry-requires
-    enum-known-place
+    (λ c. search needs)
     report-block-at-requires
-    enum-told
+    (λ c. search needs)
     returns-2
     returns-3)

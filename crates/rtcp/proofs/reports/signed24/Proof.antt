@@ -23,37 +23,10 @@ number-is c = ap₂ (λ (x y : ℕ). x * 256 + y) (c .before .number16 .ensures)
 number-lt : (c : tie.After-byte) → number c < 16777216
 number-lt c = omega (arith, c .before .number16 .ok, c .byte .ok)
 
-number16-requires : tie.Need-number16-requires
-number16-requires c κs = search needs
-
-cast-n : tie.Need-cast-n
-cast-n c = search needs
-
-mul-n : tie.Need-mul-n
-mul-n c = search needs
-
-add-byte : tie.Need-add-byte
-add-byte c = search needs
-
-byte-requires : tie.Need-byte-requires
-byte-requires c κs = search needs
-
-cast-n-2 : tie.Need-cast-n-2
-cast-n-2 c = search needs
-
-add-n : tie.Need-add-n
-add-n c = search needs
-
-cast-result : tie.Need-cast-result
-cast-result c = search needs
-
 returns : tie.Need-returns
 returns c =
     let n = number (c .before) in
     toZ-pos w32 n (omega (arith, c .if1 .taken)) ∙ sym (signed-low 23 n (c .if1 .taken)) ∙ ap (signed 24) (number-is (c .before))
-
-cast-result-2 : tie.Need-cast-result-2
-cast-result-2 c = search needs
 
 sub-result : tie.Need-sub-result
 sub-result c = narrow-fits 16777216 (number (c .before)) (number-lt (c .before)) (omega arith)
@@ -67,15 +40,15 @@ pub signed24-spec : {M : Type 1} → statement M
 signed24-spec =
     tie.close
     (tie.spec
-    number16-requires
-    cast-n
-    mul-n
-    add-byte
-    byte-requires
-    cast-n-2
-    add-n
-    cast-result
+    (λ c κs. search needs)
+    (λ c. search needs)
+    (λ c. search needs)
+    (λ c. search needs)
+    (λ c κs. search needs)
+    (λ c. search needs)
+    (λ c. search needs)
+    (λ c. search needs)
     returns
-    cast-result-2
+    (λ c. search needs)
     sub-result
     returns-2)

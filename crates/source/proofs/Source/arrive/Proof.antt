@@ -6,9 +6,6 @@ use Rattle.source.proofs.Answers.{arrival-malformed, arrival-mark}
 use Rattle.source.proofs.Source.arrive.Statement.{statement}
 use Rattle.source.proofs.Source.arrive.Tie as tie
 
-is-sound-requires : tie.Need-is-sound-requires
-is-sound-requires c κs = search needs
-
 returns : tie.Need-returns
 returns c =
     let a = c .before .before .args in
@@ -22,8 +19,5 @@ returns-2 c =
 step-requires : tie.Need-step-requires
 step-requires c κs = (was-true (c .before .before .is-sound .ensures) (c .before .if1 .left), c .if2 .left)
 
-returns-3 : tie.Need-returns-3
-returns-3 c = search needs
-
 pub arrive-spec : {M : Type 1} → statement M
-arrive-spec = tie.close (tie.spec is-sound-requires returns returns-2 step-requires returns-3)
+arrive-spec = tie.close (tie.spec (λ c κs. search needs) returns returns-2 step-requires (λ c. search needs))

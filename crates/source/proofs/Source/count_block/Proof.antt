@@ -5,15 +5,9 @@ use Rattle.source.specs.Blocks.{blockCount}
 use Rattle.source.proofs.Source.count_block.Statement.{statement}
 use Rattle.source.proofs.Source.count_block.Tie as tie
 
-is-sound-requires : tie.Need-is-sound-requires
-is-sound-requires c κs = search needs
-
 returns : tie.Need-returns
 unfolding blockCount
 returns c = rw (was-false (c .before .is-sound .ensures) (c .if1 .taken))
-
-in-limits-requires : tie.Need-in-limits-requires
-in-limits-requires c κs = search needs
 
 returns-2 : tie.Need-returns-2
 unfolding blockCount
@@ -32,4 +26,4 @@ returns-3 c =
 pub count-block-spec : {M : Type 1} → statement M
 count-block-spec =
     tie.close
-    (tie.spec is-sound-requires returns in-limits-requires returns-2 count-requires returns-3)
+    (tie.spec (λ c κs. search needs) returns (λ c κs. search needs) returns-2 count-requires returns-3)

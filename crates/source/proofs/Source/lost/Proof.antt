@@ -9,15 +9,9 @@ use Rattle.source.specs.Record.{lost, lostAnswer}
 use Rattle.source.proofs.Source.lost.Statement.{statement}
 use Rattle.source.proofs.Source.lost.Tie as tie
 
-is-sound-requires : tie.Need-is-sound-requires
-is-sound-requires c κs = search needs
-
 returns : tie.Need-returns
 unfolding lostAnswer
 returns c = rw (was-false (c .before .is-sound .ensures) (c .if1 .taken))
-
-is-fresh-requires : tie.Need-is-fresh-requires
-is-fresh-requires c κs = search needs
 
 returns-2 : tie.Need-returns-2
 unfolding lostAnswer lost
@@ -38,4 +32,4 @@ returns-3 c =
 pub lost-spec : {M : Type 1} → statement M
 lost-spec =
     tie.close
-    (tie.spec is-sound-requires returns is-fresh-requires returns-2 packets-requires returns-3)
+    (tie.spec (λ c κs. search needs) returns (λ c κs. search needs) returns-2 packets-requires returns-3)

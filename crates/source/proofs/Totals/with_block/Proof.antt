@@ -5,21 +5,6 @@ use Rattle.source.specs.Totals.{withBlock}
 use Rattle.source.proofs.Totals.with_block.Statement.{statement}
 use Rattle.source.proofs.Totals.with_block.Tie as tie
 
-enum-told : tie.Need-enum-told
-enum-told c = search needs
-
-enum-known-count : tie.Need-enum-known-count
-enum-known-count c = search needs
-
-raised-requires : tie.Need-raised-requires
-raised-requires c κs = search needs
-
-raised-requires-2 : tie.Need-raised-requires-2
-raised-requires-2 c κs = search needs
-
-returns : tie.Need-returns
-returns c = search needs
-
 returns-2 : tie.Need-returns-2
 returns-2 c =
     let is = c .before .before .before .count .given in
@@ -29,4 +14,4 @@ returns-2 c =
 pub with-block-spec : {M : Type 1} → statement M
 with-block-spec =
     tie.close
-    (tie.spec enum-told enum-known-count raised-requires raised-requires-2 returns returns-2)
+    (tie.spec (λ c. search needs) (λ c. search needs) (λ c κs. search needs) (λ c κs. search needs) (λ c. search needs) returns-2)

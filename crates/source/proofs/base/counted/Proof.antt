@@ -5,18 +5,6 @@ use Rattle.source.specs.Arrivals.{counted}
 use Rattle.source.proofs.base.counted.Statement.{statement}
 use Rattle.source.proofs.base.counted.Tie as tie
 
-raised-requires : tie.Need-raised-requires
-raised-requires c κs = search needs
-
-raised-requires-2 : tie.Need-raised-requires-2
-raised-requires-2 c κs = search needs
-
-raised-requires-3 : tie.Need-raised-requires-3
-raised-requires-3 c κs = search needs
-
-raised-requires-4 : tie.Need-raised-requires-4
-raised-requires-4 c κs = search needs
-
 returns : tie.Need-returns
 unfolding counted
 returns c =
@@ -35,4 +23,4 @@ returns c =
 pub counted-spec : {M : Type 1} → statement M
 counted-spec =
     tie.close
-    (tie.spec raised-requires raised-requires-2 raised-requires-3 raised-requires-4 returns)
+    (tie.spec (λ c κs. search needs) (λ c κs. search needs) (λ c κs. search needs) (λ c κs. search needs) returns)

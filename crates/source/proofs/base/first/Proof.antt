@@ -12,12 +12,6 @@ use Rattle.source.proofs.Shifts.{first-history}
 use Rattle.source.proofs.base.first.Statement.{statement}
 use Rattle.source.proofs.base.first.Tie as tie
 
-cast-t6 : tie.Need-cast-t6
-cast-t6 c = search needs
-
-counted-requires : tie.Need-counted-requires
-counted-requires c κs = search needs
-
 returns : tie.Need-returns
 unfolding first
 returns c =
@@ -26,4 +20,4 @@ returns c =
     ∙ ap₂ (λ (e : Extended) (h : History). counted (a .s) (a .mark) e e 0 h) (ap extended (toZ-pos w64 (a .wire .0) (omega arith))) first-history
 
 pub first-spec : {M : Type 1} → statement M
-first-spec = tie.close (tie.spec cast-t6 counted-requires returns)
+first-spec = tie.close (tie.spec (λ c. search needs) (λ c κs. search needs) returns)

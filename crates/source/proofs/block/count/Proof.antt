@@ -55,9 +55,6 @@ add-join16 c = omega (arith, room (c .before))
 shared-slice-read-join16-2 : tie.Need-shared-slice-read-join16-2 Inv-loop μ-loop
 shared-slice-read-join16-2 c = omega (arith, room (c .before .before))
 
-join16-requires : tie.Need-join16-requires Inv-loop μ-loop
-join16-requires c κs = search needs
-
 add-mark : tie.Need-add-mark Inv-loop μ-loop
 add-mark c = omega (arith, room (c .before .before .before))
 
@@ -73,17 +70,8 @@ step-requires c κs =
       rw third (mark-here (a .width) (now (a .records)) (a .s) (l .at) (l .next) (l .jumps) (l .restarts) (l .inv .1) (c .before .before .before .before .loop-test .taken)),
     )
 
-after-requires : tie.Need-after-requires Inv-loop μ-loop
-after-requires c κs = search needs
-
-jump-requires : tie.Need-jump-requires Inv-loop μ-loop
-jump-requires c κs = search needs
-
 add-jumps : tie.Need-add-jumps Inv-loop μ-loop
 add-jumps c = omega (arith, few (c .before .before .before .before .before .before .before) .0, c .jump .ensures, jump-le (c .before .before .step .result))
-
-restart-requires : tie.Need-restart-requires Inv-loop μ-loop
-restart-requires c κs = search needs
 
 add-restarts : tie.Need-add-restarts Inv-loop μ-loop
 add-restarts c = omega (arith, few (c .before .before .before .before .before .before .before .before) .1, c .restart .ensures, restart-le (c .before .before .before .step .result))
@@ -130,14 +118,14 @@ count-spec =
     shared-slice-read-join16
     add-join16
     shared-slice-read-join16-2
-    join16-requires
+    (λ c κs. search needs)
     add-mark
     shared-slice-read-mark
     step-requires
-    after-requires
-    jump-requires
+    (λ c κs. search needs)
+    (λ c κs. search needs)
     add-jumps
-    restart-requires
+    (λ c κs. search needs)
     add-restarts
     add-at
     loop-less

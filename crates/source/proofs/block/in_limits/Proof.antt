@@ -18,17 +18,11 @@ returns c =
     let s = now (a .records) in
     all-false (inLimits (a .width) s) 0 (lt-leb 4 (a .width) (c .if1 .taken))
 
-rem-rest : tie.Need-rem-rest
-rem-rest c = search needs
-
 returns-2 : tie.Need-returns-2
 returns-2 c =
     let a = c .before .before .before .args in
     let s = now (a .records) in
     all-false (inLimits (a .width) s) 1 (ne-eqb (length s % a .width) 0 (λ e. omega (arith, e)))
-
-div-n : tie.Need-div-n
-div-n c = search needs
 
 returns-3 : tie.Need-returns-3
 returns-3 c =
@@ -60,4 +54,4 @@ returns-5 c =
 pub in-limits-spec : {M : Type 1} → statement M
 in-limits-spec =
     tie.close
-    (tie.spec returns rem-rest returns-2 div-n returns-3 returns-4 marks-fit-requires returns-5)
+    (tie.spec returns (λ c. search needs) returns-2 (λ c. search needs) returns-3 returns-4 marks-fit-requires returns-5)

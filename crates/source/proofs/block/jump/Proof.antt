@@ -7,27 +7,9 @@ use Rattle.source.specs.Blocks.{jump}
 use Rattle.source.proofs.block.jump.Statement.{statement}
 use Rattle.source.proofs.block.jump.Tie as tie
 
-enum-told : tie.Need-enum-told
-enum-told c = search needs
-
-enum-told-2 : tie.Need-enum-told-2
-enum-told-2 c = search needs
-
-enum-known-answer : tie.Need-enum-known-answer
-enum-known-answer c = search needs
-
-number-requires : tie.Need-number-requires
-number-requires c κs = search needs
-
 returns : tie.Need-returns
 returns c =
     sym (ap jump (c .before .before .before .answer .given .1) ∙ ap bit (eq-eqb _ 7 (sym (c .before .number .ensures) ∙ c .if1 .taken)))
-
-returns-2 : tie.Need-returns-2
-returns-2 c = search needs
-
-returns-3 : tie.Need-returns-3
-returns-3 c = search needs
 
 returns-4 : tie.Need-returns-4
 returns-4 c =
@@ -37,11 +19,11 @@ pub jump-spec : {M : Type 1} → statement M
 jump-spec =
     tie.close
     (tie.spec
-    enum-told
-    enum-told-2
-    enum-known-answer
-    number-requires
+    (λ c. search needs)
+    (λ c. search needs)
+    (λ c. search needs)
+    (λ c κs. search needs)
     returns
-    returns-2
-    returns-3
+    (λ c. search needs)
+    (λ c. search needs)
     returns-4)

@@ -13,9 +13,6 @@ returns c = sym (ap reachOf (c .if1 .taken) ∙ reach-level)
 returns-2 : tie.Need-returns-2
 returns-2 c = sym (reach-ahead (c .before .before .args .d) (omega arith) (c .if2 .taken))
 
-sub-t3 : tie.Need-sub-t3
-sub-t3 c = search needs
-
 returns-3 : tie.Need-returns-3
 returns-3 c = sym (reach-behind (c .before .before .before .args .d) (c .if3 .taken) (omega arith))
 
@@ -23,4 +20,4 @@ returns-4 : tie.Need-returns-4
 returns-4 c = sym (reach-jump (c .before .before .before .args .d) (omega arith) (omega arith))
 
 pub reach-of-spec : {M : Type 1} → statement M
-reach-of-spec = tie.close (tie.spec returns returns-2 sub-t3 returns-3 returns-4)
+reach-of-spec = tie.close (tie.spec returns returns-2 (λ c. search needs) returns-3 returns-4)

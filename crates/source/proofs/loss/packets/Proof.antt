@@ -91,9 +91,6 @@ add-span c =
     let z = sizes (c .before .before .before .before) (c .before .natural .ensures) (c .natural2 .ensures) in
     omega (arith, z .near)
 
-arrivals-requires : tie.Need-arrivals-requires
-arrivals-requires c κs = search needs
-
 sub-distinct : tie.Need-sub-distinct
 sub-distinct c =
     let f = known (c .before .before .before .before .before .before) in
@@ -109,12 +106,6 @@ unfolding span distinct-here source
 returns c =
     toZ-pos w64 (span (c .before) - distinct-here (c .before)) (omega (arith, span-small (c .before)))
     ∙ sym (lost-here (c .before) ∙ minus-pos (span (c .before)) (distinct-here (c .before)) (c .if1 .taken))
-
-sub-result : tie.Need-sub-result
-sub-result c = search needs
-
-cast-result-2 : tie.Need-cast-result-2
-cast-result-2 c = search needs
 
 sub-result-2 : tie.Need-sub-result-2
 unfolding span distinct-here source
@@ -137,11 +128,11 @@ packets-spec =
     natural-requires-2
     sub-span
     add-span
-    arrivals-requires
+    (λ c κs. search needs)
     sub-distinct
     cast-result
     returns
-    sub-result
-    cast-result-2
+    (λ c. search needs)
+    (λ c. search needs)
     sub-result-2
     returns-2)

@@ -6,11 +6,8 @@ use lib.Dec.{leb}
 use Rattle.source.proofs.places.at_most.Statement.{statement}
 use Rattle.source.proofs.places.at_most.Tie as tie
 
-count-requires : tie.Need-count-requires
-count-requires c κs = search needs
-
 returns : tie.Need-returns
 returns c = ap (λ (k : ℕ). leb k (c .before .args .n)) (c .count .ensures)
 
 pub at-most-spec : {M : Type 1} → statement M
-at-most-spec = tie.close (tie.spec count-requires returns)
+at-most-spec = tie.close (tie.spec (λ c κs. search needs) returns)

@@ -5,12 +5,6 @@ use Rattle.source.specs.Places.{place, marks}
 use Rattle.source.proofs.places.marked.Statement.{statement}
 use Rattle.source.proofs.places.marked.Tie as tie
 
-shr-result : tie.Need-shr-result
-shr-result c = search needs
-
-shr-result-2 : tie.Need-shr-result-2
-shr-result-2 c = search needs
-
 returns : tie.Need-returns
 unfolding marks place
 returns c = rw (lt-ltb _ _ (c .before .if1 .taken))
@@ -20,4 +14,4 @@ unfolding marks place
 returns-2 c = rw (le-ltb _ _ (c .before .if1 .left))
 
 pub marked-spec : {M : Type 1} → statement M
-marked-spec = tie.close (tie.spec shr-result shr-result-2 returns returns-2)
+marked-spec = tie.close (tie.spec (λ c. search needs) (λ c. search needs) returns returns-2)

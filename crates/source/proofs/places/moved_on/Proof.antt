@@ -5,15 +5,6 @@ use Rattle.source.proofs.Shifts.{moved-far, moved-out}
 use Rattle.source.proofs.places.moved_on.Statement.{statement}
 use Rattle.source.proofs.places.moved_on.Tie as tie
 
-near-requires : tie.Need-near-requires
-near-requires c κs = search needs
-
-returns : tie.Need-returns
-returns c = search needs
-
-shl-t5 : tie.Need-shl-t5
-shl-t5 c = search needs
-
 returns-2 : tie.Need-returns-2
 returns-2 c =
     let a = c .before .before .before .args in
@@ -25,4 +16,4 @@ returns-3 c =
     moved-out (a .h) (search needs) (search needs) (a .d) (search needs)
 
 pub moved-on-spec : {M : Type 1} → statement M
-moved-on-spec = tie.close (tie.spec near-requires returns shl-t5 returns-2 returns-3)
+moved-on-spec = tie.close (tie.spec (λ c κs. search needs) (λ c. search needs) (λ c. search needs) returns-2 returns-3)

@@ -8,14 +8,8 @@ use Rattle.source.proofs.Shifts.{one-shl, added-older, moved-none}
 use Rattle.source.proofs.places.with_mark.Statement.{statement}
 use Rattle.source.proofs.places.with_mark.Tie as tie
 
-near-requires : tie.Need-near-requires
-near-requires c κs = search needs
-
 returns : tie.Need-returns
 returns c = let a = c .before .before .args in c .near .ensures ∙ ap (λ (row : ℕ → Bool). history (added (a .k) row)) (moved-none (marks (a .h)))
-
-shl-t5 : tie.Need-shl-t5
-shl-t5 c = search needs
 
 returns-2 : tie.Need-returns-2
 returns-2 c =
@@ -23,4 +17,4 @@ returns-2 c =
     rw (one-shl (a .k - 64) (search needs)) (added-older (a .h) (search needs) (search needs) (a .k) (search needs) (search needs))
 
 pub with-mark-spec : {M : Type 1} → statement M
-with-mark-spec = tie.close (tie.spec near-requires returns shl-t5 returns-2)
+with-mark-spec = tie.close (tie.spec (λ c κs. search needs) returns (λ c. search needs) returns-2)

@@ -11,12 +11,6 @@ use Rattle.source.specs.Arrivals.{first, remembering, jumped}
 use Rattle.source.proofs.restarts.jumped.Statement.{statement}
 use Rattle.source.proofs.restarts.jumped.Tie as tie
 
-is-remembered-requires : tie.Need-is-remembered-requires
-is-remembered-requires c κs = search needs
-
-fresh-requires : tie.Need-fresh-requires
-fresh-requires c κs = search needs
-
 first-requires : tie.Need-first-requires
 first-requires c κs = let none : arrivals (c .fresh .result) ≡ 0 = ap arrivals (c .fresh .ensures) in omega arith
 
@@ -26,12 +20,6 @@ returns c =
     let a = c .before .before .before .before .args in
     rw (sym (c .before .before .before .is-remembered .ensures) ∙ c .before .before .if1 .taken)
     (ap Restarted (c .first .ensures ∙ ap (λ (s : Source). first s (a .wire) (a .mark)) (c .before .fresh .ensures)))
-
-next-requires : tie.Need-next-requires
-next-requires c κs = search needs
-
-remembering-requires : tie.Need-remembering-requires
-remembering-requires c κs = search needs
 
 returns-2 : tie.Need-returns-2
 unfolding jumped
@@ -44,10 +32,10 @@ pub jumped-spec : {M : Type 1} → statement M
 jumped-spec =
     tie.close
     (tie.spec
-    is-remembered-requires
-    fresh-requires
+    (λ c κs. search needs)
+    (λ c κs. search needs)
     first-requires
     returns
-    next-requires
-    remembering-requires
+    (λ c κs. search needs)
+    (λ c κs. search needs)
     returns-2)

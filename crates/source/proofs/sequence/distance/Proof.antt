@@ -19,18 +19,6 @@ distance-nat w h l = go (decLe h w)
     go (yes g) = sym (ap (modulo 65536) (minus-pos w h g) ∙ omega arith)
     go (no g) = sym (ap (modulo 65536) (minus-neg w h (omega arith)) ∙ omega arith)
 
-natural-requires : tie.Need-natural-requires
-natural-requires c κs = search needs
-
-cast-w : tie.Need-cast-w
-cast-w c = search needs
-
-add-result : tie.Need-add-result
-add-result c = search needs
-
-sub-result : tie.Need-sub-result
-sub-result c = search needs
-
 returns : tie.Need-returns
 unfolding distance
 returns c =
@@ -39,4 +27,4 @@ returns c =
     ∙ ap (λ (z : ℤ). modulo 65536 (pos (a .wire .0) -ℤ z)) (sym (c .before .natural .ensures))
 
 pub distance-spec : {M : Type 1} → statement M
-distance-spec = tie.close (tie.spec natural-requires cast-w add-result sub-result returns)
+distance-spec = tie.close (tie.spec (λ c κs. search needs) (λ c. search needs) (λ c. search needs) (λ c. search needs) returns)

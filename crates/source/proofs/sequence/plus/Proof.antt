@@ -10,9 +10,6 @@ use Rattle.source.specs.Arrivals.{extended}
 use Rattle.source.proofs.sequence.plus.Statement.{statement}
 use Rattle.source.proofs.sequence.plus.Tie as tie
 
-natural-requires : tie.Need-natural-requires
-natural-requires c κs = search needs
-
 add-t4 : tie.Need-add-t4
 add-t4 c =
     let b = rw (c .natural .ensures) at (c .before .pre .2) in
@@ -30,4 +27,4 @@ returns c =
     ∙ ap (λ (z : ℤ). z +ℤ pos (c .before .args .d)) (sym (c .natural .ensures)))
 
 pub plus-spec : {M : Type 1} → statement M
-plus-spec = tie.close (tie.spec natural-requires add-t4 cast-t5 returns)
+plus-spec = tie.close (tie.spec (λ c κs. search needs) add-t4 cast-t5 returns)

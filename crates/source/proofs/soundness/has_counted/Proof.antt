@@ -30,26 +30,14 @@ tests c =
       few = ap (λ (x : ℕ). leb (places (s .history)) (x - s .duplicates)) (sym n) ∙ was-true (c .before .at-most .ensures) (c .if9 .left);
     }
 
-le-requires : tie.Need-le-requires
-le-requires c κs = search needs
-
 returns : tie.Need-returns
 returns c = not-counted _ 0 (was-false (c .before .le .ensures) (c .if1 .taken))
-
-le-requires-2 : tie.Need-le-requires-2
-le-requires-2 c κs = search needs
 
 returns-2 : tie.Need-returns-2
 returns-2 c = not-counted _ 1 (was-false (c .before .le2 .ensures) (c .if2 .taken))
 
-le-requires-3 : tie.Need-le-requires-3
-le-requires-3 c κs = search needs
-
 returns-3 : tie.Need-returns-3
 returns-3 c = not-counted _ 2 (was-false (c .before .le3 .ensures) (c .if3 .taken))
-
-arrivals-requires : tie.Need-arrivals-requires
-arrivals-requires c κs = search needs
 
 returns-4 : tie.Need-returns-4
 returns-4 c =
@@ -66,20 +54,11 @@ returns-6 c =
     let s = c .before .before .before .before .before .before .before .before .before .before .before .before .before .args .s in
     not-counted s 5 (le-ltb (s .duplicates) (arrivals s) (omega arith))
 
-marked-requires : tie.Need-marked-requires
-marked-requires c κs = search needs
-
 returns-7 : tie.Need-returns-7
 returns-7 c = not-counted _ 6 (was-false (c .before .marked .ensures) (c .if7 .taken))
 
 returns-8 : tie.Need-returns-8
 returns-8 c = not-counted _ 7 (le-ltb _ _ (c .if8 .taken))
-
-sub-distinct : tie.Need-sub-distinct
-sub-distinct c = search needs
-
-at-most-requires : tie.Need-at-most-requires
-at-most-requires c κs = search needs
 
 returns-9 : tie.Need-returns-9
 returns-9 c =
@@ -97,12 +76,6 @@ sub-result : tie.Need-sub-result
 sub-result c =
     in-order _ (tests (c .before .before)) (c .natural2 .result) (c .before .natural .result) (c .natural2 .ensures) (c .before .natural .ensures)
 
-sub-result-2 : tie.Need-sub-result-2
-sub-result-2 c = search needs
-
-mul-result : tie.Need-mul-result
-mul-result c = search needs
-
 returns-10 : tie.Need-returns-10
 returns-10 c =
     let s = c .before .before .before .before .before .before .before .before .before .before .before .before .before .before .before .before .before .before .before .before .before .args .s in
@@ -114,25 +87,25 @@ pub has-counted-spec : {M : Type 1} → statement M
 has-counted-spec =
     tie.close
     (tie.spec
-    le-requires
+    (λ c κs. search needs)
     returns
-    le-requires-2
+    (λ c κs. search needs)
     returns-2
-    le-requires-3
+    (λ c κs. search needs)
     returns-3
-    arrivals-requires
+    (λ c κs. search needs)
     returns-4
     returns-5
     returns-6
-    marked-requires
+    (λ c κs. search needs)
     returns-7
     returns-8
-    sub-distinct
-    at-most-requires
+    (λ c. search needs)
+    (λ c κs. search needs)
     returns-9
     natural-requires
     natural-requires-2
     sub-result
-    sub-result-2
-    mul-result
+    (λ c. search needs)
+    (λ c. search needs)
     returns-10)

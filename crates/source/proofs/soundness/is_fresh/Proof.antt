@@ -10,14 +10,8 @@ use Rattle.source.proofs.Facts.{not-zero, not-fresh}
 use Rattle.source.proofs.soundness.is_fresh.Statement.{statement}
 use Rattle.source.proofs.soundness.is_fresh.Tie as tie
 
-is-zero-requires : tie.Need-is-zero-requires
-is-zero-requires c κs = search needs
-
 returns : tie.Need-returns
 returns c = not-fresh _ 0 (was-false (c .before .is-zero .ensures) (c .if1 .taken))
-
-is-zero-requires-2 : tie.Need-is-zero-requires-2
-is-zero-requires-2 c κs = search needs
 
 returns-2 : tie.Need-returns-2
 returns-2 c = not-fresh _ 1 (was-false (c .before .is-zero2 .ensures) (c .if2 .taken))
@@ -43,9 +37,6 @@ returns-8 c = not-fresh _ 7 (not-zero _ (c .if8 .taken))
 returns-9 : tie.Need-returns-9
 returns-9 c = not-fresh _ 8 (not-zero _ (c .if9 .taken))
 
-is-nothing-requires : tie.Need-is-nothing-requires
-is-nothing-requires c κs = search needs
-
 returns-10 : tie.Need-returns-10
 unfolding fresh
 returns-10 c =
@@ -67,9 +58,9 @@ pub is-fresh-spec : {M : Type 1} → statement M
 is-fresh-spec =
     tie.close
     (tie.spec
-    is-zero-requires
+    (λ c κs. search needs)
     returns
-    is-zero-requires-2
+    (λ c κs. search needs)
     returns-2
     returns-3
     returns-4
@@ -78,5 +69,5 @@ is-fresh-spec =
     returns-7
     returns-8
     returns-9
-    is-nothing-requires
+    (λ c κs. search needs)
     returns-10)

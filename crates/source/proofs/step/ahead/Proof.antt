@@ -17,9 +17,6 @@ moved-on-requires : tie.Need-moved-on-requires
 moved-on-requires c κs =
     (c .before .before .before .before .pre .2, facts (c .before .before .before .before .args .s) (c .before .before .before .before .pre .0) .fits)
 
-counted-requires : tie.Need-counted-requires
-counted-requires c κs = search needs
-
 returns : tie.Need-returns
 unfolding ahead
 returns c =
@@ -28,4 +25,4 @@ returns c =
     ∙ ap₂ (λ (e : Extended) (h : History). counted (a .s) (a .mark) (a .s .base) e (a .s .duplicates) h) (c .before .before .plus .ensures) (c .before .moved-on .ensures)
 
 pub ahead-spec : {M : Type 1} → statement M
-ahead-spec = tie.close (tie.spec plus-requires moved-on-requires counted-requires returns)
+ahead-spec = tie.close (tie.spec plus-requires moved-on-requires (λ c κs. search needs) returns)

@@ -14,16 +14,10 @@ use Rattle.source.proofs.step.behind.Tie as tie
 with-mark-requires : tie.Need-with-mark-requires
 with-mark-requires c κs = (c .before .before .before .pre .2, facts (c .before .before .before .args .s) (c .before .before .before .pre .0) .fits)
 
-marked-requires : tie.Need-marked-requires
-marked-requires c κs = search needs
-
 add-counted : tie.Need-add-counted
 add-counted c =
     let f = facts (c .before .before .before .before .before .before .args .s) (c .before .before .before .before .before .before .pre .0) in
     omega (arith, f .fewer, f .most)
-
-counted-requires : tie.Need-counted-requires
-counted-requires c κs = search needs
 
 returns : tie.Need-returns
 unfolding behind
@@ -32,9 +26,6 @@ returns c =
     c .counted .ensures
     ∙ ap₂ (λ (n : ℕ) (h : History). counted (a .s) (a .mark) (a .s .base) (a .s .highest) n h)
     (ap (λ (t : Bool). a .s .duplicates + bit t) (sym (c .before .if1 .taken) ∙ c .before .before .marked .ensures)) (c .before .before .before .with-mark .ensures)
-
-counted-requires-2 : tie.Need-counted-requires-2
-counted-requires-2 c κs = search needs
 
 returns-2 : tie.Need-returns-2
 unfolding behind
@@ -50,9 +41,9 @@ behind-spec =
     tie.close
     (tie.spec
     with-mark-requires
-    marked-requires
+    (λ c κs. search needs)
     add-counted
-    counted-requires
+    (λ c κs. search needs)
     returns
-    counted-requires-2
+    (λ c κs. search needs)
     returns-2)

@@ -23,28 +23,16 @@ distance-requires c κs = highest-fits (c .before .args .s) (facts (c .before .a
 reach-of-requires : tie.Need-reach-of-requires
 reach-of-requires c κs = distance-lt _ _ (c .distance .ensures)
 
-enum-known-up : tie.Need-enum-known-up
-enum-known-up c = search needs
-
 ahead-requires : tie.Need-ahead-requires
 ahead-requires c κs =
     let p = c .before .before .before .before .before .before in
     let w = within _ (distance-lt (p .args .s .highest) (p .args .wire) refl) (reached (c .before .before .before) (c .before .up .given .1)) in
     (p .pre .0, p .pre .1, w .0, omega (arith, w .1))
 
-enum-known-k : tie.Need-enum-known-k
-enum-known-k c = search needs
-
 behind-requires : tie.Need-behind-requires
 behind-requires c κs =
     let p = c .before .before .before .before .before .before in
     (p .pre .0, p .pre .1, within _ (distance-lt (p .args .s .highest) (p .args .wire) refl) (reached (c .before .before .before) (c .before .k .given .1)))
-
-enum-told : tie.Need-enum-told
-enum-told c = search needs
-
-jumped-requires : tie.Need-jumped-requires
-jumped-requires c κs = search needs
 
 returns : tie.Need-returns
 returns c =
@@ -67,12 +55,12 @@ later-spec =
     (tie.spec
     distance-requires
     reach-of-requires
-    enum-known-up
+    (λ c. search needs)
     ahead-requires
-    enum-known-k
+    (λ c. search needs)
     behind-requires
-    enum-told
-    jumped-requires
+    (λ c. search needs)
+    (λ c κs. search needs)
     returns
     returns-2
     returns-3)

@@ -23,9 +23,6 @@ returns c =
     let p = c .before .before .before .before in
     sym (arrival-full (p .args .s) (p .args .wire) (p .args .mark) (p .pre .0) (p .pre .1) (c .if1 .taken))
 
-first-requires : tie.Need-first-requires
-first-requires c κs = search needs
-
 returns-2 : tie.Need-returns-2
 returns-2 c =
     let p = c .before .before .before .before .before .before in
@@ -49,7 +46,7 @@ step-spec =
     add-n-2
     add-n-3
     returns
-    first-requires
+    (λ c κs. search needs)
     returns-2
     later-requires
     returns-3)

@@ -22,9 +22,6 @@ loop-holds c = (search needs, zero-add _)
 add-count : tie.Need-add-count Inv-loop μ-loop
 add-count c = omega (arith, length-u64 (c .before .before .args .n) (omega arith))
 
-loop-less : tie.Need-loop-less Inv-loop μ-loop
-loop-less c = search needs
-
 loop-again : tie.Need-loop-again Inv-loop μ-loop
 loop-again c = omega (arith, length-four (c .before .loop .rest) (c .loop-test .taken))
 
@@ -63,7 +60,7 @@ digits-spec =
     μ-loop
     loop-holds
     add-count
-    loop-less
+    (λ c. search needs)
     loop-again
     add-result
     returns

@@ -25,20 +25,11 @@ abbrev μ-loop : tie.MeasureT-loop
 loop-holds : tie.Need-loop-holds Inv-loop μ-loop
 loop-holds c = (search needs, omega arith, search needs, refl, refl)
 
-cast-pair : tie.Need-cast-pair Inv-loop μ-loop
-cast-pair c = search needs
-
-add-out : tie.Need-add-out Inv-loop μ-loop
-add-out c = search needs
-
 sub-out : tie.Need-sub-out Inv-loop μ-loop
 sub-out c = omega (arith, length-two (c .before .loop .rest) (c .loop-test .taken))
 
 slice-write-out : tie.Need-slice-write-out Inv-loop μ-loop
 slice-write-out c = omega (arith, length-two (c .before .loop .rest) (c .loop-test .taken))
-
-add-out-2 : tie.Need-add-out-2 Inv-loop μ-loop
-add-out-2 c = search needs
 
 sub-out-2 : tie.Need-sub-out-2 Inv-loop μ-loop
 sub-out-2 c = omega (arith, length-two (c .before .loop .rest) (c .loop-test .taken))
@@ -48,9 +39,6 @@ slice-write-out-2 c = simp length-set (omega (arith, length-two (c .before .loop
 
 sub-last : tie.Need-sub-last Inv-loop μ-loop
 sub-last c = omega (arith, length-two (c .before .loop .rest) (c .loop-test .taken))
-
-loop-less : tie.Need-loop-less Inv-loop μ-loop
-loop-less c = search needs
 
 loop-again : tie.Need-loop-again Inv-loop μ-loop
 loop-again c =
@@ -63,12 +51,6 @@ loop-again c =
       simp length-set (loop .inv .3),
       put-two (loop .out) (start (a .n) (a .end)) (loop .last) (loop .rest) (c .loop-test .taken) (loop .inv .1) ∙ loop .inv .4,
     )
-
-cast-front : tie.Need-cast-front Inv-loop μ-loop
-cast-front c = search needs
-
-add-out-3 : tie.Need-add-out-3 Inv-loop μ-loop
-add-out-3 c = search needs
 
 sub-out-3 : tie.Need-sub-out-3 Inv-loop μ-loop
 sub-out-3 c = omega (arith, length-one (c .before .before .loop .rest) (c .if1 .taken))
@@ -89,17 +71,11 @@ returns c =
     let one = length-one (loop .rest) (c .if1 .taken) in
     (omega arith, put-one (loop .out) (now (a .out)) (start (a .n) (a .end)) (loop .last) (a .n) (loop .rest) (loop .inv .1) (loop .inv .4) (c .if1 .taken))
 
-add-out-4 : tie.Need-add-out-4 Inv-loop μ-loop
-add-out-4 c = search needs
-
 sub-out-4 : tie.Need-sub-out-4 Inv-loop μ-loop
 sub-out-4 c = omega (arith, length-more (c .before .before .loop .rest) (c .if1 .left), length-least (c .before .before .loop .rest / 10))
 
 slice-write-out-4 : tie.Need-slice-write-out-4 Inv-loop μ-loop
 slice-write-out-4 c = omega (arith, length-more (c .before .before .loop .rest) (c .if1 .left), length-least (c .before .before .loop .rest / 10))
-
-add-out-5 : tie.Need-add-out-5 Inv-loop μ-loop
-add-out-5 c = search needs
 
 sub-out-5 : tie.Need-sub-out-5 Inv-loop μ-loop
 sub-out-5 c = omega (arith, length-more (c .before .before .loop .rest) (c .if1 .left), length-least (c .before .before .loop .rest / 10))
@@ -129,27 +105,27 @@ put-before-spec =
     Inv-loop
     μ-loop
     loop-holds
-    cast-pair
-    add-out
+    (λ c. search needs)
+    (λ c. search needs)
     sub-out
     slice-write-out
-    add-out-2
+    (λ c. search needs)
     sub-out-2
     slice-write-out-2
     sub-last
-    loop-less
+    (λ c. search needs)
     loop-again
-    cast-front
-    add-out-3
+    (λ c. search needs)
+    (λ c. search needs)
     sub-out-3
     slice-write-out-3
     sub-result
     same-length
     returns
-    add-out-4
+    (λ c. search needs)
     sub-out-4
     slice-write-out-4
-    add-out-5
+    (λ c. search needs)
     sub-out-5
     slice-write-out-5
     sub-result-2

@@ -7,9 +7,6 @@ use Rattle.table.proofs.Digits.{length-u64}
 use Rattle.table.proofs.decimal.signed_length.Statement.{statement}
 use Rattle.table.proofs.decimal.signed_length.Tie as tie
 
-digits-requires : tie.Need-digits-requires
-digits-requires c κs = search needs
-
 add-result : tie.Need-add-result
 add-result c = omega (arith, length-u64 (c .before .before .args .size) (omega arith))
 
@@ -22,4 +19,4 @@ unfolding minus
 returns-2 c = rw (c .if1 .left) (c .before .digits .ensures)
 
 pub signed-length-spec : {M : Type 1} → statement M
-signed-length-spec = tie.close (tie.spec digits-requires add-result returns returns-2)
+signed-length-spec = tie.close (tie.spec (λ c κs. search needs) add-result returns returns-2)

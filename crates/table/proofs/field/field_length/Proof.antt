@@ -7,15 +7,9 @@ use Rattle.answers.proofs.Conditions.{was-true, was-false}
 use Rattle.table.proofs.field.field_length.Statement.{statement}
 use Rattle.table.proofs.field.field_length.Tie as tie
 
-has-special-requires : tie.Need-has-special-requires
-has-special-requires c κs = search needs
-
 returns : tie.Need-returns
 returns c =
     let s = now (c .before .before .before .args .s) in omega (arith, length-bare s (was-false (c .before .has-special .ensures) (c .if1 .taken)))
-
-inner-length-requires : tie.Need-inner-length-requires
-inner-length-requires c κs = search needs
 
 add-result : tie.Need-add-result
 add-result c = omega (arith, doubled-length (now (c .before .before .before .before .args .s)))
@@ -26,4 +20,4 @@ returns-2 c =
 
 pub field-length-spec : {M : Type 1} → statement M
 field-length-spec =
-    tie.close (tie.spec has-special-requires returns inner-length-requires add-result returns-2)
+    tie.close (tie.spec (λ c κs. search needs) returns (λ c κs. search needs) add-result returns-2)

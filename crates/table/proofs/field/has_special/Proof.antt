@@ -17,21 +17,9 @@ abbrev μ-loop : tie.MeasureT-loop
 loop-holds : tie.Need-loop-holds Inv-loop μ-loop
 loop-holds c = (search needs, refl)
 
-shared-slice-read-is-special : tie.Need-shared-slice-read-is-special Inv-loop μ-loop
-shared-slice-read-is-special c = search needs
-
-is-special-requires : tie.Need-is-special-requires Inv-loop μ-loop
-is-special-requires c κs = search needs
-
 returns : tie.Need-returns Inv-loop μ-loop
 returns c =
     any-yes _ _ (c .before .before .before .loop-test .taken) (sym (c .before .is-special .ensures) ∙ c .if1 .taken) ∙ c .before .before .before .before .loop .inv .1
-
-add-i : tie.Need-add-i Inv-loop μ-loop
-add-i c = search needs
-
-loop-less : tie.Need-loop-less Inv-loop μ-loop
-loop-less c = search needs
 
 loop-again : tie.Need-loop-again Inv-loop μ-loop
 loop-again c =
@@ -47,10 +35,10 @@ has-special-spec =
     Inv-loop
     μ-loop
     loop-holds
-    shared-slice-read-is-special
-    is-special-requires
+    (λ c. search needs)
+    (λ c κs. search needs)
     returns
-    add-i
-    loop-less
+    (λ c. search needs)
+    (λ c. search needs)
     loop-again
     returns-2)

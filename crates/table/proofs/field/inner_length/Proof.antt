@@ -24,20 +24,8 @@ byte c = getD (now (c .before .before .before .before .before .args .s)) (c .bef
 loop-holds : tie.Need-loop-holds Inv-loop μ-loop
 loop-holds c = (search needs, search needs, zero-add _)
 
-shared-slice-read-byte-length : tie.Need-shared-slice-read-byte-length Inv-loop μ-loop
-shared-slice-read-byte-length c = search needs
-
-byte-length-requires : tie.Need-byte-length-requires Inv-loop μ-loop
-byte-length-requires c κs = search needs
-
 add-count : tie.Need-add-count Inv-loop μ-loop
 add-count c = omega (arith, byte-length (byte c))
-
-add-i : tie.Need-add-i Inv-loop μ-loop
-add-i c = search needs
-
-loop-less : tie.Need-loop-less Inv-loop μ-loop
-loop-less c = search needs
 
 loop-again : tie.Need-loop-again Inv-loop μ-loop
 loop-again c =
@@ -55,10 +43,10 @@ inner-length-spec =
     Inv-loop
     μ-loop
     loop-holds
-    shared-slice-read-byte-length
-    byte-length-requires
+    (λ c. search needs)
+    (λ c κs. search needs)
     add-count
-    add-i
-    loop-less
+    (λ c. search needs)
+    (λ c. search needs)
     loop-again
     returns)

@@ -12,26 +12,11 @@ use Rattle.table.proofs.field.put_byte.Tie as tie
 slice-write-out : tie.Need-slice-write-out
 slice-write-out c = omega (arith, byte-length (c .args .c))
 
-add-out : tie.Need-add-out
-add-out c = search needs
-
 slice-write-out-2 : tie.Need-slice-write-out-2
 slice-write-out-2 c = simp length-set (omega (arith, ap length (byte-quote (c .before .args .c) (c .if1 .taken))))
 
-add-result : tie.Need-add-result
-add-result c = search needs
-
-same-length : tie.Need-same-length
-same-length c = search needs
-
 returns : tie.Need-returns
 returns c = let e = byte-quote (c .before .args .c) (c .if1 .taken) in (rw e, rw (e, add-one))
-
-add-result-2 : tie.Need-add-result-2
-add-result-2 c = search needs
-
-same-length-2 : tie.Need-same-length-2
-same-length-2 c = search needs
 
 returns-2 : tie.Need-returns-2
 returns-2 c = let e = byte-other (c .before .args .c) (c .if1 .left) in (rw e, rw e)
@@ -41,11 +26,11 @@ put-byte-spec =
     tie.close
     (tie.spec
     slice-write-out
-    add-out
+    (λ c. search needs)
     slice-write-out-2
-    add-result
-    same-length
+    (λ c. search needs)
+    (λ c. search needs)
     returns
-    add-result-2
-    same-length-2
+    (λ c. search needs)
+    (λ c. search needs)
     returns-2)

@@ -9,12 +9,6 @@ use Rattle.table.proofs.Texts.{same-bare, other-quoted}
 use Rattle.table.proofs.field.put_field.Statement.{statement}
 use Rattle.table.proofs.field.put_field.Tie as tie
 
-put-bytes-requires : tie.Need-put-bytes-requires
-put-bytes-requires c κs = search needs
-
-same-length : tie.Need-same-length
-same-length c = search needs
-
 returns : tie.Need-returns
 returns c =
     let a = c .before .before .before .before .before .before .before .args in
@@ -25,13 +19,7 @@ put-quoted-requires : tie.Need-put-quoted-requires
 put-quoted-requires c κs =
     (other-quoted (now (c .before .before .before .before .args .s)) (λ e. c .before .if1 .left (c .before .before .before .before .pre .0 ∙ e)), search needs)
 
-same-length-2 : tie.Need-same-length-2
-same-length-2 c = search needs
-
-returns-2 : tie.Need-returns-2
-returns-2 c = search needs
-
 pub put-field-spec : {M : Type 1} → statement M
 put-field-spec =
     tie.close
-    (tie.spec put-bytes-requires same-length returns put-quoted-requires same-length-2 returns-2)
+    (tie.spec (λ c κs. search needs) (λ c. search needs) returns put-quoted-requires (λ c. search needs) (λ c. search needs))

@@ -25,21 +25,9 @@ small c =
     let s = c .before .before .before .before .before .before .before .before in
     (omega (arith, field-most (now (s .args .label)) (s .pre .0)), omega (arith, minus-most (s .args .below) (s .args .size) (omega arith)))
 
-field-length-requires : tie.Need-field-length-requires
-field-length-requires c κs = search needs
-
-numbers-length-requires : tie.Need-numbers-length-requires
-numbers-length-requires c κs = search needs
-
-numbers-length-requires-2 : tie.Need-numbers-length-requires-2
-numbers-length-requires-2 c κs = search needs
-
 add-total : tie.Need-add-total
 add-total c =
     omega (arith, field-most (now (c .before .before .before .before .before .before .before .args .label)) (c .before .before .before .before .before .before .before .pre .0))
-
-signed-length-requires : tie.Need-signed-length-requires
-signed-length-requires c κs = search needs
 
 add-total-2 : tie.Need-add-total-2
 add-total-2 c = omega (arith, small c)
@@ -59,9 +47,6 @@ returns c =
 put-line-requires : tie.Need-put-line-requires
 put-line-requires c κs = (c .before .before .before .before .before .field-length .ensures, total (c .before .before), c .before .if1 .left)
 
-same-length : tie.Need-same-length
-same-length c = search needs
-
 returns-2 : tie.Need-returns-2
 returns-2 c =
     let a = c .before .before .before .before .before .before .before .before .before .before .before .before .before .args in
@@ -73,15 +58,15 @@ pub line-spec : {M : Type 1} → statement M
 line-spec =
     tie.close
     (tie.spec
-    field-length-requires
-    numbers-length-requires
-    numbers-length-requires-2
+    (λ c κs. search needs)
+    (λ c κs. search needs)
+    (λ c κs. search needs)
     add-total
-    signed-length-requires
+    (λ c κs. search needs)
     add-total-2
     add-total-3
     add-total-4
     returns
     put-line-requires
-    same-length
+    (λ c. search needs)
     returns-2)

@@ -29,9 +29,6 @@ put-field-requires : tie.Need-put-field-requires
 put-field-requires c κs =
     omega (arith, total (c .before .before .before .before .before .before .before .before .before .before .before .before .before), c .before .before .before .before .before .before .before .put-tail .ensures .0, c .before .before .before .put-numbers .ensures .0)
 
-same-length : tie.Need-same-length
-same-length c = search needs
-
 returns : tie.Need-returns
 unfolding whole
 returns c =
@@ -48,4 +45,4 @@ returns c =
 pub put-line-spec : {M : Type 1} → statement M
 put-line-spec =
     tie.close
-    (tie.spec put-tail-requires put-numbers-requires put-field-requires same-length returns)
+    (tie.spec put-tail-requires put-numbers-requires put-field-requires (λ c. search needs) returns)

@@ -8,18 +8,6 @@ use Rattle.table.proofs.Backwards.{store-one}
 use Rattle.table.proofs.lines.put_number.Statement.{statement}
 use Rattle.table.proofs.lines.put_number.Tie as tie
 
-put-before-requires : tie.Need-put-before-requires
-put-before-requires c κs = search needs
-
-sub-at : tie.Need-sub-at
-sub-at c = search needs
-
-slice-write-out : tie.Need-slice-write-out
-slice-write-out c = search needs
-
-same-length : tie.Need-same-length
-same-length c = search needs
-
 returns : tie.Need-returns
 returns c =
     let a = c .before .before .before .before .before .args in
@@ -28,4 +16,4 @@ returns c =
 
 pub put-number-spec : {M : Type 1} → statement M
 put-number-spec =
-    tie.close (tie.spec put-before-requires sub-at slice-write-out same-length returns)
+    tie.close (tie.spec (λ c κs. search needs) (λ c. search needs) (λ c. search needs) (λ c. search needs) returns)

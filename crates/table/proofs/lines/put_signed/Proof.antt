@@ -27,18 +27,9 @@ put-before-requires c κs = omega (arith, ap length (negative (c .before)))
 sub-at : tie.Need-sub-at
 sub-at c = omega (arith, ap length (negative (c .before .before .before .before)))
 
-slice-write-out : tie.Need-slice-write-out
-slice-write-out c = search needs
-
-add-out : tie.Need-add-out
-add-out c = search needs
-
 slice-write-out-2 : tie.Need-slice-write-out-2
 slice-write-out-2 c =
     simp length-set (omega (arith, ap length (negative (c .before .before .before .before)), c .before .before .put-before .kept .1 .0))
-
-same-length : tie.Need-same-length
-same-length c = search needs
 
 returns : tie.Need-returns
 returns c =
@@ -50,9 +41,6 @@ returns c =
 put-number-requires : tie.Need-put-number-requires
 put-number-requires c κs = omega (arith, ap length (other (c .before)))
 
-same-length-2 : tie.Need-same-length-2
-same-length-2 c = search needs
-
 returns-2 : tie.Need-returns-2
 returns-2 c = rw (other (c .before .before .before .before)) (c .before .before .put-number .ensures)
 
@@ -62,11 +50,11 @@ put-signed-spec =
     (tie.spec
     put-before-requires
     sub-at
-    slice-write-out
-    add-out
+    (λ c. search needs)
+    (λ c. search needs)
     slice-write-out-2
-    same-length
+    (λ c. search needs)
     returns
     put-number-requires
-    same-length-2
+    (λ c. search needs)
     returns-2)

@@ -12,14 +12,8 @@ use Rattle.table.proofs.RefusedLines.{length-refused}
 use Rattle.table.proofs.refused.line.Statement.{statement}
 use Rattle.table.proofs.refused.line.Tie as tie
 
-digits-requires : tie.Need-digits-requires
-digits-requires c κs = search needs
-
 add-middle : tie.Need-add-middle
 add-middle c = omega (arith, length-u64 (c .before .before .args .number) (omega arith))
-
-digits-requires-2 : tie.Need-digits-requires-2
-digits-requires-2 c κs = search needs
 
 add-size : tie.Need-add-size
 add-size c = omega (arith, length-u64 (c .before .before .before .args .block) (omega arith))
@@ -34,12 +28,6 @@ returns c =
     let long = length-refused (a .number) (a .block) in
     wrote-short (refusedLine (a .number) (a .block)) (now (a .out)) refl (omega arith) (omega arith)
 
-put-line-requires : tie.Need-put-line-requires
-put-line-requires c κs = search needs
-
-same-length : tie.Need-same-length
-same-length c = search needs
-
 returns-2 : tie.Need-returns-2
 returns-2 c =
     let a = c .before .before .before .before .before .before .before .before .args in
@@ -51,12 +39,12 @@ pub line-spec : {M : Type 1} → statement M
 line-spec =
     tie.close
     (tie.spec
-    digits-requires
+    (λ c κs. search needs)
     add-middle
-    digits-requires-2
+    (λ c κs. search needs)
     add-size
     add-size-2
     returns
-    put-line-requires
-    same-length
+    (λ c κs. search needs)
+    (λ c. search needs)
     returns-2)

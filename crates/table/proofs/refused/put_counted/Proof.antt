@@ -12,15 +12,6 @@ use Rattle.answers.proofs.Stores.{sets-append}
 use Rattle.table.proofs.refused.put_counted.Statement.{statement}
 use Rattle.table.proofs.refused.put_counted.Tie as tie
 
-put-bytes-requires : tie.Need-put-bytes-requires
-put-bytes-requires c κs = search needs
-
-put-before-requires : tie.Need-put-before-requires
-put-before-requires c κs = search needs
-
-same-length : tie.Need-same-length
-same-length c = search needs
-
 returns : tie.Need-returns
 returns c =
     let s = c .before .before .before .before .before .before .before .before .before .before in
@@ -32,4 +23,4 @@ returns c =
     ∙ sym (sets-append (now (s .args .out)) (s .args .at) (now (s .args .text)) (decimal (s .args .n)))
 
 pub put-counted-spec : {M : Type 1} → statement M
-put-counted-spec = tie.close (tie.spec put-bytes-requires put-before-requires same-length returns)
+put-counted-spec = tie.close (tie.spec (λ c κs. search needs) (λ c κs. search needs) (λ c. search needs) returns)

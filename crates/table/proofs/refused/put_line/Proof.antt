@@ -9,30 +9,6 @@ use Rattle.table.proofs.RefusedLines.{refused-stored}
 use Rattle.table.proofs.refused.put_line.Statement.{statement}
 use Rattle.table.proofs.refused.put_line.Tie as tie
 
-slice-aggregate-put-counted : tie.Need-slice-aggregate-put-counted
-slice-aggregate-put-counted c = search needs
-
-put-counted-requires : tie.Need-put-counted-requires
-put-counted-requires c κs = search needs
-
-slice-aggregate-put-counted-2 : tie.Need-slice-aggregate-put-counted-2
-slice-aggregate-put-counted-2 c = search needs
-
-sub-put-counted : tie.Need-sub-put-counted
-sub-put-counted c = search needs
-
-put-counted-requires-2 : tie.Need-put-counted-requires-2
-put-counted-requires-2 c κs = search needs
-
-sub-out : tie.Need-sub-out
-sub-out c = search needs
-
-slice-write-out : tie.Need-slice-write-out
-slice-write-out c = search needs
-
-sub-out-2 : tie.Need-sub-out-2
-sub-out-2 c = search needs
-
 slice-write-out-2 : tie.Need-slice-write-out-2
 slice-write-out-2 c =
     simp length-set (omega (arith, c .before .before .put-counted2 .kept .1 .1 .0, c .before .before .before .before .before .before .before .put-counted .kept .1 .1 .0))
@@ -50,14 +26,14 @@ pub put-line-spec : {M : Type 1} → statement M
 put-line-spec =
     tie.close
     (tie.spec
-    slice-aggregate-put-counted
-    put-counted-requires
-    slice-aggregate-put-counted-2
-    sub-put-counted
-    put-counted-requires-2
-    sub-out
-    slice-write-out
-    sub-out-2
+    (λ c. search needs)
+    (λ c κs. search needs)
+    (λ c. search needs)
+    (λ c. search needs)
+    (λ c κs. search needs)
+    (λ c. search needs)
+    (λ c. search needs)
+    (λ c. search needs)
     slice-write-out-2
     same-length
     returns)

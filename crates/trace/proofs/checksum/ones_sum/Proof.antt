@@ -21,29 +21,8 @@ abbrev μ-loop : tie.MeasureT-loop
 loop-holds : tie.Need-loop-holds Inv-loop μ-loop
 loop-holds c = (search needs, refl, search needs, zero-add _)
 
-add-join16 : tie.Need-add-join16 Inv-loop μ-loop
-add-join16 c = search needs
-
-shared-slice-read-join16 : tie.Need-shared-slice-read-join16 Inv-loop μ-loop
-shared-slice-read-join16 c = search needs
-
-shared-slice-read-join16-2 : tie.Need-shared-slice-read-join16-2 Inv-loop μ-loop
-shared-slice-read-join16-2 c = search needs
-
-join16-requires : tie.Need-join16-requires Inv-loop μ-loop
-join16-requires c κs = search needs
-
-cast-sum : tie.Need-cast-sum Inv-loop μ-loop
-cast-sum c = search needs
-
 add-sum : tie.Need-add-sum Inv-loop μ-loop
 add-sum c = omega (arith, c .join16 .ok)
-
-add-i : tie.Need-add-i Inv-loop μ-loop
-add-i c = search needs
-
-loop-less : tie.Need-loop-less Inv-loop μ-loop
-loop-less c = search needs
 
 loop-again : tie.Need-loop-again Inv-loop μ-loop
 loop-again c =
@@ -59,18 +38,6 @@ loop-again c =
       omega (arith, c .join16 .ok),
       add-assoc (loop .sum) (c .join16 .result) (lowTotal (drop (loop .i + 2) s)) ∙ ap (λ (n : ℕ). loop .sum + n) (sym left) ∙ loop .inv .3,
     )
-
-add-once : tie.Need-add-once Inv-loop μ-loop
-add-once c = search needs
-
-add-swapped : tie.Need-add-swapped Inv-loop μ-loop
-add-swapped c = search needs
-
-cast-swapped : tie.Need-cast-swapped Inv-loop μ-loop
-cast-swapped c = search needs
-
-swapped-requires : tie.Need-swapped-requires Inv-loop μ-loop
-swapped-requires c κs = search needs
 
 returns : tie.Need-returns Inv-loop μ-loop
 returns c =
@@ -89,17 +56,17 @@ ones-sum-spec =
     Inv-loop
     μ-loop
     loop-holds
-    add-join16
-    shared-slice-read-join16
-    shared-slice-read-join16-2
-    join16-requires
-    cast-sum
+    (λ c. search needs)
+    (λ c. search needs)
+    (λ c. search needs)
+    (λ c κs. search needs)
+    (λ c. search needs)
     add-sum
-    add-i
-    loop-less
+    (λ c. search needs)
+    (λ c. search needs)
     loop-again
-    add-once
-    add-swapped
-    cast-swapped
-    swapped-requires
+    (λ c. search needs)
+    (λ c. search needs)
+    (λ c. search needs)
+    (λ c κs. search needs)
     returns)

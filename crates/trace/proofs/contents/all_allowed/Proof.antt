@@ -23,20 +23,8 @@ loop-holds c = (omega arith, omega arith, zero-add _)
 small : (c : tie.After-outside Inv-loop μ-loop) → c .outside .result ≤ 1
 small c = rw (c .outside .ensures) (rule-small (labelByte _))
 
-shared-slice-read-outside : tie.Need-shared-slice-read-outside Inv-loop μ-loop
-shared-slice-read-outside c = search needs
-
-outside-requires : tie.Need-outside-requires Inv-loop μ-loop
-outside-requires c κs = search needs
-
 add-sum : tie.Need-add-sum Inv-loop μ-loop
 add-sum c = omega (arith, small c)
-
-add-i : tie.Need-add-i Inv-loop μ-loop
-add-i c = search needs
-
-loop-less : tie.Need-loop-less Inv-loop μ-loop
-loop-less c = search needs
 
 loop-again : tie.Need-loop-again Inv-loop μ-loop
 loop-again c =
@@ -58,10 +46,10 @@ all-allowed-spec =
     Inv-loop
     μ-loop
     loop-holds
-    shared-slice-read-outside
-    outside-requires
+    (λ c. search needs)
+    (λ c κs. search needs)
     add-sum
-    add-i
-    loop-less
+    (λ c. search needs)
+    (λ c. search needs)
     loop-again
     returns)

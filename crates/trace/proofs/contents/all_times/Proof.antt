@@ -18,32 +18,14 @@ Inv-loop times limit sum₀ i₀ sum i = (i ≤ length times) × (sum ≤ i) × 
 abbrev μ-loop : tie.MeasureT-loop
 μ-loop times limit sum₀ i₀ sum i = length times - i
 
-time-limit-requires : tie.Need-time-limit-requires Inv-loop μ-loop
-time-limit-requires c κs = search needs
-
 loop-holds : tie.Need-loop-holds Inv-loop μ-loop
 loop-holds c = (omega arith, omega arith, zero-add _)
 
 small : (c : tie.After-beyond Inv-loop μ-loop) → c .beyond .result ≤ 1
 small c = rw (c .beyond .ensures) (rule-small (ltb (getD (now (c .before .before .before .before .before .before .args .times)) (c .before .before .before .loop .i) 0) (c .before .before .before .before .time-limit .result)))
 
-mul-beyond : tie.Need-mul-beyond Inv-loop μ-loop
-mul-beyond c = search needs
-
-shared-slice-read-beyond : tie.Need-shared-slice-read-beyond Inv-loop μ-loop
-shared-slice-read-beyond c = search needs
-
-beyond-requires : tie.Need-beyond-requires Inv-loop μ-loop
-beyond-requires c κs = search needs
-
 add-sum : tie.Need-add-sum Inv-loop μ-loop
 add-sum c = omega (arith, small c)
-
-add-i : tie.Need-add-i Inv-loop μ-loop
-add-i c = search needs
-
-loop-less : tie.Need-loop-less Inv-loop μ-loop
-loop-less c = search needs
 
 loop-again : tie.Need-loop-again Inv-loop μ-loop
 loop-again c =
@@ -69,13 +51,13 @@ all-times-spec =
     (tie.spec
     Inv-loop
     μ-loop
-    time-limit-requires
+    (λ c κs. search needs)
     loop-holds
-    mul-beyond
-    shared-slice-read-beyond
-    beyond-requires
+    (λ c. search needs)
+    (λ c. search needs)
+    (λ c κs. search needs)
     add-sum
-    add-i
-    loop-less
+    (λ c. search needs)
+    (λ c. search needs)
     loop-again
     returns)

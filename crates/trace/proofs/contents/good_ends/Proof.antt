@@ -24,9 +24,6 @@ abbrev μ-loop : tie.MeasureT-loop
 room : (c : tie.In-loop Inv-loop μ-loop) → c .before .loop .at + c .before .before .before .args .step ≤ length (now (c .before .before .before .args .body))
 room c = omega (arith, mul-turn (c .before .loop .left) (c .before .before .before .args .step) (c .loop-test .taken))
 
-sub-mark : tie.Need-sub-mark Inv-loop μ-loop
-sub-mark c = search needs
-
 loop-holds : tie.Need-loop-holds Inv-loop μ-loop
 loop-holds c = (omega arith, search needs, search needs, λ shape e. refl)
 
@@ -45,23 +42,11 @@ add-join16-3 c = omega (arith, room (c .before))
 shared-slice-read-join16-2 : tie.Need-shared-slice-read-join16-2 Inv-loop μ-loop
 shared-slice-read-join16-2 c = omega (arith, room (c .before .before))
 
-join16-requires : tie.Need-join16-requires Inv-loop μ-loop
-join16-requires c κs = search needs
-
-cast-sum : tie.Need-cast-sum Inv-loop μ-loop
-cast-sum c = search needs
-
 add-sum : tie.Need-add-sum Inv-loop μ-loop
 add-sum c = omega (arith, c .join16 .ok)
 
-sub-left : tie.Need-sub-left Inv-loop μ-loop
-sub-left c = search needs
-
 add-at : tie.Need-add-at Inv-loop μ-loop
 add-at c = omega (arith, room (c .before .before .before))
-
-loop-less : tie.Need-loop-less Inv-loop μ-loop
-loop-less c = search needs
 
 loop-again : tie.Need-loop-again Inv-loop μ-loop
 loop-again c =
@@ -89,18 +74,18 @@ good-ends-spec =
     (tie.spec
     Inv-loop
     μ-loop
-    sub-mark
+    (λ c. search needs)
     loop-holds
     add-join16
     add-join16-2
     shared-slice-read-join16
     add-join16-3
     shared-slice-read-join16-2
-    join16-requires
-    cast-sum
+    (λ c κs. search needs)
+    (λ c. search needs)
     add-sum
-    sub-left
+    (λ c. search needs)
     add-at
-    loop-less
+    (λ c. search needs)
     loop-again
     returns)

@@ -9,12 +9,9 @@ returns : tie.Need-returns
 unfolding countOk
 returns c = rw (lt-leb 1 _ (c .if1 .taken))
 
-most-requires : tie.Need-most-requires
-most-requires c κs = search needs
-
 returns-2 : tie.Need-returns-2
 unfolding countOk
 returns-2 c = rw (le-leb 1 _ (c .before .if1 .left), c .most .ensures)
 
 pub is-count-spec : {M : Type 1} → statement M
-is-count-spec = tie.close (tie.spec returns most-requires returns-2)
+is-count-spec = tie.close (tie.spec returns (λ c κs. search needs) returns-2)

@@ -7,11 +7,8 @@ use Rattle.trace.proofs.label.is_label.Tie as tie
 returns : tie.Need-returns
 returns c = label-long _ (c .if1 .taken)
 
-all-allowed-requires : tie.Need-all-allowed-requires
-all-allowed-requires c κs = search needs
-
 returns-2 : tie.Need-returns-2
 returns-2 c = label-rest _ (c .before .if1 .left) (c .all-allowed .ensures)
 
 pub is-label-spec : {M : Type 1} → statement M
-is-label-spec = tie.close (tie.spec returns all-allowed-requires returns-2)
+is-label-spec = tie.close (tie.spec returns (λ c κs. search needs) returns-2)

@@ -19,9 +19,6 @@ few c = count-right _ _ (was-true (c .before .is-count .ensures) (c .if1 .left))
 room : (c : tie.After-width) → c .before .before .before .before .before .before .args .n * c .width .result ≤ 502
 room c = rw (c .width .ensures) (records-fit (fits (c .before .before .before .before .before .before .args .form)) (few (c .before .before .before)))
 
-is-count-requires : tie.Need-is-count-requires
-is-count-requires c κs = search needs
-
 returns : tie.Need-returns
 returns c = records-false (shapeOf (c .before .before .before .args .form)) _ _ 0 (was-false (c .before .is-count .ensures) (c .if1 .taken))
 
@@ -31,9 +28,6 @@ all-records-requires c κs = (few c, omega (arith, records-fit (fits (c .before 
 returns-2 : tie.Need-returns-2
 returns-2 c = records-false (shapeOf (c .before .before .before .before .before .args .form)) _ _ 1 (was-false (c .before .all-records .ensures) (c .if2 .taken))
 
-width-requires : tie.Need-width-requires
-width-requires c κs = search needs
-
 mul-all-zero : tie.Need-mul-all-zero
 mul-all-zero c = omega (arith, room c)
 
@@ -42,12 +36,6 @@ sub-all-zero c = omega (arith, room c)
 
 part-all-zero-start : tie.Need-part-all-zero-start
 part-all-zero-start c = omega (arith, room c)
-
-part-all-zero-end : tie.Need-part-all-zero-end
-part-all-zero-end c = search needs
-
-all-zero-requires : tie.Need-all-zero-requires
-all-zero-requires c κs = search needs
 
 returns-3 : tie.Need-returns-3
 returns-3 c =
@@ -59,14 +47,14 @@ pub arrivals-body-spec : {M : Type 1} → statement M
 arrivals-body-spec =
     tie.close
     (tie.spec
-    is-count-requires
+    (λ c κs. search needs)
     returns
     all-records-requires
     returns-2
-    width-requires
+    (λ c κs. search needs)
     mul-all-zero
     sub-all-zero
     part-all-zero-start
-    part-all-zero-end
-    all-zero-requires
+    (λ c. search needs)
+    (λ c κs. search needs)
     returns-3)

@@ -20,14 +20,8 @@ fault-other (Label form n ssrc) h = refl
 fault-other (Arrivals form n ssrc) h = refl
 fault-other (Refused refusal) h = ⊎-elim (λ z. absurd (omega arith)) (λ z. absurd (omega arith)) h
 
-enum-known-block : tie.Need-enum-known-block
-enum-known-block c = search needs
-
-returns : tie.Need-returns
-returns c = search needs
-
 returns-2 : tie.Need-returns-2
 returns-2 c = fault-other (c .before .args .block) (c .match .keys2)
 
 pub fault-of-spec : {M : Type 1} → statement M
-fault-of-spec = tie.close (tie.spec enum-known-block returns returns-2)
+fault-of-spec = tie.close (tie.spec (λ c. search needs) (λ c. search needs) returns-2)

@@ -24,18 +24,6 @@ all-allowed-requires c κs = let a = c .before .before .before .args in rw (leng
 returns-2 : tie.Need-returns-2
 returns-2 c = text-false _ _ 1 (was-false (c .before .all-allowed .ensures) (c .if2 .taken))
 
-sub-all-zero : tie.Need-sub-all-zero
-sub-all-zero c = search needs
-
-part-all-zero-start : tie.Need-part-all-zero-start
-part-all-zero-start c = search needs
-
-part-all-zero-end : tie.Need-part-all-zero-end
-part-all-zero-end c = search needs
-
-all-zero-requires : tie.Need-all-zero-requires
-all-zero-requires c κs = search needs
-
 returns-3 : tie.Need-returns-3
 returns-3 c =
     let a = c .before .before .before .before .before .before .before .args in
@@ -50,8 +38,8 @@ label-body-spec =
     slice-aggregate-all-allowed
     all-allowed-requires
     returns-2
-    sub-all-zero
-    part-all-zero-start
-    part-all-zero-end
-    all-zero-requires
+    (λ c. search needs)
+    (λ c. search needs)
+    (λ c. search needs)
+    (λ c κs. search needs)
     returns-3)

@@ -10,15 +10,9 @@ use Rattle.trace.proofs.read.read_block.Tie as tie
 returns : tie.Need-returns
 returns c = not-whole _ (c .if1 .taken)
 
-right-check-requires : tie.Need-right-check-requires
-right-check-requires c κs = search needs
-
 returns-2 : tie.Need-returns-2
 returns-2 c =
     wrong-check (now (c .before .before .before .before .args .b)) (c .before .before .if1 .left) (was-false (c .before .right-check .ensures) (c .if2 .taken))
-
-contents-requires : tie.Need-contents-requires
-contents-requires c κs = search needs
 
 returns-3 : tie.Need-returns-3
 returns-3 c =
@@ -26,4 +20,4 @@ returns-3 c =
 
 pub read-block-spec : {M : Type 1} → statement M
 read-block-spec =
-    tie.close (tie.spec returns right-check-requires returns-2 contents-requires returns-3)
+    tie.close (tie.spec returns (λ c κs. search needs) returns-2 (λ c κs. search needs) returns-3)

@@ -32,28 +32,10 @@ room c = rw (c .width .ensures) (record-fits (fits (c .before .before .before .b
 returns : tie.Need-returns
 returns c = let a = c .before .before .args in found-short (now (a .b)) (a .i) (c .if1 .taken)
 
-read16-requires : tie.Need-read16-requires
-read16-requires c κs = search needs
-
-of-requires : tie.Need-of-requires
-of-requires c κs = search needs
-
-enum-known-kind : tie.Need-enum-known-kind
-enum-known-kind c = search needs
-
 returns-2 : tie.Need-returns-2
 returns-2 c =
     let a = c .before .before .before .before .before .args in
     found-other (now (a .b)) (a .i) (c .before .of .result) (c .match .keys2) ∙ found-whole (now (a .b)) (a .i) (c .before .before .before .if1 .left) (kind-told (now (a .b)) (c .before .before .read16 .ensures) (c .before .of .ensures) refl)
-
-read16-requires-2 : tie.Need-read16-requires-2
-read16-requires-2 c κs = search needs
-
-cast-count : tie.Need-cast-count
-cast-count c = search needs
-
-is-count-requires : tie.Need-is-count-requires
-is-count-requires c κs = search needs
 
 returns-3 : tie.Need-returns-3
 returns-3 c =
@@ -64,18 +46,6 @@ returns-4 : tie.Need-returns-4
 returns-4 c =
     let a = c .before .before .before .before .before .before .before .before .before .before .before .args in
     found-past (now (a .b)) (a .i) (c .before .before .before .before .before .kind .given .0 .0) (c .before .before .before .read162 .ensures) (count (c .before)) (c .if3 .taken) ∙ arrivals (c .before .before .before .before)
-
-sub-record-in : tie.Need-sub-record-in
-sub-record-in c = search needs
-
-part-record-in-start : tie.Need-part-record-in-start
-part-record-in-start c = search needs
-
-part-record-in-end : tie.Need-part-record-in-end
-part-record-in-end c = search needs
-
-width-requires : tie.Need-width-requires
-width-requires c κs = search needs
 
 mul-record-in : tie.Need-mul-record-in
 mul-record-in c = omega (arith, room c)
@@ -95,19 +65,19 @@ record-at-spec =
     tie.close
     (tie.spec
     returns
-    read16-requires
-    of-requires
-    enum-known-kind
+    (λ c κs. search needs)
+    (λ c κs. search needs)
+    (λ c. search needs)
     returns-2
-    read16-requires-2
-    cast-count
-    is-count-requires
+    (λ c κs. search needs)
+    (λ c. search needs)
+    (λ c κs. search needs)
     returns-3
     returns-4
-    sub-record-in
-    part-record-in-start
-    part-record-in-end
-    width-requires
+    (λ c. search needs)
+    (λ c. search needs)
+    (λ c. search needs)
+    (λ c κs. search needs)
     mul-record-in
     record-in-requires
     returns-5)

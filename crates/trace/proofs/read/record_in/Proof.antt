@@ -11,24 +11,6 @@ use Rattle.trace.specs.Layout.{recordAt}
 use Rattle.trace.proofs.read.record_in.Statement.{statement}
 use Rattle.trace.proofs.read.record_in.Tie as tie
 
-time-bytes-requires : tie.Need-time-bytes-requires
-time-bytes-requires c κs = search needs
-
-add-behind : tie.Need-add-behind
-add-behind c = search needs
-
-read-time-requires : tie.Need-read-time-requires
-read-time-requires c κs = search needs
-
-read16-requires : tie.Need-read16-requires
-read16-requires c κs = search needs
-
-add-t7 : tie.Need-add-t7
-add-t7 c = search needs
-
-shared-slice-read-t10 : tie.Need-shared-slice-read-t10
-shared-slice-read-t10 c = search needs
-
 returns : tie.Need-returns
 unfolding recordAt
 returns c =
@@ -45,10 +27,10 @@ pub record-in-spec : {M : Type 1} → statement M
 record-in-spec =
     tie.close
     (tie.spec
-    time-bytes-requires
-    add-behind
-    read-time-requires
-    read16-requires
-    add-t7
-    shared-slice-read-t10
+    (λ c κs. search needs)
+    (λ c. search needs)
+    (λ c κs. search needs)
+    (λ c κs. search needs)
+    (λ c. search needs)
+    (λ c. search needs)
     returns)

@@ -23,9 +23,6 @@ returns c = let a = c .before .before .before .before .args in lists-false (shap
 returns-2 : tie.Need-returns-2
 returns-2 c = let a = c .before .before .before .before .before .args in lists-false (shapeOf (a .form)) (now (a .times)) (now (a .numbers)) (now (a .marks)) 1 (ne-eqb _ _ (c .if2 .taken))
 
-is-count-requires : tie.Need-is-count-requires
-is-count-requires c κs = search needs
-
 returns-3 : tie.Need-returns-3
 returns-3 c = let a = c .before .before .before .before .before .before .before .args in lists-false (shapeOf (a .form)) (now (a .times)) (now (a .numbers)) (now (a .marks)) 2 (was-false (c .before .is-count .ensures) (c .if3 .taken))
 
@@ -47,7 +44,7 @@ are-records-spec =
     (tie.spec
     returns
     returns-2
-    is-count-requires
+    (λ c κs. search needs)
     returns-3
     all-times-requires
     returns-4

@@ -25,20 +25,8 @@ many c = ap (λ (w : ℕ). length (now (c .before .before .args .records)) / w) 
 count : (c : tie.Else2) → countOk (shapeOf (c .before .before .before .before .before .args .form)) (length (now (c .before .before .before .before .before .args .records)) / width (shapeOf (c .before .before .before .before .before .args .form))) ≡ true
 count c = was-true (c .before .is-count .ensures ∙ ap (countOk (shapeOf (c .before .before .before .before .before .args .form))) (many (c .before .before .before))) (c .if2 .left)
 
-width-requires : tie.Need-width-requires
-width-requires c κs = search needs
-
-rem-rest : tie.Need-rem-rest
-rem-rest c = search needs
-
 returns : tie.Need-returns
 returns c = let a = c .before .before .before .args in body-false (shapeOf (a .form)) (now (a .records)) 0 (ne-eqb (length (now (a .records)) % width (shapeOf (a .form))) 0 (λ e. omega (arith, rest (c .before))))
-
-div-count : tie.Need-div-count
-div-count c = search needs
-
-is-count-requires : tie.Need-is-count-requires
-is-count-requires c κs = search needs
 
 returns-2 : tie.Need-returns-2
 returns-2 c =
@@ -62,11 +50,11 @@ pub is-body-spec : {M : Type 1} → statement M
 is-body-spec =
     tie.close
     (tie.spec
-    width-requires
-    rem-rest
+    (λ c κs. search needs)
+    (λ c. search needs)
     returns
-    div-count
-    is-count-requires
+    (λ c. search needs)
+    (λ c κs. search needs)
     returns-2
     all-records-requires
     returns-3)

@@ -10,9 +10,6 @@ use Rattle.numbers.specs.BigEndian.{bytes}
 use Rattle.trace.proofs.write.put_check.Statement.{statement}
 use Rattle.trace.proofs.write.put_check.Tie as tie
 
-slice-reshare-prefix-ones-sum : tie.Need-slice-reshare-prefix-ones-sum
-slice-reshare-prefix-ones-sum c = search needs
-
 slice-aggregate-ones-sum : tie.Need-slice-aggregate-ones-sum
 slice-aggregate-ones-sum c = sym (length-take-le 510 (now (c .before .before .args .out)) (omega arith))
 
@@ -20,15 +17,6 @@ ones-sum-requires : tie.Need-ones-sum-requires
 ones-sum-requires c κs =
     let whole : length (take 510 (now (c .before .before .args .out))) ≡ 510 = length-take-le 510 (now (c .before .before .args .out)) (omega arith) in
     (rw whole, omega arith)
-
-sub-write16 : tie.Need-sub-write16
-sub-write16 c = search needs
-
-write16-requires : tie.Need-write16-requires
-write16-requires c κs = search needs
-
-same-length : tie.Need-same-length
-same-length c = search needs
 
 returns : tie.Need-returns
 returns c =
@@ -39,10 +27,10 @@ pub put-check-spec : {M : Type 1} → statement M
 put-check-spec =
     tie.close
     (tie.spec
-    slice-reshare-prefix-ones-sum
+    (λ c. search needs)
     slice-aggregate-ones-sum
     ones-sum-requires
-    sub-write16
-    write16-requires
-    same-length
+    (λ c. search needs)
+    (λ c κs. search needs)
+    (λ c. search needs)
     returns)

@@ -6,19 +6,10 @@ use Rattle.trace.proofs.Layouts.{end-stored}
 use Rattle.trace.proofs.write.put_end.Statement.{statement}
 use Rattle.trace.proofs.write.put_end.Tie as tie
 
-put-zeros-requires : tie.Need-put-zeros-requires
-put-zeros-requires c κs = search needs
-
-put-check-requires : tie.Need-put-check-requires
-put-check-requires c κs = search needs
-
-same-length : tie.Need-same-length
-same-length c = search needs
-
 returns : tie.Need-returns
 returns c =
     let s = c .before .before .before .before .before .before .before .before .before in
     end-stored (now (s .args .out)) (s .args .from) (s .pre .0) (s .pre .1) (c .before .before .before .before .before .before .put-zeros .ensures) (c .before .before .put-check .ensures)
 
 pub put-end-spec : {M : Type 1} → statement M
-put-end-spec = tie.close (tie.spec put-zeros-requires put-check-requires same-length returns)
+put-end-spec = tie.close (tie.spec (λ c κs. search needs) (λ c κs. search needs) (λ c. search needs) returns)

@@ -5,21 +5,6 @@ use Rattle.trace.proofs.Layouts.{header-stored}
 use Rattle.trace.proofs.write.put_header.Statement.{statement}
 use Rattle.trace.proofs.write.put_header.Tie as tie
 
-write16-requires : tie.Need-write16-requires
-write16-requires c κs = search needs
-
-cast-write16 : tie.Need-cast-write16
-cast-write16 c = search needs
-
-write16-requires-2 : tie.Need-write16-requires-2
-write16-requires-2 c κs = search needs
-
-write32-requires : tie.Need-write32-requires
-write32-requires c κs = search needs
-
-same-length : tie.Need-same-length
-same-length c = search needs
-
 returns : tie.Need-returns
 returns c =
     let a = c .before .before .before .before .before .before .before .before .before .before .before .before .before .args in
@@ -29,9 +14,9 @@ pub put-header-spec : {M : Type 1} → statement M
 put-header-spec =
     tie.close
     (tie.spec
-    write16-requires
-    cast-write16
-    write16-requires-2
-    write32-requires
-    same-length
+    (λ c κs. search needs)
+    (λ c. search needs)
+    (λ c κs. search needs)
+    (λ c κs. search needs)
+    (λ c. search needs)
     returns)

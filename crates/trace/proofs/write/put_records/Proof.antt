@@ -30,38 +30,14 @@ abbrev μ-loop : tie.MeasureT-loop
 room : (c : tie.In-loop Inv-loop μ-loop) → c .before .loop .at + width (shapeOf (c .before .before .before .before .before .before .before .args .form)) ≤ 510
 room c = omega (arith, record-fits (fits (c .before .before .before .before .before .before .before .args .form)) (c .before .before .before .before .before .before .before .pre .1 .0) (c .before .loop .i) (c .loop-test .taken))
 
-width-requires : tie.Need-width-requires Inv-loop μ-loop
-width-requires c κs = search needs
-
 loop-holds : tie.Need-loop-holds Inv-loop μ-loop
 loop-holds c = (search needs, omega arith, refl, refl)
-
-mul-t10 : tie.Need-mul-t10 Inv-loop μ-loop
-mul-t10 c = search needs
-
-shared-slice-read-t13 : tie.Need-shared-slice-read-t13 Inv-loop μ-loop
-shared-slice-read-t13 c = search needs
-
-mul-t14 : tie.Need-mul-t14 Inv-loop μ-loop
-mul-t14 c = search needs
-
-shared-slice-read-t16 : tie.Need-shared-slice-read-t16 Inv-loop μ-loop
-shared-slice-read-t16 c = search needs
-
-shared-slice-read-t19 : tie.Need-shared-slice-read-t19 Inv-loop μ-loop
-shared-slice-read-t19 c = search needs
 
 put-record-requires : tie.Need-put-record-requires Inv-loop μ-loop
 put-record-requires c κs = omega (arith, room (c .before .before .before .before), c .before .before .before .before .before .loop .inv .2, c .before .before .before .before .before .before .before .before .before .before .before .pre .1 .1)
 
 add-at : tie.Need-add-at Inv-loop μ-loop
 add-at c = omega (arith, room (c .before .before .before .before .before .before .before), c .before .before .before .before .before .before .before .before .before .width .ensures)
-
-add-i : tie.Need-add-i Inv-loop μ-loop
-add-i c = search needs
-
-loop-less : tie.Need-loop-less Inv-loop μ-loop
-loop-less c = search needs
 
 loop-again : tie.Need-loop-again Inv-loop μ-loop
 unfolding recordsBytes
@@ -82,9 +58,6 @@ loop-again c =
           ∙ loop .inv .3,
     )
 
-same-length : tie.Need-same-length Inv-loop μ-loop
-same-length c = search needs
-
 returns : tie.Need-returns Inv-loop μ-loop
 unfolding recordsBytes
 returns c = let loop = c .before .loop in let a = c .before .before .before .before .before .before .before .args in rw (records-end (now (a .times)) (now (a .numbers)) (now (a .marks)) (loop .i) (c .loop-test .left)) at (loop .inv .3)
@@ -95,17 +68,17 @@ put-records-spec =
     (tie.spec
     Inv-loop
     μ-loop
-    width-requires
+    (λ c κs. search needs)
     loop-holds
-    mul-t10
-    shared-slice-read-t13
-    mul-t14
-    shared-slice-read-t16
-    shared-slice-read-t19
+    (λ c. search needs)
+    (λ c. search needs)
+    (λ c. search needs)
+    (λ c. search needs)
+    (λ c. search needs)
     put-record-requires
     add-at
-    add-i
-    loop-less
+    (λ c. search needs)
+    (λ c. search needs)
     loop-again
-    same-length
+    (λ c. search needs)
     returns)

@@ -31,26 +31,17 @@ whole c =
 room : (c : tie.After-width) → length (now (c .before .before .before .before .before .before .before .before .before .before .before .before .before .before .before .before .before .before .args .times)) * c .width .result ≤ 502
 room c = rw (c .width .ensures) (records-fit (fits (c .before .before .before .before .before .before .before .before .before .before .before .before .before .before .before .before .before .before .args .form)) (good (c .before .before .before .before .before .before .before .before .before .before .before .before) .most))
 
-are-records-requires : tie.Need-are-records-requires
-are-records-requires c κs = search needs
-
 returns : tie.Need-returns
 returns c = let a = c .before .before .before .before .before .before .args in wrote-refused (arrivalsBlock (shapeOf (a .form)) (recordsOf (now (a .times)) (now (a .numbers)) (now (a .marks))) (a .ssrc)) (now (a .out)) (lists-refused (shapeOf (a .form)) (now (a .times)) (now (a .numbers)) (now (a .marks)) (was-false {t = arrivalsOk (shapeOf (a .form)) (now (a .times)) (now (a .numbers)) (now (a .marks))} (c .before .are-records .ensures) (c .if1 .taken)))
 
 returns-2 : tie.Need-returns-2
 returns-2 c = let a = c .before .before .before .before .before .before .before .args in wrote-short (arrivalsBlock (shapeOf (a .form)) (recordsOf (now (a .times)) (now (a .numbers)) (now (a .marks))) (a .ssrc)) (now (a .out)) (good (c .before) .no-fault) (omega (arith, whole (c .before))) (sym (whole (c .before)))
 
-arrivals-requires : tie.Need-arrivals-requires
-arrivals-requires c κs = search needs
-
 put-header-requires : tie.Need-put-header-requires
 put-header-requires c κs = omega (arith, good (c .before .before .before) .most, fits (c .before .before .before .before .before .before .before .before .before .args .form) .few)
 
 put-records-requires : tie.Need-put-records-requires
 put-records-requires c κs = let t = good (c .before .before .before .before .before .before .before) in ((t .numbers-long, t .marks-long), (t .most, omega (arith, c .before .before .before .before .before .before .if2 .left)))
-
-width-requires : tie.Need-width-requires
-width-requires c κs = search needs
 
 mul-put-end : tie.Need-mul-put-end
 mul-put-end c = omega (arith, room c)
@@ -60,9 +51,6 @@ add-put-end c = omega (arith, room c)
 
 put-end-requires : tie.Need-put-end-requires
 put-end-requires c κs = (omega (arith, room c), omega (arith, c .before .before .before .before .before .before .before .before .before .before .before .if2 .left))
-
-same-length : tie.Need-same-length
-same-length c = search needs
 
 returns-3 : tie.Need-returns-3
 unfolding arrivalsBlock
@@ -81,15 +69,15 @@ pub write-arrivals-spec : {M : Type 1} → statement M
 write-arrivals-spec =
     tie.close
     (tie.spec
-    are-records-requires
+    (λ c κs. search needs)
     returns
     returns-2
-    arrivals-requires
+    (λ c κs. search needs)
     put-header-requires
     put-records-requires
-    width-requires
+    (λ c κs. search needs)
     mul-put-end
     add-put-end
     put-end-requires
-    same-length
+    (λ c. search needs)
     returns-3)

@@ -25,32 +25,17 @@ few c = label-short (now (c .before .before .before .before .args .label)) (good
 whole : (c : tie.Else1) → length (labelBlock (shapeOf (c .before .before .before .before .args .form)) (now (c .before .before .before .before .args .label)) (c .before .before .before .before .args .ssrc)) ≡ 512
 whole c = length-labelBlock (shapeOf (c .before .before .before .before .args .form)) (now (c .before .before .before .before .args .label)) (c .before .before .before .before .args .ssrc) (few c)
 
-is-label-requires : tie.Need-is-label-requires
-is-label-requires c κs = search needs
-
 returns : tie.Need-returns
 returns c = let a = c .before .before .before .before .args in wrote-refused (labelBlock (shapeOf (a .form)) (now (a .label)) (a .ssrc)) (now (a .out)) (label-refused (now (a .label)) (was-false (c .before .is-label .ensures) (c .if1 .taken)))
 
 returns-2 : tie.Need-returns-2
 returns-2 c = let a = c .before .before .before .before .before .args in wrote-short (labelBlock (shapeOf (a .form)) (now (a .label)) (a .ssrc)) (now (a .out)) (label-taken (now (a .label)) (good (c .before))) (omega (arith, whole (c .before))) (sym (whole (c .before)))
 
-label-requires : tie.Need-label-requires
-label-requires c κs = search needs
-
 put-header-requires : tie.Need-put-header-requires
 put-header-requires c κs = few (c .before .before .before)
 
-put-bytes-requires : tie.Need-put-bytes-requires
-put-bytes-requires c κs = search needs
-
-add-put-end : tie.Need-add-put-end
-add-put-end c = search needs
-
 put-end-requires : tie.Need-put-end-requires
 put-end-requires c κs = (omega (arith, few (c .before .before .before .before .before .before .before .before .before .before .before)), omega (arith, few (c .before .before .before .before .before .before .before .before .before .before .before)))
-
-same-length : tie.Need-same-length
-same-length c = search needs
 
 returns-3 : tie.Need-returns-3
 unfolding labelBlock
@@ -65,13 +50,13 @@ pub write-label-spec : {M : Type 1} → statement M
 write-label-spec =
     tie.close
     (tie.spec
-    is-label-requires
+    (λ c κs. search needs)
     returns
     returns-2
-    label-requires
+    (λ c κs. search needs)
     put-header-requires
-    put-bytes-requires
-    add-put-end
+    (λ c κs. search needs)
+    (λ c. search needs)
     put-end-requires
-    same-length
+    (λ c. search needs)
     returns-3)

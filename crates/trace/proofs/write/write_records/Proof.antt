@@ -27,38 +27,17 @@ whole c = length-recordsBlock (shapeOf (c .before .before .before .before .args 
 many : (c : tie.After-width) → length (now (c .before .before .before .before .before .before .before .args .records)) / c .width .result ≡ length (now (c .before .before .before .before .before .before .before .args .records)) / width (shapeOf (c .before .before .before .before .before .before .before .args .form))
 many c = ap (λ (w : ℕ). length (now (c .before .before .before .before .before .before .before .args .records)) / w) (c .width .ensures)
 
-is-body-requires : tie.Need-is-body-requires
-is-body-requires c κs = search needs
-
 returns : tie.Need-returns
 returns c = let a = c .before .before .before .before .args in wrote-refused (recordsBlock (shapeOf (a .form)) (now (a .records)) (a .ssrc)) (now (a .out)) (body-refused (shapeOf (a .form)) (now (a .records)) (was-false (c .before .is-body .ensures) (c .if1 .taken)))
 
 returns-2 : tie.Need-returns-2
 returns-2 c = let a = c .before .before .before .before .before .args in wrote-short (recordsBlock (shapeOf (a .form)) (now (a .records)) (a .ssrc)) (now (a .out)) (good (c .before) .no-fault) (omega (arith, whole (c .before))) (sym (whole (c .before)))
 
-arrivals-requires : tie.Need-arrivals-requires
-arrivals-requires c κs = search needs
-
-width-requires : tie.Need-width-requires
-width-requires c κs = search needs
-
-div-put-header : tie.Need-div-put-header
-div-put-header c = search needs
-
 put-header-requires : tie.Need-put-header-requires
 put-header-requires c κs = omega (arith, many (c .before), good (c .before .before .before .before) .most, fits (c .before .before .before .before .before .before .before .before .args .form) .few)
 
-put-bytes-requires : tie.Need-put-bytes-requires
-put-bytes-requires c κs = search needs
-
-add-put-end : tie.Need-add-put-end
-add-put-end c = search needs
-
 put-end-requires : tie.Need-put-end-requires
 put-end-requires c κs = let short = few (c .before .before .before .before .before .before .before .before .before .before .before .before) in (omega (arith, short), omega (arith, c .before .before .before .before .before .before .before .before .before .before .before .if2 .left))
-
-same-length : tie.Need-same-length
-same-length c = search needs
 
 returns-3 : tie.Need-returns-3
 unfolding recordsBlock
@@ -74,15 +53,15 @@ pub write-records-spec : {M : Type 1} → statement M
 write-records-spec =
     tie.close
     (tie.spec
-    is-body-requires
+    (λ c κs. search needs)
     returns
     returns-2
-    arrivals-requires
-    width-requires
-    div-put-header
+    (λ c κs. search needs)
+    (λ c κs. search needs)
+    (λ c. search needs)
     put-header-requires
-    put-bytes-requires
-    add-put-end
+    (λ c κs. search needs)
+    (λ c. search needs)
     put-end-requires
-    same-length
+    (λ c. search needs)
     returns-3)

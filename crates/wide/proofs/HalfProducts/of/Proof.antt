@@ -17,8 +17,5 @@ mul-t9 c = half-fits (omega arith) (omega arith)
 mul-t10 : tie.Need-mul-t10
 mul-t10 c = half-fits (omega arith) (omega arith)
 
-returns : tie.Need-returns
-returns c = search needs
-
 pub of-spec : {M : Type 1} → statement M
-of-spec = tie.close (tie.spec mul-t7 mul-t8 mul-t9 mul-t10 returns)
+of-spec = tie.close (tie.spec mul-t7 mul-t8 mul-t9 mul-t10 (λ c. search needs))

@@ -12,29 +12,11 @@ column2-fits-word : (c : tie.After-of) → column2 (c .of .result) < 2 ^ 64
 column2-fits-word c =
     column2-fits (c .before .args .a) (c .before .args .b) (c .before .fits .a .fits) (c .before .fits .b .fits) (c .of .ensures)
 
-of-requires : tie.Need-of-requires
-of-requires c κs = search needs
-
-add-column1 : tie.Need-add-column1
-add-column1 c = search needs
-
-add-column1-2 : tie.Need-add-column1-2
-add-column1-2 c = search needs
-
-add-column2 : tie.Need-add-column2
-add-column2 c = search needs
-
 add-column2-2 : tie.Need-add-column2-2
 add-column2-2 c = omega (arith, column2-fits-word (c .before .before .before .before .before .before .before))
 
 add-column2-3 : tie.Need-add-column2-3
 add-column2-3 c = omega (arith, column2-fits-word (c .before .before .before .before .before .before .before))
-
-mul-t9 : tie.Need-mul-t9
-mul-t9 c = search needs
-
-add-t10 : tie.Need-add-t10
-add-t10 c = search needs
 
 returns : tie.Need-returns
 returns c =
@@ -44,4 +26,4 @@ returns c =
 pub product-spec : {M : Type 1} → statement M
 product-spec =
     tie.close
-    (tie.spec of-requires add-column1 add-column1-2 add-column2 add-column2-2 add-column2-3 mul-t9 add-t10 returns)
+    (tie.spec (λ c κs. search needs) (λ c. search needs) (λ c. search needs) (λ c. search needs) add-column2-2 add-column2-3 (λ c. search needs) (λ c. search needs) returns)
