@@ -1,0 +1,11 @@
+pub mod Places
+pub mod Rules
+pub mod Stands
+pub mod Answers
+pub mod Compounds
+pub mod Tables
+pub mod Seats
+pub mod Checks
+pub mod Lending
+pub mod Theorems
+pub mod Witnesses
