@@ -172,19 +172,26 @@ fn take_rest(
     p
 }
 
-// Ends a run: the records that are held go into a last block, the refusal is told, and what is kept is printed.
+// Tells how a run ended before a block, and prints what is kept.
+fn finish(ended: Ended, block: u64, name: &[u8], out: Output, blocks: &[u8]) {
+    tell_end(ended, block, name);
+    out.flushed(name, blocks);
+}
+
+// Ends a run: the records that are held go into a last block, the refusal is told, and what is kept is printed. A last block that is refused is told too.
 fn close(p: Progress, name: &[u8], part: &[u8], blocks: &mut [u8]) {
     let conversion = p.conversion;
     let ended = p.ended;
     let kept = p.out;
     let out = kept.with_room(BLOCK, name, blocks);
     let used = out.used;
-    let last = match conversion.close(part, &mut blocks[used..]) {
-        Written::Length(n) => out.with_kept(n, blocks),
-        _ => out,
-    };
-    tell_end(ended, p.block, name);
-    last.flushed(name, blocks);
+    match conversion.close(part, &mut blocks[used..]) {
+        Written::Length(n) => finish(ended, p.block, name, out.with_kept(n, blocks), blocks),
+        Written::Room(_) => finish(Ended::Refused(ROOM), p.block, name, out, blocks),
+        Written::Refused(refusal) => {
+            finish(Ended::Refused(refusal.number()), p.block, name, out, blocks)
+        }
+    }
 }
 
 // Takes the blocks behind block 0, which gave a conversion and a block of n bytes.

@@ -14,8 +14,8 @@ use shell::reading::Input;
 use shell::reading::Next;
 use table::write_head;
 
-// Rows are printed when less room than this is left behind them. A row takes less: its label at most 1,006 bytes, its nine numbers at most 20
-// digits and a sign each, nine commas, CR and LF.
+// Rows are printed when less room than this is left behind them. A row takes less: its label at most 1,006 bytes, its ten numbers at most 20
+// digits and a sign each, ten commas, CR and LF.
 const ROW: usize = 2048;
 
 // How far the run has come: the number of the next block, what is read and not taken yet, the lines that are kept, and whether to go on.
