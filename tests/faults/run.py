@@ -1,6 +1,6 @@
 """run.py ECNTABLE ECNFORMS FAULTS.so FOLDER: the programs where a read or a write fails, is interrupted, is not ready or moves few bytes.
 
-A trace of 400 arrivals blocks. Where the calls can be made again the output is that of an undisturbed run and standard error is empty. Where a
+A trace of 800 arrivals blocks. Where the calls can be made again the output is that of an undisturbed run and standard error is empty. Where a
 read fails, the output is that of the whole blocks before it, and `refused 1 block I` follows, on standard output by ecntable and on standard error
 by ecnforms; where a write fails, standard output is cut off. Both say so in one line on standard error. Each check that does not hold is printed;
 the last line says how many runs there were.
@@ -16,7 +16,7 @@ import sys
 import threading
 import time
 
-BLOCK, BLOCKS, SSRC = 512, 401, 7
+BLOCK, BLOCKS, SSRC = 512, 801, 7
 LABEL = b"ward 3, bed 12: " + b"x" * 300
 # By form: the records of a full block, and how the first part of one, its time, is packed
 FORMS = {1: (62, lambda time: struct.pack(">I", time)), 2: (50, lambda time: struct.pack(">HI", time >> 32, time & 0xFFFFFFFF))}
@@ -46,8 +46,10 @@ class Ecntable:
     """What is printed behind so many whole blocks, and where a read fails there."""
 
     name, form, usage = "ecntable", 1, b"usage: ecntable <TRACE >TABLE\n"
-    # How many blocks are read at a time behind block 0; the first write that brings more than 1,000 bytes, and what those before it bring.
+    # How many blocks are read at a time behind block 0; a write that brings more than 1,000 bytes, and what those before it bring.
     piece, write, before = 128, 1, 0
+    # Reads of at most 700 bytes that fail before anything is printed, and the whole blocks before each.
+    early = ((20, 25),)
 
     def learn(self, table):
         self.rows = table.splitlines(keepends=True)
@@ -61,7 +63,9 @@ class Ecntable:
 
 class Ecnforms:
     name, usage = "ecnforms", b"usage: ecnforms <TRACE >TRACE\n"
-    piece, write, before = 400, 2, BLOCK
+    piece, write, before = 256, 2, 512 * BLOCK
+    # Those before the second of form 1 fill more than a piece of output.
+    early = ((20, 25), (336, 456))
 
     def __init__(self, form):
         self.form = form
@@ -168,10 +172,12 @@ def injected_writes(tried):
 
 def both_fail(tried):
     """A read fails behind whole blocks of its piece, and then the write of what they give: each is told with its own error."""
-    program, whole = tried.program, (BLOCK + 18 * 700) // BLOCK
-    faults = f"read short 1 0 700; read fail 20 {errno.EIO} 1; write fail {program.write} {errno.ENOSPC} 1"
-    line = program.unread(whole)[1] + tried.told("reading standard input", errno.EIO) + tried.told("writing standard output", errno.ENOSPC)
-    tried.hold("a read and then a write fails", *tried.run("a read and then a write fails", faults), tried.whole[: program.before], line)
+    program = tried.program
+    for call, whole in program.early:
+        name = f"read {call} and then a write fails"
+        faults = f"read short 1 0 700; read fail {call} {errno.EIO} 1; write fail 1 {errno.ENOSPC} 1"
+        line = program.unread(whole)[1] + tried.told("reading standard input", errno.EIO) + tried.told("writing standard output", errno.ENOSPC)
+        tried.hold(name, *tried.run(name, faults), b"", line)
 
 
 def limited():

@@ -16,15 +16,18 @@ use shell::printing::Output;
 use shell::reading::Ahead;
 use shell::reading::Input;
 use shell::reading::Next;
+ghost use mathlib.Core.Path.{_≡_};
+ghost use Prim.Native.Nat.{min};
 
-// The blocks that one block may fill.
-const FILLED: usize = 2 * BLOCK;
+// So many blocks are read at a time.
+const PIECE: usize = 256 * BLOCK;
 
-// So many blocks are read at a time, and so many are kept for output: what those fill, 62 records in the place of 50, fits, so nothing is printed
-// between a read that fails and its line. (Large pieces spare the system most of its work on a file's pages.)
-const PIECE: usize = 400 * BLOCK;
+// Output is printed in pieces of 256 KiB. Each begins at a multiple of that, where the system has large pieces of the file's pages to work with.
+const PRINTED: usize = 512 * BLOCK;
 
-const KEPT: usize = 520 * BLOCK;
+// So much is kept for output: less than such a piece, and what the blocks of one read fill, 62 records in the place of 50. So nothing is printed between a
+// read that fails and its line.
+const KEPT: usize = PRINTED + 320 * BLOCK;
 
 // How a run ended: at the end of the trace, at a refused block, or at a failed read.
 enum Ended {
@@ -71,10 +74,21 @@ fn tell_end(ended: Ended, block: u64, name: &[u8]) {
     }
 }
 
+// The smaller of two numbers.
+fn least(a: usize, b: usize) -> usize
+    ensures { λ r. ⌜ r ≡ min a b ⌝ }
+{
+    if a < b {
+        return a;
+    }
+    b
+}
+
 // The end of the run.
-fn stopped(p: Progress, out: Output, ended: Ended) -> Progress {
+fn stopped(p: Progress, ended: Ended) -> Progress {
     let conversion = p.conversion;
     let input = p.input;
+    let out = p.out;
     Progress {
         conversion,
         block: p.block,
@@ -85,48 +99,104 @@ fn stopped(p: Progress, out: Output, ended: Ended) -> Progress {
     }
 }
 
-// Takes one block: the blocks that it fills are kept, or the run ends with its refusal. So it does where printing has failed.
-fn take_block(
+// The run before a block of what is read, with so many bytes kept.
+fn reached(p: Progress, conversion: Conversion, block: u64, from: usize, used: usize) -> Progress {
+    let read = p.input;
+    let kept = p.out;
+    let ahead = read.ahead;
+    let input = Input {
+        from,
+        to: read.to,
+        ahead,
+    };
+    let out = Output {
+        fd: kept.fd,
+        used,
+        failed: kept.failed,
+    };
+    Progress {
+        conversion,
+        block,
+        input,
+        out,
+        going: true,
+        ended: Ended::Whole,
+    }
+}
+
+// Takes the blocks that are read while fewer than `most` bytes are kept: the blocks that they fill are kept. A refused block ends the run.
+fn take_blocks(
     p: Progress,
-    rest: Input,
-    name: &[u8],
+    most: usize,
     part: &mut [u8],
-    block: &[u8],
+    pieces: &[u8],
     blocks: &mut [u8],
 ) -> Progress {
-    let conversion = p.conversion;
-    let kept = p.out;
-    let out = kept.with_room(FILLED, name, blocks);
-    let used = out.used;
-    match conversion.block(part, block, &mut blocks[used..]) {
-        Step::Taken(next, n) => Progress {
-            conversion: next,
-            block: number_after(p.block),
-            input: rest,
-            out: out.with_kept(n, blocks),
-            going: !out.failed,
-            ended: Ended::Whole,
-        },
-        Step::Room(_, _) => stopped(p, out, Ended::Refused(ROOM)),
-        Step::Refused(refusal, _) => stopped(p, out, Ended::Refused(refusal.number())),
-    }
-}
-
-// What is kept, printed before more is read. Where a read has failed it is not: printing could fail too, and put its error in the place of the read's.
-fn printed(p: Progress, name: &[u8], blocks: &[u8]) -> Output {
     let input = p.input;
     let out = p.out;
-    let ahead = input.ahead;
-    if input.from < input.to {
-        return out;
+    let to = least(input.to, pieces.len());
+    let mut conversion = p.conversion;
+    let mut block = p.block;
+    let mut from = input.from;
+    let mut used = least(out.used, blocks.len());
+    while from < to {
+        if most <= used {
+            return reached(p, conversion, block, from, used);
+        }
+        let end = from + least(to - from, BLOCK);
+        match conversion.block(part, &pieces[from..end], &mut blocks[used..]) {
+            Step::Taken(next, n) => {
+                conversion = next;
+                used += least(n, blocks.len() - used);
+            }
+            Step::Room(_, _) => {
+                let here = reached(p, conversion, block, from, used);
+                return stopped(here, Ended::Refused(ROOM));
+            }
+            Step::Refused(refusal, _) => {
+                let here = reached(p, conversion, block, from, used);
+                return stopped(here, Ended::Refused(refusal.number()));
+            }
+        }
+        from = end;
+        block = number_after(block);
     }
-    let Ahead::More = ahead else {
-        return out;
-    };
-    out.flushed(name, blocks)
+    reached(p, conversion, block, to, used)
 }
 
-// Takes the next block. One that could not be read is not a whole block.
+// So many bytes are kept at most before they are printed. Where a read has failed they are not: printing could fail too, and put its error in the place of
+// the read's.
+fn most_kept(ahead: Ahead) -> usize {
+    match ahead {
+        Ahead::More => PRINTED,
+        Ahead::End => PRINTED,
+        Ahead::Failure => KEPT,
+    }
+}
+
+// Takes blocks that are read, to the end of them or of a piece of output, which is printed. Where printing fails the run ends.
+fn take_read(
+    p: Progress,
+    name: &[u8],
+    part: &mut [u8],
+    pieces: &[u8],
+    blocks: &mut [u8],
+) -> Progress {
+    let input = p.input;
+    let ahead = input.ahead;
+    let most = most_kept(ahead);
+    let mut next = take_blocks(p, most, part, pieces, blocks);
+    let kept = next.out;
+    if kept.used < most {
+        return next;
+    }
+    next.out = kept.with_printed(PRINTED, name, blocks);
+    let out = next.out;
+    next.going = !out.failed;
+    next
+}
+
+// Takes blocks that are read, or reads more. A block that could not be read is not a whole block.
 fn take_next(
     p: Progress,
     name: &[u8],
@@ -135,20 +205,23 @@ fn take_next(
     blocks: &mut [u8],
 ) -> Progress {
     let input = p.input;
-    let mut next = p;
-    next.out = printed(p, name, blocks);
-    let out = next.out;
+    if input.from < input.to {
+        return take_read(p, name, part, pieces, blocks);
+    }
     match input.next(b"", pieces) {
-        Next::Block { from, to, rest } => take_block(
-            next,
-            rest,
-            name,
-            part,
-            &pieces[from..to],
-            blocks,
-        ),
-        Next::End => stopped(next, out, Ended::Whole),
-        Next::Failed => stopped(next, out, Ended::Unread),
+        Next::Block { from, to: _, rest } => {
+            let ahead = rest.ahead;
+            let read = Input {
+                from,
+                to: rest.to,
+                ahead,
+            };
+            let mut next = p;
+            next.input = read;
+            take_read(next, name, part, pieces, blocks)
+        }
+        Next::End => stopped(p, Ended::Whole),
+        Next::Failed => stopped(p, Ended::Unread),
     }
 }
 

@@ -1,29 +1,22 @@
 -- Records stored at the front of a list, and what a part of them is. Assumes nothing.
-use mathlib.Core.Path.{_≡_, refl, sym, ap, ap₂, _∙_}
+use mathlib.Core.Path.{_≡_, refl, sym, ap, _∙_}
 use mathlib.Core.Bool.{Bool, true, _&&_}
 use mathlib.Core.List.{List, [], _∷_, _++_}
-use Prim.Native.Nat.{ℕ, zero, suc, _+_, _-_, _*_, _/_, _≤_}
-use native.Mathlib.Nat.{mul-le-mul-right}
+use Prim.Native.Nat.{ℕ, zero, suc, _+_, _-_, _*_, _≤_}
 use native.Mathlib.Omega.{arith}
-use lib.ListN.{length, take, drop, length-append, length-drop, take-append-drop}
-use lib.Seq.{sets, length-sets, take-at, drop-append-le, length-take-le}
+use lib.ListN.{length, take, drop}
+use lib.Seq.{sets, take-at}
 use Rattle.answers.proofs.Conditions.{and-left, and-right}
 use Rattle.answers.proofs.Stores.{sets-front}
 use Rattle.numbers.proofs.BigEndian.{Octets}
-use Rattle.format.specs.Forms.{Shape, shapeOf, width, otherForm}
-use Rattle.format.specs.declared.Form.{Form}
+use Rattle.format.specs.Forms.{Shape, width}
 use Rattle.trace.specs.Contents.{every, isMark, goodRecords}
 use Rattle.trace.specs.Layout.{recordsBytes}
 use Rattle.trace.specs.Theorems.{recordsIn, listOf}
 use Rattle.trace.specs.declared.Record.{Record}
 use Rattle.trace.proofs.Layouts.{length-records}
-use Rattle.trace.proofs.Records.{AllOfShape, marks, of-shape-append, of-shape-take, of-shape-drop, of-shape-in, of-shape-other, marks-in, list-append, bytes-drop, records-bytes, good-bytes, records-add, good-add, length-recordsIn}
-use Rattle.forms.specs.Packing.{fullBlocks, full, left}
-use Rattle.forms.specs.Conversions.{toShape, heldIn, allTimes}
-use Rattle.forms.specs.Steps.{Packable}
-use Rattle.forms.specs.declared.Conversion.{Conversion}
-use Rattle.forms.proofs.Held.{is-sound}
-use Rattle.forms.proofs.Packed.{full-fits, full-front}
+use Rattle.trace.proofs.Records.{AllOfShape, marks, of-shape-append, of-shape-take, of-shape-drop, of-shape-in, of-shape-other, marks-in, list-append, records-bytes, good-bytes, records-add, good-add, length-recordsIn}
+use Rattle.forms.specs.Conversions.{allTimes}
 
 -- ---- records that a block of a form may have
 
@@ -100,74 +93,3 @@ module _ (shape : Shape) (rs : List Record) (fine : Fine shape rs) (old : List �
         let both : recordsIn shape k all ++ recordsIn shape (length rs - k) (drop (k * wide) all) ≡ rs =
         sym (records-add shape k (length rs - k) all) ∙ ap (λ (n : ℕ). recordsIn shape n all) parts ∙ ap (recordsIn shape (length rs)) all-is ∙ records-bytes shape rs rest (fine .shaped) in
         sym (take-at (recordsIn shape k all) (recordsIn shape (length rs - k) (drop (k * wide) all)) k (length-recordsIn shape k all)) ∙ ap (take k) both
-
-    -- those behind them
-    pub bytes-behind : take (length rs * wide - k * wide) (drop (k * wide) all) ≡ recordsBytes shape (drop k rs)
-    bytes-behind =
-        let back = recordsBytes shape (drop k rs) in
-        let fit : k * wide ≤ length (recordsBytes shape rs) = rw (length-records shape rs) (mul-le-mul-right wide few) in
-        let long : length back ≡ length rs * wide - k * wide = ap length (sym (bytes-drop shape k rs)) ∙ length-drop (k * wide) (recordsBytes shape rs) ∙ ap (λ (n : ℕ). n - k * wide) (length-records shape rs) in
-        rw (all-is, drop-append-le (k * wide) (recordsBytes shape rs) rest fit, bytes-drop shape k rs)
-        (take-at back rest (length rs * wide - k * wide) long)
-
-  -- the full blocks of the first
-  pub full-first : (ssrc n : ℕ) → n * shape .most ≤ length rs → fullBlocks shape ssrc n (recordsIn shape (n * shape .most) all) ≡ fullBlocks shape ssrc n rs
-  full-first ssrc n few =
-      let k = n * shape .most in
-      ap (fullBlocks shape ssrc n) (read-first k few)
-      ∙ sym (full-front shape ssrc n (take k rs) (drop k rs) (omega (arith, length-take-le k rs few)))
-      ∙ ap (fullBlocks shape ssrc n) (take-append-drop k rs)
-
--- ---- what a block's records and those that are held give
-
-module _ {c : Conversion} {part body : List ℕ} {n : ℕ} (ready : Packable c part n body) where
-  abbrev records : List Record
-  records = heldIn c part ++ recordsIn (shapeOf (c .form)) n body
-
-  pub many-records : length records ≡ c .held + n
-  many-records =
-      length-append (heldIn c part) (recordsIn (shapeOf (c .form)) n body)
-      ∙ ap₂ (λ (a b : ℕ). a + b) (length-recordsIn (toShape c) (c .held) part) (length-recordsIn (shapeOf (c .form)) n body)
-
-  pub fine-records : Octets part → Octets body → Fine (toShape c) records
-  fine-records op ob =
-      fine-append (toShape c) (fine-in (toShape c) (c .held) part op (is-sound (ready .whole) .good))
-      (fine-other (shapeOf (c .form)) (toShape c) (fine-in (shapeOf (c .form)) n body ob (ready .good)) (ready .timed))
-
-  -- by what the code has found of the other form
-  module _ (op : Octets part) (ob : Octets body) (old : List ℕ) {all : List ℕ} {to : Form} {most w : ℕ}
-      (room : (c .held + n) * width (toShape c) ≤ length old) (e : all ≡ sets old 0 (recordsBytes (toShape c) records))
-      (et : to ≡ otherForm (c .form)) (em : most ≡ shapeOf to .most) (ew : w ≡ width (shapeOf to)) where
-    enough : length records * width (toShape c) ≤ length old
-    enough = rw many-records room
-
-    long : length all ≡ length old
-    long = ap length e ∙ length-sets old 0 (recordsBytes (toShape c) records)
-
-    most-is : most ≡ toShape c .most
-    most-is = em ∙ ap (λ (f : Form). shapeOf f .most) et
-
-    wide-is : w ≡ width (toShape c)
-    wide-is = ew ∙ ap (λ (f : Form). width (shapeOf f)) et
-
-    pub all-fit : (c .held + n) * w ≤ length all
-    all-fit = rw (wide-is, long) room
-
-    pub full-good : goodRecords (shapeOf to) ((c .held + n) / most * shapeOf to .most) all ≡ true
-    full-good =
-        rw (em, et, ← many-records)
-        (good-first (toShape c) records (fine-records op ob) old enough e (full (toShape c) records * toShape c .most) (full-fits (toShape c) records))
-
-    pub full-stored : (ssrc : ℕ) (out : List ℕ)
-        → sets out 0 (fullBlocks (shapeOf to) ssrc ((c .held + n) / most) (recordsIn (shapeOf to) ((c .held + n) / most * shapeOf to .most) all))
-        ≡ sets out 0 (fullBlocks (toShape c) ssrc (full (toShape c) records) records)
-    full-stored ssrc out =
-        rw (em, et, ← many-records)
-        (ap (sets out 0) (full-first (toShape c) records (fine-records op ob) old enough e ssrc (full (toShape c) records) (full-fits (toShape c) records)))
-
-    pub rest-stored : (s : List ℕ)
-        → sets s 0 (take ((c .held + n) * w - (c .held + n) / most * most * w) (drop ((c .held + n) / most * most * w) all))
-        ≡ sets s 0 (recordsBytes (toShape c) (left (toShape c) records))
-    rest-stored s =
-        rw (most-is, wide-is, ← many-records)
-        (ap (sets s 0) (bytes-behind (toShape c) records (fine-records op ob) old enough e (full (toShape c) records * toShape c .most) (full-fits (toShape c) records)))

@@ -4,6 +4,7 @@ pub mod Moved
 pub mod Held
 pub mod Blocks
 pub mod Gathered
+pub mod Parting
 pub mod Steps
 pub mod Whole
 pub mod Calls

@@ -6,13 +6,14 @@ use Prim.Native.Nat.{ℕ, zero, suc, _+_, _-_, _*_, _/_, _≤_, _<_}
 use native.Mathlib.Nat.{add-zero, div-eq-of-lt}
 use native.Mathlib.Numerals.{add-one}
 use native.Mathlib.Omega.{arith}
-use borrow.Author.Tests.{lt-ltb, le-ltb, eqb-true, eqb-false}
+use borrow.Author.Tests.{lt-ltb, le-ltb, eq-eqb, ne-eqb, eqb-true, eqb-false}
 use lib.Dec.{eqb, ltb}
 use lib.ListN.{length, take, drop, getD, set, length-drop}
-use lib.Seq.{sets, take-add, drop-at, drop-drop, getD-drop, length-take-le}
+use lib.Seq.{sets, take-add, take-at, drop-at, drop-drop, getD-drop, length-take-le}
 use Rattle.numbers.specs.BigEndian.{word, bytes}
 use Rattle.numbers.proofs.BigEndian.{Octets, length-bytes, bytes-add, word-add, word-lt, word-two}
 use Rattle.answers.proofs.Conditions.{and-left, and-right}
+use Rattle.answers.proofs.Stores.{sets-front}
 use Rattle.format.specs.Forms.{Shape, shapeOf, width, timeLimit, otherForm}
 use Rattle.format.specs.declared.Form.{Form}
 use Rattle.format.specs.declared.Form.the-variants.{One, Two}
@@ -76,18 +77,29 @@ short s o = go (eqb (word 2 s 0) 0) refl
     go true e = lt-ltb (word 6 s 0) (timeLimit one) (omega (arith, parts, eqb-true (word 2 s 0) 0 e, word-lt s 2 4 o))
     go false e = le-ltb (word 6 s 0) (timeLimit one) (omega (arith, parts, eqb-false (word 2 s 0) 0 e))
 
+-- two bytes are zero in either order
+either : (a b : ℕ) → eqb (b * 256 + a) 0 ≡ eqb (a * 256 + b) 0
+either a b = go (eqb (a * 256 + b) 0) refl
+  where
+    go : (t : Bool) → eqb (a * 256 + b) 0 ≡ t → eqb (b * 256 + a) 0 ≡ t
+    go true e = eq-eqb (b * 256 + a) 0 (omega (arith, eqb-true (a * 256 + b) 0 e))
+    go false e = ne-eqb (b * 256 + a) 0 (λ q. eqb-false (a * 256 + b) 0 e (omega arith))
+
 -- a turn of a loop over the records
 pub times-turn : (left at sum pair : ℕ) (body : List ℕ) {next : ℕ} → 0 < left → next ≡ at + 10 → Octets body
-    → pair ≡ word 2 (getD body at 0 ∷ getD body (at + 1) 0 ∷ []) 0
+    → pair ≡ word 2 (getD body (at + 1) 0 ∷ getD body at 0 ∷ []) 0
     → (eqb (sum + pair) 0 && allTimes one (recordsIn two (left - 1) (drop next body))) ≡ (eqb sum 0 && allTimes one (recordsIn two left (drop at body)))
 unfolding recordsIn recordAt every listOf
 times-turn zero at sum pair body h en o e = absurd (omega arith)
 times-turn (suc k) at sum pair body {next} h en o e =
     let less : suc k - 1 ≡ k = omega arith in
     let rest : Bool = allTimes one (recordsIn two k (drop next body)) in
-    let number : pair ≡ word 2 (drop at body) 0 =
-    e ∙ word-two (getD body at 0 ∷ getD body (at + 1) 0 ∷ []) 0 ∙ sym (word-two (drop at body) 0 ∙ rw (getD-drop at body 0 0, getD-drop at body (0 + 1) 0, add-zero at)) in
-    rw (less, zero-sum sum pair, number, ← short (drop at body) (octets-drop at body o), drop-drop 10 at body, ← en)
+    let low : ℕ = getD body at 0 in
+    let high : ℕ = getD body (at + 1) 0 in
+    let number : word 2 (drop at body) 0 ≡ low * 256 + high = word-two (drop at body) 0 ∙ rw (getD-drop at body 0 0, getD-drop at body (0 + 1) 0, add-zero at) in
+    let same : eqb pair 0 ≡ eqb (word 2 (drop at body) 0) 0 =
+    ap (λ (k : ℕ). eqb k 0) (e ∙ word-two (high ∷ low ∷ []) 0) ∙ either low high ∙ ap (λ (k : ℕ). eqb k 0) (sym number) in
+    rw (less, zero-sum sum pair, same, ← short (drop at body) (octets-drop at body o), drop-drop 10 at body, ← en)
     (and-assoc (eqb sum 0) (isTime one (word 6 (drop at body) 0)) rest)
 
 pub times-done : (left sum n : ℕ) (s body : List ℕ) → left ≤ 0 → (eqb sum 0 && allTimes one (recordsIn two left s)) ≡ allTimes one (recordsIn two n body)
@@ -97,6 +109,10 @@ times-done zero sum n s body h e = sym (and-true (eqb sum 0)) ∙ e
 times-done (suc left) sum n s body h e = absurd (omega arith)
 
 -- ---- a record stored
+
+-- eight bytes by way of a buffer of eight
+pub by-buffer : (buffer run : List ℕ) {eight : List ℕ} → length buffer ≡ 8 → length run ≡ 8 → eight ≡ sets buffer 0 run → take 8 eight ≡ run
+by-buffer buffer run eb er e = ap (take 8) (e ∙ sets-front buffer run (omega arith)) ∙ take-at run (drop (length run) buffer) 8 er
 
 module _ (body old : List ℕ) (from at : ℕ) (o : Octets body) where
   abbrev Stored : Form → List ℕ → Type 0

@@ -1,5 +1,6 @@
 -- Records packed in blocks, in steps. Assumes nothing.
 use mathlib.Core.Path.{_≡_, refl, sym, ap, ap₂, _∙_}
+use mathlib.Core.Bool.{true}
 use mathlib.Core.List.{List, _++_, append-assoc}
 use Prim.Native.Nat.{ℕ, zero, suc, _+_, _-_, _*_, _/_, _≤_, _<_}
 use native.Mathlib.Nat.{zero-add, zero-mul, suc-mul, add-mul, suc-add, div-mul-le-self, div-add-mod', div-eq-of-lt, mod-lt, mul-add-div-right}
@@ -10,6 +11,7 @@ use Rattle.format.specs.Blocks.{blockBytes, bodyBytes}
 use Rattle.format.specs.Forms.{Shape, shapeOf, width}
 use Rattle.format.specs.declared.Form.{Form}
 use Rattle.format.specs.declared.Form.the-variants.{One, Two}
+use Rattle.trace.specs.Contents.{countOk}
 use Rattle.trace.specs.Layout.{arrivalsBlock}
 use Rattle.trace.specs.declared.Record.{Record}
 use Rattle.trace.proofs.Layouts.{length-arrivalsBlock}
@@ -19,6 +21,12 @@ use Rattle.forms.specs.Packing.{fullBlocks, full, left, lastBlock, packe
 pub most-some : (form : Form) → 0 < shapeOf form .most
 most-some One = omega arith
 most-some Two = omega arith
+
+-- and may have so many
+pub most-counts : (form : Form) → countOk (shapeOf form) (shapeOf form .most) ≡ true
+unfolding countOk
+most-counts One = refl
+most-counts Two = refl
 
 module _ (shape : Shape) where
   abbrev most : ℕ

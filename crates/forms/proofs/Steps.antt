@@ -46,7 +46,7 @@ use Rattle.forms.specs.declared.Step.the-variants as step
 use Rattle.forms.proofs.Held.{is-sound, held-fits}
 use Rattle.forms.proofs.Packed.{full-fits, length-left, length-full}
 use Rattle.forms.proofs.Blocks.{block-is, no-fault}
-use Rattle.forms.proofs.Gathered.{many-records}
+use Rattle.forms.proofs.Parting.{many-records}
 
 -- ---- how many records there are
 

@@ -21,7 +21,7 @@ fn all_short(n: usize, body: &[u8]) -> bool
     let mut left = n;
     let mut at = 0;
     while 0 < left {
-        sum += join16(body[at], body[at + 1]) as u32;
+        sum += join16(body[at + 1], body[at]) as u32;
         left -= 1;
         at += 10;
     }
@@ -51,6 +51,17 @@ fn put_eight(s: &[u8], from: usize, out: &mut [u8], at: usize)
     }
 }
 
+// The same by way of a buffer: all eight are read before one is stored, so that the compiler makes one load and one store of them wherever s and out lie.
+fn move_eight(s: &[u8], from: usize, out: &mut [u8], at: usize)
+    requires { ⌜ (from + 8 ≤ length (now s)) × (at + 8 ≤ length (now out)) ⌝ }
+    ensures { λ _. ⌜ now (out .exit) ≡ sets (now (out .entry)) at (take 8 (drop from (now (s .entry)))) ⌝ }
+{
+    let mut space = [0u8; 8];
+    let eight: &mut [u8] = &mut space;
+    put_eight(s, from, eight, 0);
+    put_eight(eight, 0, out, at);
+}
+
 // Stores a record of a body in out, in the other form.
 fn put_record(form: Form, body: &[u8], from: usize, out: &mut [u8], at: usize)
     requires { ⌜ (goodRecords (shapeOf form) 1 (drop from (now body)) ≡ true) × (from + width (shapeOf form) ≤ length (now body)) × (at + width (shapeOf (otherForm form)) ≤ length (now out)) ⌝ }
@@ -60,9 +71,9 @@ fn put_record(form: Form, body: &[u8], from: usize, out: &mut [u8], at: usize)
         Form::One => {
             out[at] = 0;
             out[at + 1] = 0;
-            put_eight(body, from, out, at + 2);
+            move_eight(body, from, out, at + 2);
         }
-        Form::Two => put_eight(body, from + 2, out, at),
+        Form::Two => move_eight(body, from + 2, out, at),
     }
 }
 

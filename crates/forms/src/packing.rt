@@ -5,93 +5,99 @@ use crate::moving::put_records;
 use answers::copy::put_bytes;
 use format::Form;
 use format::block::BLOCK;
-use trace::write::write_records;
+use format::block::BODY;
+use trace::write::seal;
 ghost use mathlib.Core.Path.{_≡_};
-ghost use mathlib.Core.Bool.{true};
 ghost use mathlib.Core.List.{_++_};
-ghost use Prim.Native.Nat.{_+_, _-_, _*_, _/_, _≤_};
-ghost use lib.ListN.{length, take, drop};
+ghost use Prim.Native.Nat.{_+_, _-_, _*_, _/_, _≤_, _<_};
+ghost use lib.ListN.{length};
 ghost use lib.Seq.{sets};
 ghost use Rattle.format.specs.Blocks.{blockBytes};
-ghost use Rattle.format.specs.Forms.{shapeOf, width};
-ghost use Rattle.trace.specs.Contents.{goodRecords};
+ghost use Rattle.format.specs.Forms.{shapeOf, width, otherForm};
 ghost use Rattle.trace.specs.Layout.{recordsBytes, arrivalsBlock};
 ghost use Rattle.trace.specs.Theorems.{recordsIn};
 ghost use Rattle.forms.specs.Packing.{fullBlocks};
-ghost use Rattle.forms.specs.Conversions.{toShape, heldIn, sound, goes, Stepped};
-ghost use Rattle.forms.specs.Steps.{Packable, Parted};
+ghost use Rattle.forms.specs.Conversions.{toShape, heldIn, goes, Stepped};
+ghost use Rattle.forms.specs.Steps.{Joinable, joined, Packable, Parted};
 
-// More than a block that is not full and the records of another take: 49 and 62 records of 10 bytes, or 61 and 50 of 8.
-const BOTH: usize = 1120;
-
-// Stores the block of n records of `all`, those from a place on, in out.
-fn put_block(to: Form, n: usize, all: &[u8], from: usize, ssrc: u32, out: &mut [u8], at: usize)
-    requires { ⌜ (1 ≤ n) × (n ≤ shapeOf to .most) × (goodRecords (shapeOf to) n (drop from (now all)) ≡ true) ⌝ }
-    requires { ⌜ (from + n * width (shapeOf to) ≤ length (now all)) × (at + blockBytes ≤ length (now out)) ⌝ }
-    ensures { λ _. ⌜ now (out .exit) ≡ sets (now (out .entry)) at (arrivalsBlock (shapeOf to) (recordsIn (shapeOf to) n (drop from (now (all .entry)))) ssrc) ⌝ }
+// Stores the first `held` records in the part and behind them the first n of a body in out from a place on, all in the other form.
+fn gather(form: Form, held: usize, part: &[u8], n: usize, body: &[u8], out: &mut [u8], at: usize)
+    requires { ⌜ Joinable form held (now part) n (now body) × (at + (held + n) * width (shapeOf (otherForm form)) ≤ length (now out)) ⌝ }
+    ensures { λ _. ⌜ now (out .exit) ≡ sets (now (out .entry)) at (recordsBytes (shapeOf (otherForm form)) (joined form held (now (part .entry)) n (now (body .entry)))) ⌝ }
 {
-    let end = from + n * to.width();
-    let stop = at + BLOCK;
-    write_records(to, &all[from..end], ssrc, &mut out[at..stop]);
+    let to = form.other();
+    let end = held * to.width();
+    put_bytes(&part[..end], out, at);
+    put_records(form, n, body, out, at + end);
 }
 
-// Writes the first n blocks of the records in `all`, each full, at the front of out.
-fn write_full(to: Form, n: usize, all: &[u8], ssrc: u32, out: &mut [u8])
-    requires { ⌜ goodRecords (shapeOf to) (n * shapeOf to .most) (now all) ≡ true ⌝ }
-    requires { ⌜ (n * shapeOf to .most * width (shapeOf to) ≤ length (now all)) × (n * blockBytes ≤ length (now out)) ⌝ }
-    ensures { λ _. ⌜ now (out .exit) ≡ sets (now (out .entry)) 0 (fullBlocks (shapeOf to) ssrc n (recordsIn (shapeOf to) (n * shapeOf to .most) (now (all .entry)))) ⌝ }
+// Stores the full block of the first `held` records in the part and of those of a body behind them in out at a place.
+fn put_block(
+    form: Form,
+    held: usize,
+    part: &[u8],
+    body: &[u8],
+    ssrc: u32,
+    out: &mut [u8],
+    at: usize,
+)
+    requires { ⌜ (held ≤ shapeOf (otherForm form) .most) × Joinable form held (now part) (shapeOf (otherForm form) .most - held) (now body) × (at + blockBytes ≤ length (now out)) ⌝ }
+    ensures { λ _. ⌜ now (out .exit) ≡ sets (now (out .entry)) at (arrivalsBlock (shapeOf (otherForm form)) (joined form held (now (part .entry)) (shapeOf (otherForm form) .most - held) (now (body .entry))) ssrc) ⌝ }
 {
+    let to = form.other();
     let most = to.most();
-    let size = most * to.width();
+    let stop = at + BLOCK;
+    gather(form, held, part, most - held, body, out, at + BODY);
+    seal(to, most, ssrc, &mut out[at..stop]);
+}
+
+// Writes the first n blocks of the first `held` records in the part and of those of a body behind them, each full, at the front of out.
+fn write_full(
+    form: Form,
+    held: usize,
+    part: &[u8],
+    n: usize,
+    body: &[u8],
+    ssrc: u32,
+    out: &mut [u8],
+)
+    requires { ⌜ (held ≤ shapeOf (otherForm form) .most) × Joinable form held (now part) (n * shapeOf (otherForm form) .most - held) (now body) × (n * blockBytes ≤ length (now out)) ⌝ }
+    ensures { λ _. ⌜ now (out .exit) ≡ sets (now (out .entry)) 0 (fullBlocks (shapeOf (otherForm form)) ssrc n (joined form held (now (part .entry)) (n * shapeOf (otherForm form) .most - held) (now (body .entry)))) ⌝ }
+{
+    let width = form.width();
+    let to = form.other();
+    let most = to.most();
+    let mut first = held;
     let mut left = n;
     let mut from = 0;
     let mut at = 0;
     while 0 < left {
-        put_block(to, most, all, from, ssrc, out, at);
-        from += size;
+        put_block(form, first, part, &body[from..], ssrc, out, at);
+        from += (most - first) * width;
+        first = 0;
         at += BLOCK;
         left -= 1;
     }
 }
 
-// Stores the records in the part and behind them the n of a body at the front of `all`.
-fn gather(c: Conversion, part: &[u8], n: usize, body: &[u8], all: &mut [u8])
-    requires { ⌜ (sound c (now part) ≡ true) × (goodRecords (shapeOf (c .form)) n (now body) ≡ true) × (n * width (shapeOf (c .form)) ≤ length (now body)) ⌝ }
-    requires { ⌜ (c .held + n) * width (toShape c) ≤ length (now all) ⌝ }
-    ensures { λ _. ⌜ now (all .exit) ≡ sets (now (all .entry)) 0 (recordsBytes (toShape c) (heldIn c (now (part .entry)) ++ recordsIn (shapeOf (c .form)) n (now (body .entry)))) ⌝ }
-{
-    let from = c.form;
-    let held = c.held;
-    let to = from.other();
-    let at = held * to.width();
-    put_bytes(&part[..at], all, 0);
-    put_records(from, n, body, all, at);
-}
-
-// Stores the bytes of `all` from a place to another at the front of the part.
-fn keep(all: &[u8], from: usize, end: usize, part: &mut [u8])
-    requires { ⌜ (from ≤ end) × (end ≤ length (now all)) ⌝ }
-    ensures { λ _. ⌜ now (part .exit) ≡ sets (now (part .entry)) 0 (take (end - from) (drop from (now (all .entry)))) ⌝ }
-{
-    put_bytes(&all[from..end], part, 0);
-}
-
-// Packs the n records of a body behind those in the part: the full blocks at the front of out, and the others in the part. `all` is room for the records.
-fn pack(c: Conversion, part: &mut [u8], n: usize, body: &[u8], all: &mut [u8], out: &mut [u8])
-    requires { ⌜ Packable c (now part) n (now body) ⌝ }
-    requires { ⌜ ((c .held + n) * width (toShape c) ≤ length (now all)) × ((c .held + n) / toShape c .most * blockBytes ≤ length (now out)) ⌝ }
+// Packs the n records of a body behind those in the part: the full blocks at the front of out, and the others in the part.
+fn pack(c: Conversion, part: &mut [u8], n: usize, body: &[u8], out: &mut [u8])
+    requires { ⌜ Packable c (now part) n (now body) × ((c .held + n) / toShape c .most * blockBytes ≤ length (now out)) ⌝ }
     ensures { λ _. ⌜ Parted c (heldIn c (now (part .entry)) ++ recordsIn (shapeOf (c .form)) n (now (body .entry))) (now (part .entry)) (now (out .entry)) (now (part .exit)) (now (out .exit)) ⌝ }
 {
-    let from = c.form;
-    let total = c.held + n;
-    let ssrc = c.ssrc;
-    let to = from.other();
+    let form = c.form;
+    let held = c.held;
+    let to = form.other();
     let most = to.most();
-    let width = to.width();
-    let full = total / most;
-    gather(c, part, n, body, all);
-    write_full(to, full, all, ssrc, out);
-    keep(all, full * most * width, total * width, part);
+    let full = (held + n) / most;
+    if full == 0 {
+        put_records(form, n, body, part, held * to.width());
+        return;
+    }
+    let taken = full * most - held;
+    let from = taken * form.width();
+    write_full(form, held, part, full, body, c.ssrc, out);
+    put_records(form, n - taken, &body[from..], part, 0);
 }
 
 // Packs the n records of a body behind those in the part, where out has room for the full blocks.
@@ -109,8 +115,7 @@ pub fn arrivals(c: Conversion, part: &mut [u8], n: usize, body: &[u8], out: &mut
     if out.len() < bytes {
         return Step::Room(bytes, c);
     }
-    let mut space = [0u8; BOTH];
-    pack(c, part, n, body, &mut space, out);
+    pack(c, part, n, body, out);
     let next = Conversion {
         form,
         ssrc,

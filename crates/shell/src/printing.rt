@@ -6,10 +6,12 @@ use crate::retries::tries_after;
 use answers::Written;
 use libc::STDOUT_FILENO;
 use table::write_refused;
+ghost use mathlib.Core.Path.{_≡_};
 ghost use mathlib.Core.Bool.{false};
-ghost use Prim.Native.Nat.{_≤_};
-ghost use lib.ListN.{length};
-ghost use Rattle.shell.specs.Kept.{Empty, Flushed, Kept, Roomy};
+ghost use Prim.Native.Nat.{_-_, _≤_};
+ghost use lib.ListN.{length, take, drop};
+ghost use lib.Seq.{sets};
+ghost use Rattle.shell.specs.Kept.{Empty, Flushed, Kept, Moved, Roomy};
 
 // More than `refused N block I` takes: a number of 3 digits at most, a block's of 20, the words between them, CR and LF.
 const REFUSED: usize = 64;
@@ -66,6 +68,19 @@ fn empty(fd: i32, failed: bool) -> Output
     }
 }
 
+// Moves the bytes from a place to another to the front of the buffer.
+fn move_front(buffer: &mut [u8], from: usize, to: usize)
+    requires { ⌜ (from ≤ to) × (to ≤ length (now buffer)) ⌝ }
+    ensures { λ _. ⌜ now (buffer .exit) ≡ sets (now (buffer .entry)) 0 (take (to - from) (drop from (now (buffer .entry)))) ⌝ }
+{
+    let n = to - from;
+    let mut i = 0;
+    while i < n {
+        buffer[i] = buffer[from + i];
+        i += 1;
+    }
+}
+
 impl Output {
     // An output for which nothing is kept yet.
     pub fn new(fd: i32) -> Output
@@ -91,6 +106,27 @@ impl Output {
             tell(program, b"writing standard output");
         }
         empty(fd, true)
+    }
+
+    // Prints the first bytes of what is kept, at most so many, and moves those behind them to the front of the buffer.
+    pub fn with_printed(self, bytes: usize, program: &[u8], buffer: &mut [u8]) -> Output
+        ensures { λ r. ⌜ Moved bytes self (now (buffer .entry)) r (now (buffer .exit)) ⌝ }
+    {
+        let fd = self.fd;
+        let used = least(self.used, buffer.len());
+        let end = least(bytes, used);
+        let first = Output {
+            fd,
+            used: end,
+            failed: self.failed,
+        };
+        let printed = first.flushed(program, buffer);
+        move_front(buffer, end, used);
+        Output {
+            fd,
+            used: used - end,
+            failed: printed.failed,
+        }
     }
 
     // Prints what is kept where less room than this is left behind it.

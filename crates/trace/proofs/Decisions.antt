@@ -15,7 +15,7 @@ use lib.ListN.{length, take, drop, getD, length-drop}
 use lib.Seq.{take-all}
 use Rattle.answers.specs.declared.Refusal.the-variants.{Incomplete, Checksum, Contents, Limits}
 use Rattle.answers.proofs.Conditions.{and-left, and-right, all-true, all-false}
-use Rattle.trace.specs.Writing.{labelFault, listsConditions, arrivalsOk, arrivalsFault, bodyConditions, bodyOk, bodyFault}
+use Rattle.trace.specs.Writing.{labelFault, listsConditions, arrivalsOk, arrivalsFault, bodyConditions, bodyOk, bodyFault, countFault}
 use Rattle.trace.specs.Checksum.{words, onesSum}
 use Rattle.format.specs.Forms.{Shape, shapeOf, width, kindOf}
 use Rattle.format.specs.declared.Form.{Form}
@@ -58,6 +58,14 @@ module _ (n : ℕ) (body : List ℕ) where
 pub count-right : (shape : Shape) (n : ℕ) → countOk shape n ≡ true → (1 ≤ n) × (n ≤ shape .most)
 unfolding countOk
 count-right shape n e = (leb-true 1 n (and-left (leb 1 n) _ e), leb-true n (shape .most) (and-right (leb 1 n) _ e))
+
+pub count-refused : (shape : Shape) (n : ℕ) → countOk shape n ≡ false → countFault shape n ≡ some Limits
+unfolding countFault
+count-refused shape n e = rw e
+
+pub count-taken : (shape : Shape) (n : ℕ) → countOk shape n ≡ true → countFault shape n ≡ none
+unfolding countFault
+count-taken shape n e = rw e
 
 module _ (shape : Shape) (n : ℕ) (body : List ℕ) where
   pub records-false : (i : ℕ) → getD (arrivalsConditions shape n body) i true ≡ false → false ≡ arrivalsBody shape n body

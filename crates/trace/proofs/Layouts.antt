@@ -5,8 +5,8 @@ use Prim.Native.Nat.{ℕ, suc, _+_, _-_, _*_, _≤_, _<_}
 use native.Mathlib.Nat.{zero-add, suc-mul, zero-mul}
 use native.Mathlib.Numerals.{add-one}
 use native.Mathlib.Omega.{arith}
-use lib.ListN.{length, take, drop, getD, set, replicate, length-append, length-replicate, drop-of-length-le}
-use lib.Seq.{sets, sets-eq, drop-cons, take-at, length-take-le}
+use lib.ListN.{length, take, drop, getD, set, replicate, length-append, length-replicate, length-drop, drop-of-length-le, take-append-drop}
+use lib.Seq.{sets, sets-eq, length-sets, drop-cons, take-at, drop-at, take-add, length-take-le}
 use Rattle.numbers.specs.BigEndian.{bytes}
 use Rattle.numbers.proofs.BigEndian.{length-bytes}
 use Rattle.answers.proofs.Stores.{sets-step, sets-front}
@@ -146,3 +146,27 @@ block-stored old contents kind count ssrc {out₁} {out₂} {out₃} {at} few ro
     ∙ ap (λ (s : List ℕ). sets out₂ at (replicate (510 - at) 0 ++ bytes 2 (65535 - onesSum (words s)))) whole
     ∙ ap (λ (k : ℕ). sets out₂ at (replicate k 0 ++ check)) less
     ∙ sets-step old 0 (head ++ contents) (zeros ++ check) parts both (sym long ∙ sym (zero-add (length (head ++ contents))))
+
+-- a run that stands there already
+pub sets-same : (l : List ℕ) (i n : ℕ) → i + n ≤ length l → sets l i (take n (drop i l)) ≡ l
+sets-same l i n h =
+    let run : List ℕ = take n (drop i l) in
+    let many : length run ≡ n = length-take-le n (drop i l) (rw length-drop (omega arith)) in
+    sets-eq run l i (omega (arith, many)) ∙ rw (many, ← take-add i n l) (take-append-drop (i + n) l)
+
+-- header and end make a block of contents that stand in the output already
+pub block-sealed : (old : List ℕ) (size kind count ssrc : ℕ) {out₁ out₂ : List ℕ} {at k n : ℕ} → size ≤ 502 → 512 ≤ length old
+    → k ≡ kind → n ≡ count → out₁ ≡ sets old 0 (header k n ssrc) → at ≡ 8 + size
+    → out₂ ≡ sets out₁ at (replicate (510 - at) 0 ++ bytes 2 (65535 - onesSum (words (take at out₁ ++ replicate (510 - at) 0))))
+    → out₂ ≡ sets old 0 (checked (header kind count ssrc ++ filled (take size (drop 8 old))))
+block-sealed old size kind count ssrc {out₁} {out₂} {at} {k} {n} few room ek en eh ea e₂ =
+    let head : List ℕ = header k n ssrc in
+    let contents : List ℕ = take size (drop 8 old) in
+    let long : length contents ≡ size = length-take-le size (drop 8 old) (rw length-drop (omega arith)) in
+    let eight : length head ≡ 8 = length-header k n ssrc in
+    let same : length out₁ ≡ length old = ap length eh ∙ length-sets old 0 head in
+    let behind : drop 8 out₁ ≡ drop 8 old =
+    ap (drop 8) (eh ∙ sets-front old head (omega (arith, eight))) ∙ drop-at head (drop (length head) old) 8 eight ∙ ap (λ (j : ℕ). drop j old) eight in
+    let stands : out₁ ≡ sets out₁ 8 contents = sym (ap (λ (s : List ℕ). sets out₁ 8 (take size s)) (sym behind) ∙ sets-same out₁ 8 size (omega (arith, same))) in
+    let end : at ≡ 8 + length contents = omega (arith, long, ea) in
+    block-stored old contents kind count ssrc (omega (arith, long)) room ek en eh stands end e₂

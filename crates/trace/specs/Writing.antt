@@ -48,3 +48,7 @@ bodyOk shape s = all (bodyConditions shape s)
 -- bytes outside the trace rules: 10
 unfoldable pub bodyFault : Shape → List ℕ → Option Refusal
 bodyFault shape s = cond (bodyOk shape s) none (some Limits)
+
+-- a number of records outside the trace rules: 10
+unfoldable pub countFault : Shape → ℕ → Option Refusal
+countFault shape n = cond (countOk shape n) none (some Limits)

@@ -24,7 +24,7 @@ use numbers::big_endian::write32;
 ghost use mathlib.Core.Path.{_≡_};
 ghost use mathlib.Core.List.{_++_};
 ghost use Prim.Native.Nat.{_+_, _-_, _*_, _≤_};
-ghost use lib.ListN.{length, take, replicate};
+ghost use lib.ListN.{length, take, drop, replicate};
 ghost use lib.Seq.{sets};
 ghost use Rattle.numbers.specs.BigEndian.{bytes};
 ghost use Rattle.answers.specs.Writers.{Wrote};
@@ -32,7 +32,7 @@ ghost use Rattle.format.specs.Blocks.{blockBytes, bodyAt, bodyBytes, checkAt};
 ghost use Rattle.format.specs.Forms.{shapeOf, width};
 ghost use Rattle.trace.specs.Checksum.{words, onesSum};
 ghost use Rattle.trace.specs.Layout.{recordBytes, recordsBytes, header, labelBlock, arrivalsBlock, recordsBlock};
-ghost use Rattle.trace.specs.Writing.{labelFault, recordsOf, arrivalsOk, arrivalsFault, bodyOk, bodyFault};
+ghost use Rattle.trace.specs.Writing.{labelFault, recordsOf, arrivalsOk, arrivalsFault, bodyOk, bodyFault, countFault};
 
 // Stores the header at the front of out.
 fn put_header(kind: u16, count: usize, ssrc: u32, out: &mut [u8])
@@ -197,5 +197,21 @@ pub fn write_records(form: Form, records: &[u8], ssrc: u32, out: &mut [u8]) -> W
     put_header(form.arrivals(), records.len() / form.width(), ssrc, out);
     put_bytes(records, out, BODY);
     put_end(out, BODY + records.len());
+    Written::Length(BLOCK)
+}
+
+// Makes an arrivals block of the n records that stand in the body of out already: header, zeros behind them, and check. Refused are none or more than the form's most
+// (10), and an output under 512 bytes (12). The records are not looked at.
+pub fn seal(form: Form, n: usize, ssrc: u32, out: &mut [u8]) -> Written
+    ensures { λ r. ⌜ Wrote (countFault (shapeOf form) n) (recordsBlock (shapeOf form) (take (n * width (shapeOf form)) (drop bodyAt (now (out .entry)))) ssrc) (now (out .entry)) r (now (out .exit)) ⌝ }
+{
+    if !is_count(form, n) {
+        return Written::Refused(Refusal::Limits);
+    }
+    if out.len() < BLOCK {
+        return Written::Room(BLOCK);
+    }
+    put_header(form.arrivals(), n, ssrc, out);
+    put_end(out, BODY + n * form.width());
     Written::Length(BLOCK)
 }

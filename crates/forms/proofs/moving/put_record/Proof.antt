@@ -25,11 +25,11 @@ slice-write-out-2 c =
     let wide = ap (λ (f : Form). width (shapeOf (otherForm f))) (c .enum-told .given .1) in
     simp length-set (omega (arith, wide))
 
-add-put-eight : tie.Need-add-put-eight
-add-put-eight c = search needs
+add-move-eight : tie.Need-add-move-eight
+add-move-eight c = search needs
 
-put-eight-requires : tie.Need-put-eight-requires
-put-eight-requires c κs =
+move-eight-requires : tie.Need-move-eight-requires
+move-eight-requires c κs =
     let narrow = ap (λ (f : Form). width (shapeOf f)) (c .before .enum-told .given .1) in
     let wide = ap (λ (f : Form). width (shapeOf (otherForm f))) (c .before .enum-told .given .1) in
     (omega (arith, narrow), simp length-set (omega (arith, wide)))
@@ -37,24 +37,24 @@ put-eight-requires c κs =
 enum-told-2 : tie.Need-enum-told-2
 enum-told-2 c = search needs
 
-add-put-eight-2 : tie.Need-add-put-eight-2
-add-put-eight-2 c = search needs
+add-move-eight-2 : tie.Need-add-move-eight-2
+add-move-eight-2 c = search needs
 
-put-eight-requires-2 : tie.Need-put-eight-requires-2
-put-eight-requires-2 c κs =
+move-eight-requires-2 : tie.Need-move-eight-requires-2
+move-eight-requires-2 c κs =
     let wide = ap (λ (f : Form). width (shapeOf f)) (c .before .enum-told2 .given .1) in
     let narrow = ap (λ (f : Form). width (shapeOf (otherForm f))) (c .before .enum-told2 .given .1) in
     (omega (arith, wide), omega (arith, narrow))
 
 same-length : tie.Need-same-length
-same-length c = c .before .before .put-eight .kept .1 .1 .0 ∙ simp length-set
+same-length c = c .before .before .move-eight .kept .1 .1 .0 ∙ simp length-set
 
 returns : tie.Need-returns
 returns c =
     let s = c .before .before .before .before .before .before .before .before in
     let a = s .args in
     let octets : Octets (now (a .body)) = λ i. omega (arith, c .before .before .before .before .before .before .before .shared-slice-known .given i) in
-    two-stored (now (a .body)) (now (a .out)) (a .from) (a .at) octets (a .form) (c .before .before .before .before .enum-told .given .1) (s .pre .0) (s .pre .1) (c .before .before .put-eight .ensures)
+    two-stored (now (a .body)) (now (a .out)) (a .from) (a .at) octets (a .form) (c .before .before .before .before .enum-told .given .1) (s .pre .0) (s .pre .1) (c .before .before .move-eight .ensures)
 
 same-length-2 : tie.Need-same-length-2
 same-length-2 c = search needs
@@ -64,7 +64,7 @@ returns-2 c =
     let s = c .before .before .before .before .before .before .before .before in
     let a = s .args in
     let octets : Octets (now (a .body)) = λ i. omega (arith, c .before .before .before .before .before .before .before .shared-slice-known .given i) in
-    one-stored (now (a .body)) (now (a .out)) (a .from) (a .at) octets (a .form) (c .before .before .before .before .enum-told2 .given .1) (s .pre .0) (s .pre .1) (c .before .before .put-eight2 .ensures)
+    one-stored (now (a .body)) (now (a .out)) (a .from) (a .at) octets (a .form) (c .before .before .before .before .enum-told2 .given .1) (s .pre .0) (s .pre .1) (c .before .before .move-eight2 .ensures)
 
 pub put-record-spec : {M : Type 1} → statement M
 put-record-spec =
@@ -74,11 +74,11 @@ put-record-spec =
     slice-write-out
     add-out
     slice-write-out-2
-    add-put-eight
-    put-eight-requires
+    add-move-eight
+    move-eight-requires
     enum-told-2
-    add-put-eight-2
-    put-eight-requires-2
+    add-move-eight-2
+    move-eight-requires-2
     same-length
     returns
     same-length-2

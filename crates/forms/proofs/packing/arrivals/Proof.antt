@@ -26,21 +26,21 @@ returns c = let s = c .before .before .before .before .before .before .before in
 
 pack-requires : tie.Need-pack-requires
 pack-requires c κs =
-    let s = c .before .before .before .before .before .before .before .before .before .before in
-    let most = c .before .before .before .before .most .ensures ∙ ap (λ (f : Form). shapeOf f .most) (c .before .before .before .before .before .other .ensures) in
+    let s = c .before .before .before .before .before .before .before .before .before in
+    let most = c .before .before .before .most .ensures ∙ ap (λ (f : Form). shapeOf f .most) (c .before .before .before .before .other .ensures) in
     let room = ap (λ (k : ℕ). (s .args .c .held + s .args .n) / k * 512) most in
-    (s .pre, (omega (arith, few-records (s .pre) .1), omega (arith, room, c .before .before .before .if1 .left)))
+    (s .pre, omega (arith, room, c .before .before .if1 .left))
 
-mul-t15 : tie.Need-mul-t15
-mul-t15 c = let a = c .before .before .before .before .before .before .before .before .before .before .before .before .before .before .before .before .args in omega (arith, few-records (c .before .before .before .before .before .before .before .before .before .before .before .before .before .before .before .before .pre) .0, div-mul-le-self (a .c .held + a .n) (c .before .before .before .before .before .before .before .before .before .before .most .result))
+mul-t14 : tie.Need-mul-t14
+mul-t14 c = let a = c .before .before .before .before .before .before .before .before .before .before .before .before .before .before .args in omega (arith, few-records (c .before .before .before .before .before .before .before .before .before .before .before .before .before .before .pre) .0, div-mul-le-self (a .c .held + a .n) (c .before .before .before .before .before .before .before .before .most .result))
 
-sub-t24 : tie.Need-sub-t24
-sub-t24 c = let a = c .before .before .before .before .before .before .before .before .before .before .before .before .before .before .before .before .args in omega (arith, div-mul-le-self (a .c .held + a .n) (c .before .before .before .before .before .before .before .before .before .before .most .result))
+sub-t21 : tie.Need-sub-t21
+sub-t21 c = let a = c .before .before .before .before .before .before .before .before .before .before .before .before .before .before .args in omega (arith, div-mul-le-self (a .c .held + a .n) (c .before .before .before .before .before .before .before .before .most .result))
 
 returns-2 : tie.Need-returns-2
 returns-2 c =
-    let s = c .before .before .before .before .before .before .before .before .before .before .before .before .before .before .before .before in
-    step-fits (s .pre) (now (s .args .out)) (c .before .before .before .before .before .before .before .before .before .before .before .other .ensures) (c .before .before .before .before .before .before .before .before .before .before .most .ensures) (c .before .before .before .before .before .before .before .before .before .if1 .left) (c .before .before .before .before .before .pack .ensures)
+    let s = c .before .before .before .before .before .before .before .before .before .before .before .before .before .before in
+    step-fits (s .pre) (now (s .args .out)) (c .before .before .before .before .before .before .before .before .before .other .ensures) (c .before .before .before .before .before .before .before .before .most .ensures) (c .before .before .before .before .before .before .before .if1 .left) (c .before .before .before .before .pack .ensures)
 
 pub arrivals-spec : {M : Type 1} → statement M
 arrivals-spec =
@@ -52,10 +52,9 @@ arrivals-spec =
     div-full
     mul-bytes
     returns
-    (λ c. search needs)
     pack-requires
-    mul-t15
-    sub-t24
+    mul-t14
+    sub-t21
     (λ c. search needs)
     (λ c. search needs)
     returns-2)
