@@ -19,14 +19,25 @@ const WALL: medians::Clock = medians::Clock(1);
 const SSRC: u32 = 3_735_928_559;
 const LABEL: &[u8] = b"probe 2, left";
 
-/// Writes a trace of so many MB, block by block.
-fn write_trace(path: &Path, form: Form, link: Link, megabytes: usize) -> io::Result<()> {
+/// Our program, the other one, the links of its traces, and the sources in them.
+const PROGRAMS: [(&str, &str, &[(Link, &str)], usize); 4] = [
+    ("ecntable", "ecnrust", &LINKS, 1),
+    ("ecnforms", "formsrust", LOSSY, 1),
+    ("ecnstreams", "streamsrust", LOSSY, 3),
+    ("ecnstreams", "streamsrust", LOSSY, 16),
+];
+
+const LOSSY: &[(Link, &str)] = &[LINKS[1]];
+
+/// Writes a trace of so many sources and MB, block by block, the sources in turn.
+fn write_trace(path: &Path, form: Form, link: Link, sources: usize, megabytes: usize) -> io::Result<()> {
     let mut out = BufWriter::new(File::create(path)?);
-    let mut list = Arrivals::new(link, 1);
+    let mut lists: Vec<Arrivals> = (1..=sources).map(|seed| Arrivals::new(link, seed as u64)).collect();
     out.write_all(&blocks::label(form, LABEL, SSRC))?;
     for i in 1..megabytes * 1_000_000 / blocks::BLOCK {
-        let records = records::records(form, (20 * form.most * i) as u64, &mut list);
-        out.write_all(&blocks::arrivals(form, &records, SSRC))?;
+        let source = 7 * i % sources;
+        let records = records::records(form, (20 * form.most * i) as u64, &mut lists[source]);
+        out.write_all(&blocks::arrivals(form, &records, SSRC - source as u32))?;
     }
     out.flush()
 }
@@ -62,14 +73,15 @@ fn main() -> io::Result<()> {
     println!("Programs on traces of {megabytes} MB, in ms; {machine}, median of {rounds} interleaved rounds.\n");
     println!("| program | trace | `cat` | ours | Rust program | Rust program / ours |\n|---|---|---|---|---|---|");
     for (form, of_form) in [(ONE, "form 1"), (TWO, "form 2")] {
-        for (program, other, links) in [("ecntable", "ecnrust", &LINKS[..]), ("ecnforms", "formsrust", &LINKS[1..2])] {
+        for (program, other, links, sources) in PROGRAMS {
             let programs = [PathBuf::from("cat"), ours.join(program), folder.join(other)];
             for &(link, name) in links {
                 let trace = folder.join("trace");
-                write_trace(&trace, form, link, megabytes)?;
+                write_trace(&trace, form, link, sources, megabytes)?;
                 let times = measure(&programs, &trace, &folder, rounds);
                 let [cat, ours, other] = [0, 1, 2].map(|i| times[i] * 1e3);
-                println!("| {program} | {of_form}, {name} | {cat:.0} | {ours:.0} | {other:.0} | {:.2} |", other / ours);
+                let streams = if sources == 1 { String::new() } else { format!(", {sources} sources") };
+                println!("| {program} | {of_form}, {name}{streams} | {cat:.0} | {ours:.0} | {other:.0} | {:.2} |", other / ours);
             }
         }
     }

@@ -1,4 +1,5 @@
 //! The blocks of a trace read in straightforward Rust, for the other programs.
+#![allow(dead_code)] // No program needs all of it.
 use crate::blocks::{ones_sum, BLOCK, BODY, CHECK};
 use crate::form::{Form, ONE, TWO};
 use std::io::{self, Read};

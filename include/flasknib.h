@@ -1,9 +1,10 @@
-/* Flasknib: ECN counting, reports, the compound RTCP reader, the circuit breaker, trace blocks and table rows.
+/* Flasknib: ECN counting of one source and of several, reports, the compound RTCP reader, the circuit breaker, trace blocks and table rows.
  *
  * Every function returns on every input. Records are lent as arrays of 64-bit words in the layouts below; a signed number is stored as its
  * two's complement. A refusal is its number below, and a refused call changes no word and no byte of what it
- * was lent, with one exception: refusal 7 of flasknib_arrive changes the record's last word. A record in another number of words than its
- * layout has is refused with 9, as malformed. A function that writes bytes says with refusal 12 how many it needs.
+ * was lent, with one exception: refusal 7 of flasknib_arrive and flasknib_table_arrive changes the remembered number of the record. A record in
+ * another number of words than its layout has is refused with 9, as malformed, and so is a table with 16. A function that writes bytes says
+ * with refusal 12 how many it needs.
  */
 #ifndef FLASKNIB_H
 #define FLASKNIB_H
@@ -28,19 +29,22 @@ enum {
     FLASKNIB_ROOM = 12,         /* the output is too small; where bytes are written, the answer has their number, the size */
     FLASKNIB_CHECKSUM = 13,     /* a block's checksum */
     FLASKNIB_CONTENTS = 14,     /* a block's contents */
+    FLASKNIB_PLACES = 15,       /* a new SSRC, and every place of the table is held */
+    FLASKNIB_RULES = 16,        /* a table against its rules */
     FLASKNIB_FORM_TWO = 17      /* a time needs form 2: printed by the program ecnforms, answered by no function here */
 };
 
 /* ---- what a writer answers -------------------------------------------------------------------------------------------------------
- * The six functions flasknib_write_... give the length, the number of bytes that they wrote, or minus a refusal's number. Refusal 12 comes with
- * its size, the number of bytes that the call would write: the answer is minus (256 * size + 12). With a room of exactly that many bytes the
- * same call succeeds, with one byte fewer it does not. The size can be asked with a room of 0; `out` must not be null, even then. The other
- * refusals have no size. The functions that fill words answer a plain 12: how many words they need is fixed, and stands below.
+ * The six functions flasknib_write_... and flasknib_table_write_compound give the length, the number of bytes that they wrote, or minus a
+ * refusal's number. Refusal 12 comes with its size, the number of bytes that the call would write: the answer is minus (256 * size + 12). With a
+ * room of exactly that many bytes the same call succeeds, with one byte fewer it does not. The size can be asked with a room of 0; `out` must not
+ * be null, even then. The other refusals have no size. The functions that fill words answer a plain 12: how many words they need is fixed, and
+ * stands below.
  *
  * The two macros take a writer's answer, an int64_t, apart. They evaluate it twice: give them a variable, not a call.
  */
 
-/* The refusal, 1 to 14, or 0 where there is a length: an int. */
+/* The refusal, 1 to 16, or 0 where there is a length: an int. */
 #define FLASKNIB_WRITE_REFUSAL(answer) ((answer) < 0 ? (int)-((answer) % 256) : 0)
 
 /* The size that comes with refusal 12, or 0 where there is another refusal or a length: a size_t. */
@@ -59,7 +63,7 @@ enum {
  */
 #define FLASKNIB_SOURCE_WORDS 10
 
-/* What flasknib_arrive answers for a restart. It is no refusal: the arrival is counted. */
+/* What flasknib_arrive and flasknib_table_arrive answer for a restart. It is no refusal: the arrival is counted. */
 enum { FLASKNIB_RESTARTED = 128 };
 
 /* Counts one arrival. Gives 0 or FLASKNIB_RESTARTED and the next record, or refusal 9, 10, 8 or 7. Refusal 7 stores the next record too: only
@@ -71,7 +75,7 @@ uint8_t flasknib_arrive(uint64_t *source, size_t words, uint16_t wire, uint8_t m
  * 9 or 10. The first packet of the pair that makes a restart is a jump, the second is counted as a restart alone. */
 int64_t flasknib_count_block(uint64_t *source, size_t words, const uint8_t *records, size_t length, size_t width);
 
-/* The jumps and the restarts in an answer of flasknib_count_block that is not negative: a uint64_t each. */
+/* The jumps and the restarts in an answer of flasknib_count_block or flasknib_table_count_block that is not negative: a uint64_t each. */
 #define FLASKNIB_BLOCK_JUMPS(answer) ((uint64_t)(answer) % 256)
 #define FLASKNIB_BLOCK_RESTARTS(answer) ((uint64_t)(answer) / 256)
 
@@ -82,6 +86,35 @@ int64_t flasknib_write_feedback(const uint64_t *source, size_t words, uint32_t s
 /* Writes the XR ECN summary block with one entry, 24 bytes. Gives its length, or minus refusal 9, or 12 with its size. */
 #define FLASKNIB_SUMMARY_BYTES 24
 int64_t flasknib_write_summary(const uint64_t *source, size_t words, uint32_t media, uint8_t *out, size_t room);
+
+/* ---- several RTP sources in one table --------------------------------------------------------------------------------------------
+ * 0 to 16 places of 11 words each: the SSRC, then the 10 words of its source's record. A place is held where at least one arrival is counted in it.
+ * The held places come first, in rising order of SSRC with no SSRC twice; the others are unused, and all zero. So a table of n places without a
+ * source is 11 * n words 0. An arrival of a new SSRC takes its place in that order, and the places from there on move up by one.
+ *
+ * Refusal 16 comes first of all: a number of words that is no multiple of 11, over 16 places, an SSRC word of 2^32 or more in any place, or a
+ * table against the rules above. Then comes 9: the record of a held place is malformed, a remembered number above 65,536 among it. `words` is 0
+ * for a table without places; `table` must not be null, even then.
+ */
+#define FLASKNIB_PLACE_WORDS 11
+#define FLASKNIB_TABLE_MOST_PLACES 16
+
+/* Counts one arrival of the source `ssrc`, as flasknib_arrive does. Gives 0 or FLASKNIB_RESTARTED and the next table, or refusal 16, 9, 10, 15, 8
+ * or 7. Refusal 7 stores the next table too: only the remembered number of that source's place differs. */
+uint8_t flasknib_table_arrive(uint64_t *table, size_t words, uint32_t ssrc, uint16_t wire, uint8_t mark);
+
+/* Counts the records of one arrivals block of the source `ssrc`, as flasknib_count_block does. Gives 256 * restarts + jumps and the next table, or
+ * minus refusal 16, 9, 10 or 15. */
+int64_t flasknib_table_count_block(uint64_t *table, size_t words, uint32_t ssrc, const uint8_t *records, size_t length, size_t width);
+
+/* Writes a compound from the SSRC `sender`: an RR without report blocks (RFC 3550) and one ECN feedback packet for each held place, in order;
+ * 8 bytes and 32 for each. Gives its length, or minus refusal 16 or 9, or 12 with its size. */
+#define FLASKNIB_TABLE_COMPOUND_MOST_BYTES 520
+int64_t flasknib_table_write_compound(const uint64_t *table, size_t words, uint32_t sender, uint8_t *out, size_t room);
+
+/* The words of one held place, counted from 0. Gives 0 and 11 words at the front of `found`, or refusal 16, 9, 10 for a place that is not held, or
+ * 12 where `found` has fewer words. */
+uint8_t flasknib_table_place(const uint64_t *table, size_t words, size_t place, uint64_t *found, size_t found_words);
 
 /* ---- compound RTCP ---------------------------------------------------------------------------------------------------------------
  * 24 words, the first of each kind of report about `media`, and a last one:

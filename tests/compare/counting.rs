@@ -36,7 +36,7 @@ pub fn record(wire: u16, mark: u8) -> [u8; 4] {
     [high, low, mark, 0]
 }
 
-fn mark(draw: &Draw) -> u8 {
+pub fn mark(draw: &Draw) -> u8 {
     if draw.one_in(30) {
         draw.edge(4, 255) as u8
     } else {
@@ -45,7 +45,7 @@ fn mark(draw: &Draw) -> u8 {
 }
 
 /// A wire number near the highest, near a limit, near the remembered one, or any.
-fn wire(draw: &Draw, words: &[u64]) -> u16 {
+pub fn wire(draw: &Draw, words: &[u64]) -> u16 {
     let highest = words.get(1).map_or(0, |&highest| highest as u16);
     let remembered = words.get(9).map_or(0, |&word| word as u16).wrapping_sub(1);
     let near = draw.below(5) as u16;

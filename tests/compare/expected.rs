@@ -5,6 +5,7 @@ use model::breaker::{Answer, Breaker, Report};
 use model::compound::Profile;
 use model::refusal::{put, require, Refusal, Written, JUMP, LIMITS, ROOM};
 use model::source::{count_block, Counted, Source};
+use model::streams::Table;
 use model::trace::{arrivals_block, label_block, Contents, Form, Record};
 use model::{compound, report, table, trace};
 
@@ -53,21 +54,25 @@ fn step(words: &mut [u64], call: impl Fn(&mut Breaker) -> Result<Answer, Refusal
     }))
 }
 
+/// The answer to an arrival.
+fn arrived(answer: Result<Counted, Refusal>) -> u8 {
+    match answer {
+        Ok(Counted::Accepted) => 0,
+        Ok(Counted::Restarted) => RESTARTED,
+        Err(refusal) => refusal.number(),
+    }
+}
+
 impl Calls for Expected {
     /// A jump is the one refusal that changes the record.
     fn arrive(&self, words: &mut [u64], wire: u16, mark: u8) -> u8 {
-        let answer = Source::from_words(words).and_then(|mut source| {
+        arrived(Source::from_words(words).and_then(|mut source| {
             let answer = source.arrive(wire, mark);
             if answer.is_ok() || answer == Err(JUMP) {
                 words.copy_from_slice(&source.to_words());
             }
             answer
-        });
-        match answer {
-            Ok(Counted::Accepted) => 0,
-            Ok(Counted::Restarted) => RESTARTED,
-            Err(refusal) => refusal.number(),
-        }
+        }))
     }
 
     fn count_block(&self, words: &mut [u64], records: &[u8], width: usize) -> i64 {
@@ -78,6 +83,36 @@ impl Calls for Expected {
                 RESTART * restarts as i64 + jumps as i64
             }
         }
+    }
+
+    /// Here too a jump is the one refusal that changes something.
+    fn table_arrive(&self, words: &mut [u64], ssrc: u32, wire: u16, mark: u8) -> u8 {
+        arrived(Table::from_words(words).and_then(|mut table| {
+            let answer = table.arrive(ssrc, wire, mark);
+            if answer.is_ok() || answer == Err(JUMP) {
+                words.copy_from_slice(&table.to_words());
+            }
+            answer
+        }))
+    }
+
+    fn table_count_block(&self, words: &mut [u64], ssrc: u32, records: &[u8], width: usize) -> i64 {
+        let counted = Table::from_words(words).and_then(|mut table| Ok((table.count_block(ssrc, records, width)?, table)));
+        match counted {
+            Err(refusal) => minus(refusal),
+            Ok(((jumps, restarts), table)) => {
+                words.copy_from_slice(&table.to_words());
+                RESTART * restarts as i64 + jumps as i64
+            }
+        }
+    }
+
+    fn table_write_compound(&self, words: &[u64], sender: u32, out: &mut [u8]) -> i64 {
+        length(put(Table::from_words(words).map(|table| table.compound(sender)), out))
+    }
+
+    fn table_place(&self, words: &[u64], place: usize, found: &mut [u64]) -> u8 {
+        put_words(Table::from_words(words).and_then(|table| table.place(place)), found)
     }
 
     fn write_feedback(&self, words: &[u64], sender: u32, media: u32, out: &mut [u8]) -> i64 {

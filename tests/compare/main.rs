@@ -14,10 +14,12 @@ mod forms;
 mod lent;
 mod library;
 mod lists;
+mod places;
 mod reading;
 mod reports;
 mod restarts;
 mod rows;
+mod tables;
 mod worked;
 
 use compare::Compare;
@@ -40,7 +42,9 @@ fn main() {
     worked::examples(compare);
     restarts::examples(compare);
     forms::examples(compare);
+    places::examples(compare);
     counting::calls(compare, draw);
+    tables::calls(compare, draw);
     reports::calls(compare, draw);
     let mutations = reading::calls(compare, draw);
     let cuts = between::calls(compare, draw);

@@ -45,7 +45,7 @@ fn read_back(compare: &Compare, draw: &Draw) {
 }
 
 /// From the words of a sound record: ECT(0), ECT(1), CE, not-ECT, lost, duplicates, modulo their widths.
-fn counters(source: &[u64]) -> [u64; 6] {
+pub fn counters(source: &[u64]) -> [u64; 6] {
     let [base, highest, not_ect, ect1, ect0, ce, duplicates] = source[..7].try_into().unwrap();
     let arrivals = not_ect + ect1 + ect0 + ce;
     let lost = if arrivals == 0 { 0 } else { (highest + 1 + duplicates).wrapping_sub(base + arrivals) };

@@ -4,6 +4,7 @@ pub mod blocks;
 pub mod breakers;
 pub mod compounds;
 pub mod sources;
+pub mod tables;
 pub mod traces;
 
 use std::cell::Cell;

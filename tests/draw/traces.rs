@@ -1,5 +1,5 @@
 //! Whole traces of both forms, sound and damaged.
-use crate::{arrivals, blocks, Draw};
+use crate::{arrivals, blocks, tables, Draw};
 use model::trace::*;
 
 /// The times of a trace are below this: half of those of form 2 fit form 1 too.
@@ -27,9 +27,24 @@ pub fn sound(draw: &Draw, most_blocks: u64) -> Vec<u8> {
     trace
 }
 
-/// A trace with one to three faults.
-pub fn damaged(draw: &Draw, most_blocks: u64) -> Vec<u8> {
-    let mut trace = sound(draw, most_blocks);
+/// A trace of one form whose arrivals blocks are of 0 to 18 sources, each with the numbers of a sender of its own.
+pub fn streams(draw: &Draw, most_blocks: u64) -> Vec<u8> {
+    let (form, below) = (draw.of(&FORMS), Form::One.times());
+    let ssrcs: Vec<u32> = (0..draw.edge(0, 18)).map(|_| tables::ssrc(draw)).collect();
+    let mut numbers: Vec<Vec<u16>> = ssrcs.iter().map(|_| vec![draw.u64() as u16]).collect();
+    let mut trace = label_block(form, &blocks::label(draw), tables::ssrc(draw)).unwrap();
+    for _ in 0..if ssrcs.is_empty() { 0 } else { draw.below(most_blocks + 1) } {
+        let source = draw.index(ssrcs.len());
+        let wires = arrivals::wires(draw, *numbers[source].last().unwrap(), blocks::count(draw, form));
+        let records = blocks::with_times(draw, below, &wires[..wires.len().min(form.most_records())]);
+        trace.extend(arrivals_block(form, &records, ssrcs[source]).unwrap());
+        numbers[source] = wires;
+    }
+    trace
+}
+
+/// A trace with one to three faults, made of a sound one.
+pub fn damaged(draw: &Draw, mut trace: Vec<u8>) -> Vec<u8> {
     for _ in 0..draw.within(1, 3) {
         damage(draw, &mut trace);
     }

@@ -1,8 +1,8 @@
-"""run.py ECNTABLE ECNFORMS FAULTS.so FOLDER: the programs where a read or a write fails, is interrupted, is not ready or moves few bytes.
+"""run.py ECNTABLE ECNFORMS ECNSTREAMS FAULTS.so FOLDER: the programs where a read or a write fails, is interrupted, is not ready or moves few bytes.
 
 A trace of 800 arrivals blocks. Where the calls can be made again the output is that of an undisturbed run and standard error is empty. Where a
-read fails, the output is that of the whole blocks before it, and `refused 1 block I` follows, on standard output by ecntable and on standard error
-by ecnforms; where a write fails, standard output is cut off. Both say so in one line on standard error. Each check that does not hold is printed;
+read fails, the output is that of the whole blocks before it, and `refused 1 block I` follows, on standard output by ecntable and ecnstreams and on
+standard error by ecnforms; where a write fails, standard output is cut off. Both say so in one line on standard error. Each check that does not hold is printed;
 the last line says how many runs there were.
 """
 import errno
@@ -16,29 +16,29 @@ import sys
 import threading
 import time
 
-BLOCK, BLOCKS, SSRC = 512, 801, 7
+BLOCK, BLOCKS = 512, 801
 LABEL = b"ward 3, bed 12: " + b"x" * 300
 # By form: the records of a full block, and how the first part of one, its time, is packed
 FORMS = {1: (62, lambda time: struct.pack(">I", time)), 2: (50, lambda time: struct.pack(">HI", time >> 32, time & 0xFFFFFFFF))}
 
 
-def block(kind, count, body):
+def block(kind, count, ssrc, body):
     """A block of document 01: kind, count, SSRC, body, and the word that makes the ones' complement sum 65,535."""
-    data = struct.pack(">HHI", kind, count, SSRC) + body.ljust(502, b"\0")
+    data = struct.pack(">HHI", kind, count, ssrc) + body.ljust(502, b"\0")
     total = sum(struct.unpack(">255H", data))
     while total > 0xFFFF:
         total = (total & 0xFFFF) + (total >> 16)
     return data + struct.pack(">H", 0xFFFF - total)
 
 
-def trace(form, records):
-    """A trace of so many records, each block full but perhaps the last."""
+def trace(form, records, ssrcs=(7,)):
+    """A trace of so many records, each block full but perhaps the last; the blocks have these SSRCs in turn."""
     most, packed_time = FORMS[form]
-    blocks = [block(2 * form - 1, len(LABEL), LABEL)]
+    blocks = [block(2 * form - 1, len(LABEL), ssrcs[0], LABEL)]
     for first in range(0, records, most):
         numbers = range(first, min(first + most, records))
         body = (packed_time(20 * n) + struct.pack(">HBB", n % 65536, n % 4, 0) for n in numbers)
-        blocks.append(block(2 * form, len(numbers), b"".join(body)))
+        blocks.append(block(2 * form, len(numbers), ssrcs[len(blocks) % len(ssrcs)], b"".join(body)))
     return b"".join(blocks)
 
 
@@ -46,10 +46,11 @@ class Ecntable:
     """What is printed behind so many whole blocks, and where a read fails there."""
 
     name, form, usage = "ecntable", 1, b"usage: ecntable <TRACE >TABLE\n"
-    # How many blocks are read at a time behind block 0; a write that brings more than 1,000 bytes, and what those before it bring.
-    piece, write, before = 128, 1, 0
+    # How many blocks are read at a time behind block 0; a write that brings more than 1,000 bytes, and what those before it bring; the last.
+    piece, write, before, last = 128, 1, 0, 2
     # Reads of at most 700 bytes that fail before anything is printed, and the whole blocks before each.
     early = ((20, 25),)
+    ssrcs = (7,)
 
     def learn(self, table):
         self.rows = table.splitlines(keepends=True)
@@ -63,9 +64,10 @@ class Ecntable:
 
 class Ecnforms:
     name, usage = "ecnforms", b"usage: ecnforms <TRACE >TRACE\n"
-    piece, write, before = 256, 2, 512 * BLOCK
+    piece, write, before, last = 256, 2, 512 * BLOCK, 2
     # Those before the second of form 1 fill more than a piece of output.
     early = ((20, 25), (336, 456))
+    ssrcs = (7,)
 
     def __init__(self, form):
         self.form = form
@@ -80,18 +82,31 @@ class Ecnforms:
         return self.printed(whole), b"refused 1 block %d\r\n" % whole
 
 
+class Ecnstreams(Ecntable):
+    """Rows come behind the last block alone."""
+
+    name, usage = "ecnstreams", b"usage: ecnstreams <TRACE >TABLE\n"
+    last, ssrcs = 1, tuple(range(100, 116))
+
+    def printed(self, whole):
+        return b"".join(self.rows if whole == BLOCKS else self.rows[:1])
+
+    def unread(self, whole):
+        return self.printed(0) + b"refused 1 block %d\r\n" % whole, b""
+
+
 class Tried:
     """The runs of a program on a trace, and the checks that did not hold."""
 
     def __init__(self, program, path, library, folder):
         self.program, self.command, self.library = program, path, library
         self.path, self.out = pathlib.Path(folder, "faults.trace"), pathlib.Path(folder, "faults.out")
-        self.path.write_bytes(trace(program.form, (BLOCKS - 1) * FORMS[program.form][0]))
+        self.path.write_bytes(trace(program.form, (BLOCKS - 1) * FORMS[program.form][0], program.ssrcs))
         self.runs, self.wrong = 0, []
         self.whole, told = self.run("undisturbed")
         program.learn(self.whole)
         self.hold("undisturbed", self.whole, told, program.printed(BLOCKS), b"")
-        if self.whole.count(b"\n") < BLOCKS - 1 or b"refused" in self.whole:
+        if len(self.whole) < 5_000 or b"refused" in self.whole:
             self.wrong.append("undisturbed: not the whole trace")
 
     def run(self, name, faults="", words=(), **kept):
@@ -165,7 +180,7 @@ def injected_writes(tried):
         size, call = tried.program.before + 1000, tried.program.write
         tried.write_fails(f"a write fails with errno {error} behind {size} bytes", size, error, f"write cut {call} {error} 1000")
     both_fail(tried)
-    out, line = tried.run("no write takes anything", "write zero 2 0 0")
+    out, line = tried.run("no write takes anything", f"write zero {tried.program.last} 0 0")
     if not tried.whole.startswith(out) or line.count(b"\n") != 1 or not line.startswith(f"{tried.program.name}: writing standard output: ".encode()):
         tried.wrong.append(f"no write takes anything: {len(out)} bytes, on standard error {line!r}")
 
@@ -186,6 +201,13 @@ def limited():
     resource.setrlimit(resource.RLIMIT_FSIZE, (100_000, 100_000))
 
 
+def file_too_large(tried):
+    with open(tried.out, "wb") as out:
+        tried.write_fails("the file grows too large", 100_000, errno.EFBIG, stdout=out, preexec_fn=limited)
+    if tried.out.read_bytes() != tried.whole[:100_000]:
+        tried.wrong.append(f"the file grows too large: {tried.out.stat().st_size} bytes that are not the output's")
+
+
 def real_files(tried):
     folder = os.open("/", os.O_RDONLY)
     tried.read_fails("a folder is read", 0, errno.EISDIR, stdin=folder)
@@ -193,10 +215,8 @@ def real_files(tried):
     tried.read_fails("standard input is closed", 0, errno.EBADF, preexec_fn=lambda: os.close(0))
     with open("/dev/full", "wb") as full:
         tried.write_fails("the disk is full", 0, errno.ENOSPC, stdout=full)
-    with open(tried.out, "wb") as out:
-        tried.write_fails("the file grows too large", 100_000, errno.EFBIG, stdout=out, preexec_fn=limited)
-    if tried.out.read_bytes() != tried.whole[:100_000]:
-        tried.wrong.append(f"the file grows too large: {tried.out.stat().st_size} bytes that are not the output's")
+    if len(tried.whole) > 100_000:
+        file_too_large(tried)
     reading, writing = os.pipe()
     os.close(reading)
     tried.write_fails("nobody reads", 0, errno.EPIPE, stdout=writing, preexec_fn=lambda: signal.signal(signal.SIGPIPE, signal.SIG_IGN))
@@ -250,10 +270,11 @@ def arguments(tried):
         tried.hold(name, *tried.run(name, words=words), b"", tried.program.usage)
 
 
-def main(ecntable, ecnforms, library, folder):
+def main(ecntable, ecnforms, ecnstreams, library, folder):
     runs, wrong = 0, []
     parts = (injected_reads, injected_writes, real_files, real_pipes, arguments)
-    for program, path, tries in ((Ecntable(), ecntable, parts), (Ecnforms(1), ecnforms, parts), (Ecnforms(2), ecnforms, parts[:2])):
+    programs = ((Ecntable(), ecntable, parts), (Ecnforms(1), ecnforms, parts), (Ecnforms(2), ecnforms, parts[:2]), (Ecnstreams(), ecnstreams, parts))
+    for program, path, tries in programs:
         tried = Tried(program, path, library, folder)
         for part in tries:
             part(tried)

@@ -2,15 +2,37 @@
 use crate::refusal::*;
 use crate::source::{Counted, Source, MOST_ARRIVALS};
 use crate::table::{row, HEAD};
-use crate::trace::{blocks, later, refused, zeroth, Label};
+use crate::trace::{blocks, later, refused, zeroth, Label, Record};
+
+/// A source with its jumps and restarts.
+#[derive(Default)]
+pub struct Totals {
+    pub source: Source,
+    pub jumped: u64,
+    pub restarts: u64,
+}
+
+impl Totals {
+    pub fn take(&mut self, records: &[Record]) {
+        for record in records {
+            match self.source.arrive(record.wire, record.mark) {
+                Err(JUMP) => self.jumped = MOST_ARRIVALS.min(self.jumped + 1),
+                Ok(Counted::Restarted) => self.restarts = MOST_ARRIVALS.min(self.restarts + 1),
+                _ => {}
+            }
+        }
+    }
+
+    pub fn row(&self, label: &[u8], ssrc: u32) -> Vec<u8> {
+        row(label, ssrc, &self.source, self.jumped, self.restarts).unwrap()
+    }
+}
 
 /// What a run has after some blocks.
 #[derive(Default)]
 pub struct Run {
     pub label: Option<Label>,
-    pub source: Source,
-    pub jumped: u64,
-    pub restarts: u64,
+    pub totals: Totals,
 }
 
 impl Run {
@@ -20,19 +42,13 @@ impl Run {
             self.label = Some(zeroth(bytes)?);
             return Ok(false);
         };
-        for record in later(label, bytes)? {
-            match self.source.arrive(record.wire, record.mark) {
-                Err(JUMP) => self.jumped = MOST_ARRIVALS.min(self.jumped + 1),
-                Ok(Counted::Restarted) => self.restarts = MOST_ARRIVALS.min(self.restarts + 1),
-                _ => {}
-            }
-        }
+        self.totals.take(&later(label, bytes)?);
         Ok(true)
     }
 
     pub fn row(&self) -> Vec<u8> {
         let Label { ssrc, text, .. } = self.label.as_ref().unwrap();
-        row(text, *ssrc, &self.source, self.jumped, self.restarts).unwrap()
+        self.totals.row(text, *ssrc)
     }
 }
 

@@ -8,6 +8,7 @@ pub mod forms;
 pub mod refusal;
 pub mod report;
 pub mod source;
+pub mod streams;
 pub mod table;
 pub mod trace;
 pub mod truth;

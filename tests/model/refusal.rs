@@ -23,6 +23,8 @@ pub const LIMITS: Refusal = Refusal(10);
 pub const TIME: Refusal = Refusal(11);
 pub const CHECKSUM: Refusal = Refusal(13);
 pub const CONTENTS: Refusal = Refusal(14);
+pub const PLACES: Refusal = Refusal(15);
+pub const RULES: Refusal = Refusal(16);
 pub const FORM_TWO: Refusal = Refusal(17);
 
 /// The output is too small.

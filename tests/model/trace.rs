@@ -187,12 +187,19 @@ pub fn zeroth(block: &[u8]) -> Result<Label, Refusal> {
     }
 }
 
-/// The records of a later block, which has the label's form and SSRC.
-pub fn later(label: &Label, block: &[u8]) -> Result<Vec<Record>, Refusal> {
+/// The SSRC and the records of a later block, which has the label's form.
+pub fn of_form(form: Form, block: &[u8]) -> Result<(u32, Vec<Record>), Refusal> {
     match read(block)? {
-        (form, ssrc, Contents::Arrivals(records)) if (form, ssrc) == (label.form, label.ssrc) => Ok(records),
+        (its, ssrc, Contents::Arrivals(records)) if its == form => Ok((ssrc, records)),
         _ => Err(CONTENTS),
     }
+}
+
+/// The records of a later block, which has the label's form and SSRC.
+pub fn later(label: &Label, block: &[u8]) -> Result<Vec<Record>, Refusal> {
+    let (ssrc, records) = of_form(label.form, block)?;
+    require(ssrc == label.ssrc, CONTENTS)?;
+    Ok(records)
 }
 
 /// What every program prints for the first refused block.

@@ -2,6 +2,7 @@
 use draw::Draw;
 use model::converter::table;
 use model::forms::converted;
+use model::streams;
 use std::cell::RefCell;
 use std::collections::BTreeMap;
 use std::fs::{write, File};
@@ -23,6 +24,10 @@ pub struct Feed {
 impl Feed {
     pub fn ecntable(program: &str, folder: &str, seed: u64) -> Feed {
         Feed::new(program, |trace| (table(trace), Vec::new()), folder, seed)
+    }
+
+    pub fn ecnstreams(program: &str, folder: &str, seed: u64) -> Feed {
+        Feed::new(program, |trace| (streams::table(trace), Vec::new()), folder, seed)
     }
 
     pub fn ecnforms(program: &str, folder: &str, seed: u64) -> Feed {

@@ -1,6 +1,6 @@
 //! Traces for table.py, and beside each one a line for each row: the label in hexadecimal, then the numbers.
 use draw::{traces, Draw};
-use model::converter::Run;
+use model::converter::{Run, Totals};
 use model::table::numbers;
 use model::trace::{Label, BLOCK};
 use std::fs::write as write_file;
@@ -20,7 +20,8 @@ fn rows(trace: &[u8]) -> String {
         if run.block(block) == Ok(true) {
             let Label { ssrc, text, .. } = run.label.as_ref().unwrap();
             let hexadecimal: String = text.iter().map(|byte| format!("{byte:02x}")).collect();
-            let numbers = numbers(*ssrc, &run.source, run.jumped, run.restarts).map(|number| number.to_string()).join(",");
+            let Totals { source, jumped, restarts } = &run.totals;
+            let numbers = numbers(*ssrc, source, *jumped, *restarts).map(|number| number.to_string()).join(",");
             lines += &format!("{hexadecimal},{numbers}\n");
         }
     }

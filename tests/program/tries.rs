@@ -76,12 +76,42 @@ pub fn long_traces(feed: &Feed, draw: &Draw) -> u64 {
 
 pub fn mutations(feed: &Feed, draw: &Draw) -> u64 {
     for _ in 0..2_500 {
-        feed.file(&traces::damaged(draw, 5));
-        feed.file(&traces::damaged(draw, 1));
+        feed.file(&traces::damaged(draw, traces::sound(draw, 5)));
+        feed.file(&traces::damaged(draw, traces::sound(draw, 1)));
     }
     for _ in 0..500 {
-        feed.pipe(draw, &traces::damaged(draw, 20));
+        feed.pipe(draw, &traces::damaged(draw, traces::sound(draw, 20)));
         feed.file(&draw.bytes(draw.index(3 * BLOCK)));
     }
     6_000
+}
+
+/// Traces of 0 to 18 sources, whole and damaged.
+pub fn streams(feed: &Feed, draw: &Draw) -> u64 {
+    for _ in 0..600 {
+        feed.file(&traces::streams(draw, 60));
+        feed.pipe(draw, &traces::streams(draw, 90));
+        feed.file(&traces::damaged(draw, traces::streams(draw, 12)));
+        feed.file(&traces::damaged(draw, traces::streams(draw, 60)));
+    }
+    2_400
+}
+
+/// One block each of sixteen sources in any order, and of a seventeenth, which is refused with 15 before a later fault; and one that is held.
+pub fn seventeen(feed: &Feed, draw: &Draw) -> u64 {
+    for form in FORMS {
+        let mut ssrcs: Vec<u32> = (0..17).map(|source| 1_000 * source).collect();
+        draw.shuffle(&mut ssrcs);
+        let mut trace = label_block(form, b"seventeen", 1).unwrap();
+        let block = |ssrc| arrivals_block(form, &blocks::records(draw, form, Form::One.times()), ssrc).unwrap();
+        ssrcs[..16].iter().for_each(|&ssrc| trace.extend(block(ssrc)));
+        trace.extend(block(ssrcs[3]));
+        let (whole, _) = feed.file(&trace);
+        feed.hold(whole.split(|&byte| byte == b'\n').count() == 18, &trace, "sixteen sources have sixteen rows");
+        trace.extend(block(ssrcs[16]));
+        trace.extend([9; BLOCK]);
+        let (refused, _) = feed.file(&trace);
+        feed.hold(refused.ends_with(b"restarts\r\nrefused 15 block 18\r\n"), &trace, "the seventeenth is refused, and no row is printed");
+    }
+    4
 }

@@ -7,3 +7,4 @@ pub mod Steps
 pub mod SourceChains
 pub mod BreakerChains
 pub mod SomeChains
+pub mod TableCalls

@@ -2,45 +2,23 @@
 use mathlib.Core.Path.{_≡_, refl, sym, ap, ap₂, _∙_}
 use mathlib.Core.Bool.{Bool, true, false, cond}
 use mathlib.Core.List.{List, [], _∷_}
-use Prim.Native.Nat.{ℕ, _^_, _≤_, _<_}
-use native.Mathlib.Omega.{arith}
+use Prim.Native.Nat.{ℕ}
 use borrow.Author.Tests.{ltb-true}
-use lib.Dec.{eqb, lt→ltb}
-use lib.IntN.{ℤ, pos}
-use Rattle.answers.proofs.Conditions.{and-left, and-right, all-true, true-is}
-use Rattle.numbers.proofs.Integers.{eqZ-eq}
+use lib.Dec.{eqb}
+use Rattle.answers.proofs.Conditions.{and-left, and-right}
 use Rattle.source.specs.declared.Source.{Source}
 use Rattle.source.specs.declared.Arrival.{Arrival}
 use Rattle.source.specs.declared.Arrival.the-variants.{Accepted, Restarted, Refused}
-use Rattle.source.specs.Record.{arrivals, distinct, zeros, fresh, sound, wireNumber}
+use Rattle.source.specs.Record.{sound, wireNumber}
 use Rattle.source.specs.Arrivals.{after}
-use Rattle.source.proofs.Facts.{facts, fresh-sound, sound-has-counted}
+use Rattle.source.proofs.Facts.{fresh-sound}
 use Rattle.source.proofs.Kept.{sound-stays}
 use Rattle.source.proofs.Afresh.{typed-stays, refusal-keeps}
-use Rattle.lent.specs.SourceWords.{sourceOf, isSource, loaded, sourceWords, FitsWord}
-use Rattle.lent.proofs.SourceLaws.{record-back, held}
-use Rattle.lent.specs.declared.source_words.Loaded.the-variants.{Held}
+use Rattle.lent.specs.SourceWords.{sourceOf, isSource, sourceWords}
+use Rattle.lent.proofs.SourceLaws.{held, sound-back}
 use Rattle.answers.specs.Refusals.{numberOf}
 use Rattle.capi.specs.Sources.{arrivalCode, arrivalWords, arriveAnswer, arriveWords}
 use Rattle.capi.specs.Chains.{arriveChain, arriveCodes, arrives, afterArrivals, arrivalCodes, wireFits, ArrivesInTurn, ArrivesFromZero}
-
--- ---- a sound record's words read back
-
-fits : (n : ℕ) {z : ℤ} → z ≡ pos n → n < 2 ^ 63 → FitsWord z
-fits n e h = rw e (record { least = record { le = tt }; most = record { lt = lt→ltb n (2 ^ 63) h } })
-
-sound-back : (s : Source) → sound s ≡ true → wireNumber (s .remembered) ≡ true → loaded (sourceWords s) ≡ Held s
-unfolding fresh
-sound-back s e n = go (fresh s) refl
-  where
-    go : (b : Bool) → fresh s ≡ b → loaded (sourceWords s) ≡ Held s
-    go true f =
-        record-back s (fits 0 (eqZ-eq (s .base .0) (pos 0) (true-is _ (all-true (zeros s) 0 f))) (omega arith))
-        (fits 0 (eqZ-eq (s .highest .0) (pos 0) (true-is _ (all-true (zeros s) 1 f))) (omega arith)) n
-    go false f =
-        let k = facts s (sound-has-counted s e f) in
-        let d : distinct s ≤ arrivals s = omega arith in
-        record-back s (fits (k .low) (k .base) (omega (arith, k .wire))) (fits (k .high) (k .highest) (omega (arith, k .spread, k .most, k .wire))) n
 
 -- ---- one call
 

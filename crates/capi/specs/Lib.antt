@@ -4,3 +4,5 @@ pub mod CompoundCalls
 pub mod BreakerCalls
 pub mod Blocks
 pub mod Chains
+pub mod Tables
+pub mod TableSteps

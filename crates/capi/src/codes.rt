@@ -9,6 +9,15 @@ ghost use Rattle.answers.specs.Refusals.{numberOf};
 ghost use Rattle.answers.specs.Writers.{sizeIn};
 ghost use Rattle.capi.specs.Codes.{lengthCode};
 
+// The refusal that leaves a record of its own: a jump.
+pub const JUMP: u8 = 7;
+
+// The answer to an arrival that restarts the record.
+pub const RESTARTED: u8 = 128;
+
+// What the restarts of a block are multiplied with, so that its jumps stand beside them.
+pub const RESTARTS: u64 = 256;
+
 // Minus a number.
 fn negative(n: u64) -> i64
     requires { ⌜ n < 2 ^ 63 ⌝ }

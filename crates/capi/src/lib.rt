@@ -7,3 +7,4 @@ pub mod compound;
 pub mod ecn;
 pub mod rows;
 pub mod sources;
+pub mod tables;

@@ -1,5 +1,8 @@
 // One source's arrivals and reports.
 use crate::codes;
+use crate::codes::JUMP;
+use crate::codes::RESTARTED;
+use crate::codes::RESTARTS;
 use answers::Refusal;
 use engine::count_block;
 use format::Wire;
@@ -11,15 +14,6 @@ use report::write_summary;
 use source::Arrival;
 use source::BlockCount;
 ghost use Rattle.capi.specs.Sources.{CountsArrival, CountsBlock, WritesFeedback, WritesSummary};
-
-// The refusal that leaves a record of its own: a jump.
-const JUMP: u8 = 7;
-
-// The answer to an arrival that restarts the record.
-const RESTARTED: u8 = 128;
-
-// What the restarts of a block are multiplied with, so that its jumps stand beside them.
-const RESTARTS: u64 = 256;
 
 // Counts one arrival. Gives 0 or 128, for a restart, and the next record; or refusal 9, 10, 8 or 7. A jump (7) leaves its record too.
 #[no_mangle]

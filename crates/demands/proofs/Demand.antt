@@ -37,7 +37,7 @@ count-lost (p ∷ ps) m good =
     (ap (λ (n : ℕ). highestOf (p ∷ ps) -ℤ p .number +ℤ pos 1 -ℤ pos n) (count-distinct (p .number) (p ∷ ps) m))
 
 module _ (ps : List TruePacket) (lost-is : lost (count ps) ≡ lostOf ps) where
-  count-counts : countsOf (count ps) ≡ countsIn ps
+  pub count-counts : countsOf (count ps) ≡ countsIn ps
   unfolding countsOf countsIn countFrom
   count-counts = λ i. record {
     ect0 = tally 2 ps % 2 ^ 32;

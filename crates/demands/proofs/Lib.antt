@@ -9,7 +9,14 @@ pub mod Traces
 pub mod PrintedTable
 pub mod LastRow
 pub mod BothForms
+pub mod Fields
+pub mod Compounds
+pub mod OneStream
+pub mod AsPlaces
+pub mod LinesAreTable
 pub mod ReadBack
+pub mod OneCall
+pub mod EachSource
 pub mod WorkedExamples
 pub mod Between
 pub mod BetweenReports
@@ -17,3 +24,4 @@ pub mod WorseLoss
 pub mod Witnesses
 pub mod Uses
 pub mod WitnessesBetween
+pub mod WitnessesSources

@@ -1,7 +1,7 @@
 -- Demand 3 in what ecntable prints. Assumes nothing.
 use mathlib.Core.Path.{_≡_, refl, sym, ap, ap₂, _∙_, subst}
 use mathlib.Core.Bool.{true}
-use mathlib.Core.List.{List, [], _∷_, _++_, map, append-nil, append-assoc}
+use mathlib.Core.List.{List, [], _∷_, _++_, map, append-nil, append-assoc, map-append}
 use Prim.Native.Nat.{ℕ, suc, _+_, _≤_, _^_}
 use native.Mathlib.Omega.{arith}
 use borrow.Author.Tests.{eq-eqb}
@@ -41,30 +41,12 @@ use Rattle.demands.proofs.Members.{Marks}
 use Rattle.demands.proofs.Order.{same-perm, perm-length}
 use Rattle.demands.proofs.Runs.{run-sound}
 use Rattle.demands.proofs.Demand.{demand3}
-use Rattle.demands.proofs.Traces.{run-parts, answers-behind, answers-front, steady-front, marks-parts, all-arrivals, block-marks, block-length, block-counted}
+use Rattle.demands.proofs.Traces.{Split, split, run-parts, answers-behind, answers-front, steady-front, marks-parts, all-arrivals, block-marks, block-length, block-counted}
 
 -- ---- the arrivals of the first block, and the others
 
-record Split (xs ys : List Record) (vs : List TruePacket) : Type 0 where
-  front : List TruePacket
-  back : List TruePacket
-  is : vs ≡ front ++ back
-  first : map inRecord xs ≡ map ofArrival front
-  more : map inRecord ys ≡ map ofArrival back
-
-split : (xs ys : List Record) (vs : List TruePacket) → map inRecord (xs ++ ys) ≡ map ofArrival vs → Split xs ys vs
-split [] ys vs e = record { front = []; back = vs; is = refl; first = refl; more = e }
-split (x ∷ xs) ys [] e = let z : _≡_ {A = ℕ} 0 1 = cc in absurd (omega arith)
-split (x ∷ xs) ys (v ∷ vs) e =
-    let same : inRecord x ≡ ofArrival v = cc in
-    let rest = split xs ys vs cc in
-    record {
-      front = v ∷ rest .front;
-      back = rest .back;
-      is = ap (λ (l : List TruePacket). v ∷ l) (rest .is);
-      first = λ i. same i ∷ rest .first i;
-      more = rest .more;
-    }
+split-records : (xs ys : List Record) (vs : List TruePacket) → map inRecord (xs ++ ys) ≡ map ofArrival vs → Split (map inRecord xs) (map inRecord ys) vs
+split-records xs ys vs e = split (map inRecord xs) (map inRecord ys) vs (sym (map-append inRecord xs ys) ∙ e)
 
 -- all marks of a trace's records are at most 3
 trace-marks : (form : Form) (ssrc : ℕ) (bs : List (List ℕ)) (vs : List TruePacket) → AllArrivals form ssrc bs → map inRecord (together bs) ≡ map ofArrival vs → Marks vs
@@ -72,7 +54,7 @@ trace-marks form ssrc [] [] a e = tt
 trace-marks form ssrc [] (v ∷ vs) a e = let z : _≡_ {A = ℕ} 0 1 = cc in absurd (omega arith)
 trace-marks form ssrc (b ∷ bs) vs a e =
     let is = a .1 in
-    let s = split (recordsBy b (blockOf b)) (together bs) vs e in
+    let s = split-records (recordsBy b (blockOf b)) (together bs) vs e in
     subst Marks (sym (s .is))
     (marks-parts (s .front) (s .back)
     (block-marks b form (a .0) ssrc is (s .front) (ap (λ (r : Block). map inRecord (recordsBy b r)) (sym is) ∙ s .first))
@@ -137,7 +119,7 @@ module _ (form : Form) (zeroth label : List ℕ) (ssrc : ℕ) (label-is : take (
   rest-rows i (b ∷ bs) us vs e mu a same =
       let n = a .0 in
       let is = a .1 in
-      let s = split (recordsBy b (blockOf b)) (together bs) vs same in
+      let s = split-records (recordsBy b (blockOf b)) (together bs) vs same in
       let first : map inRecord (recordsBy b (Arrivals form n ssrc)) ≡ map ofArrival (s .front) = ap (λ (r : Block). map inRecord (recordsBy b r)) (sym is) ∙ s .first in
       let next : List TruePacket = us ++ s .front in
       let parts : us ++ (s .front ++ s .back) ≡ ps = ap (λ (l : List TruePacket). us ++ l) (sym (s .is)) ∙ e in

@@ -1,20 +1,19 @@
 -- Written reports read back. Assumes nothing.
 use mathlib.Core.Path.{_≡_, refl, sym, ap, _∙_}
-use mathlib.Core.Bool.{true}
-use mathlib.Core.List.{List, [], _∷_, _++_, flatMap}
-use Prim.Native.Nat.{ℕ, _+_, _^_, _<_}
-use native.Mathlib.Nat.{add-zero, mod-eq-of-lt}
+use mathlib.Core.Bool.{Bool, true, false, cond, false≢true}
+use mathlib.Core.List.{List, [], _∷_, _++_, flatMap, append-nil}
+use mathlib.Core.Option.{Option, none, some}
+use Prim.Native.Nat.{ℕ, zero, suc, _+_, _^_, _≤_, _<_}
 use native.Mathlib.Omega.{arith}
-use borrow.Author.Tests.{eq-eqb}
-use lib.ListN.{length}
+use borrow.Author.Tests.{eq-eqb, eqb-true, lt-ltb, leb-true}
+use lib.Dec.{eqb}
+use lib.ListN.{length, getD}
 use Rattle.numbers.specs.BigEndian.{word, bytes}
-use Rattle.numbers.proofs.BigEndian.{word-left, word-right, word-bytes, length-bytes}
-use Rattle.numbers.proofs.Integers.{modulo-lt}
+use Rattle.answers.proofs.Conditions.{all-true}
 use Rattle.source.specs.declared.Source.{Source}
-use Rattle.source.specs.Record.{lost}
 use Rattle.format.specs.declared.Counts.{Counts}
-use Rattle.report.specs.Carried.{highestOf, countsOf}
-use Rattle.report.specs.Reports.{countsBytes, feedbackOf, summaryOf}
+use Rattle.report.specs.Carried.{countsOf}
+use Rattle.report.specs.Reports.{countsBytes, feedbackBytes, summaryOf}
 use Rattle.rtcp.specs.declared.MaybeReport.{MaybeReport}
 use Rattle.rtcp.specs.declared.MaybeFeedback.{MaybeFeedback}
 use Rattle.rtcp.specs.declared.MaybeSummary.{MaybeSummary}
@@ -24,140 +23,97 @@ use Rattle.rtcp.specs.Header.{headerAt, padding}
 use Rattle.rtcp.specs.Packets.{isReport, isFeedback, blocksFrom, paddingRight, bodyRight, mayStand}
 use Rattle.rtcp.specs.Entries.{entryFor}
 use Rattle.rtcp.specs.ReportBlocks.{reportIn}
-use Rattle.rtcp.specs.EcnReports.{counts, feedback, feedbackIn, blockAt, isSummary, summaryIn}
-use Rattle.rtcp.specs.Compound.{beginsIn, firstFeedback, firstSummary, blocks, reading}
-use Rattle.demands.specs.RoundTrip.{emptyRr, xrPacket, FeedbackReadsBack, SummaryReadsBack, NothingMadeUp}
+use Rattle.rtcp.specs.EcnReports.{feedbackIn, blockAt, isSummary, summaryIn}
+use Rattle.rtcp.specs.Compound.{beginsIn, firstSummary, blocks, reading}
+use Rattle.streams.specs.declared.Place.{Place}
+use Rattle.streams.specs.Places.{emptyPlace, heldOf}
+use Rattle.streams.specs.Rules.{mostPlaces, rising, rules, fault}
+use Rattle.streams.specs.Stands.{found, isNew}
+use Rattle.streams.specs.Compounds.{receiverReport, feedbacks, compoundBytes}
+use Rattle.streams.proofs.Checking.{kept, kept-rises}
+use Rattle.streams.proofs.Found.{rising-rest, below-none}
+use Rattle.streams.proofs.Fronts.{front-le}
+use Rattle.demands.specs.RoundTrip.{xrPacket, FeedbackReadsBack, SummaryReadsBack, NothingMadeUp}
+use Rattle.demands.specs.EachSource.{ssrcsFit, onlyFeedback, CompoundReadsBack}
+use Rattle.demands.proofs.Fields.{field, Fits, counts-fit, counts-back}
+use Rattle.demands.proofs.Compounds.{feedbackAbout, compound-read}
 
--- ---- a field in the middle of a packet
+-- ---- the compound of a table
 
--- a number of k bytes behind p
-field : (k n : ℕ) (p q : List ℕ) → n < 256 ^ k → word k (p ++ (bytes k n ++ q)) (length p) ≡ n
-field k n p q h =
-    ap (word k (p ++ (bytes k n ++ q))) (sym (add-zero (length p))) ∙ word-right p (bytes k n ++ q) 0 k
-    ∙ word-left (bytes k n) q 0 k (omega (arith, length-bytes k n)) ∙ word-bytes k n ∙ mod-eq-of-lt h
+-- the place of an SSRC is the one that is found
+found-index : (least : ℕ) (ps : List Place) (i : ℕ) → rising least ps ≡ true → i < length ps
+    → found (getD ps i emptyPlace .ssrc) ps ≡ some (getD ps i emptyPlace .source)
+unfolding found
+found-index least [] i r h = absurd (omega arith)
+found-index least (p ∷ ps) zero r h = rw (eq-eqb (p .ssrc) (p .ssrc) refl)
+found-index least (p ∷ ps) (suc i) r h = go (eqb (p .ssrc) (getD ps i emptyPlace .ssrc)) refl (found-index (p .ssrc + 1) ps i (rising-rest least p ps r) (omega arith))
+  where
+    go : (t : Bool) → eqb (p .ssrc) (getD ps i emptyPlace .ssrc) ≡ t → found (getD ps i emptyPlace .ssrc) ps ≡ some (getD ps i emptyPlace .source)
+        → cond t (some (p .source)) (found (getD ps i emptyPlace .ssrc) ps) ≡ some (getD ps i emptyPlace .source)
+    go false e more = more
+    go true e more =
+        let same = eqb-true (p .ssrc) (getD ps i emptyPlace .ssrc) e in
+        let gone : found (getD ps i emptyPlace .ssrc) ps ≡ none = below-none (getD ps i emptyPlace .ssrc) (p .ssrc + 1) ps (omega arith) (rising-rest least p ps r) in
+        absurd (let z : _≡_ {A = ℕ} 0 1 = cc in omega arith)
 
--- every counter fits its field
-record Fits (c : Counts) : Type 0 where
-  ect0 : c .ect0 < 2 ^ 32
-  ect1 : c .ect1 < 2 ^ 32
-  ce : c .ce < 2 ^ 16
-  notect : c .notect < 2 ^ 16
-  lost : c .lost < 2 ^ 16
-  duplicates : c .duplicates < 2 ^ 16
+-- what is read of the compound about any SSRC
+pub table-read : (ps : List Place) (sender : ℕ) (profile : Profile) → fault ps ≡ none → ssrcsFit (heldOf ps) ≡ true → sender < 2 ^ 32 → (ssrc : ℕ)
+    → reading (compoundBytes sender ps) ssrc profile ≡ onlyFeedback (feedbackAbout sender (found ssrc (heldOf ps)))
+unfolding compoundBytes
+table-read ps sender profile good fit hs ssrc =
+    let few : length ps ≤ 16 = leb-true (length ps) mostPlaces (all-true (rules ps) 0 (kept ps good .ruled)) in
+    compound-read sender sender hs (heldOf ps) (omega (arith, front-le ps)) fit ssrc profile
 
-counts-fit : (s : Source) → Fits (countsOf s)
-unfolding countsOf
-counts-fit s = record {
-  ect0 = omega arith;
-  ect1 = omega arith;
-  ce = omega arith;
-  notect = omega arith;
-  lost = modulo-lt (2 ^ 16) (omega arith) (lost s);
-  duplicates = omega arith;
-}
+pub compound-reads-back : CompoundReadsBack
+compound-reads-back ps sender profile good fit hs =
+    let read = table-read ps sender profile good fit hs in
+    record {
+      held = λ i h.
+          read (getD (heldOf ps) i emptyPlace .ssrc)
+          ∙ ap (λ (f : Option Source). onlyFeedback (feedbackAbout sender f)) (found-index 0 (heldOf ps) i (kept-rises ps (kept ps good .ruled)) h);
+      others = λ ssrc new. read ssrc ∙ ap (λ (f : Option Source). onlyFeedback (feedbackAbout sender f)) (nothing (found ssrc (heldOf ps)) new);
+    }
+  where
+    nothing : (f : Option Source) → isNew f ≡ true → f ≡ none
+    nothing none e = refl
+    nothing (some s) e = absurd (false≢true e)
 
--- the counters read back, by themselves and behind p
-module _ (c : Counts) (f : Fits c) where
-  counts-here : counts (countsBytes c) 0 ≡ c
-  unfolding counts countsBytes bytes
-  counts-here =
-      let e0 : List ℕ = bytes 4 (c .ect0) in
-      let e1 : List ℕ = bytes 4 (c .ect1) in
-      let ce : List ℕ = bytes 2 (c .ce) in
-      let ne : List ℕ = bytes 2 (c .notect) in
-      let lo : List ℕ = bytes 2 (c .lost) in
-      let du : List ℕ = bytes 2 (c .duplicates) in
-      λ i. record {
-        ect0 = field 4 (c .ect0) [] (e1 ++ ce ++ ne ++ lo ++ du) (f .ect0) i;
-        ect1 = field 4 (c .ect1) e0 (ce ++ ne ++ lo ++ du) (f .ect1) i;
-        ce = field 2 (c .ce) (e0 ++ e1) (ne ++ lo ++ du) (f .ce) i;
-        notect = field 2 (c .notect) (e0 ++ e1 ++ ce) (lo ++ du) (f .notect) i;
-        lost = field 2 (c .lost) (e0 ++ e1 ++ ce ++ ne) du (f .lost) i;
-        duplicates = field 2 (c .duplicates) (e0 ++ e1 ++ ce ++ ne ++ lo) [] (f .duplicates) i;
-      }
+-- ---- one report
 
-  counts-back : (p : List ℕ) → counts (p ++ countsBytes c) (length p) ≡ c
-  unfolding counts
-  counts-back p =
-      let at : (k i : ℕ) → word k (p ++ countsBytes c) (length p + i) ≡ word k (countsBytes c) i = λ k i. word-right p (countsBytes c) i k in
-      let first : word 4 (p ++ countsBytes c) (length p) ≡ word 4 (countsBytes c) 0 = ap (word 4 (p ++ countsBytes c)) (sym (add-zero (length p))) ∙ at 4 0 in
-      (λ i. record {
-        ect0 = first i;
-        ect1 = at 4 4 i;
-        ce = at 2 8 i;
-        notect = at 2 10 i;
-        lost = at 2 12 i;
-        duplicates = at 2 14 i;
-      })
-      ∙ counts-here
+-- as the compound of one place
+pub feedback-reads-back : FeedbackReadsBack
+unfolding feedbacks found
+feedback-reads-back s from sender media profile hs hm =
+    let one : List Place = record { ssrc = media; source = s } ∷ [] in
+    ap (λ (l : List ℕ). reading (receiverReport from ++ l) media profile) (sym (append-nil (feedbackBytes sender media s)))
+    ∙ compound-read from sender hs one (omega arith) (rw (lt-ltb media (2 ^ 32) hm)) media profile
+    ∙ rw (eq-eqb media media refl)
 
--- ---- the whole compounds
-
--- the second packet of the one, and the block in that of the other
-abbrev feedbackBehind : ℕ → ℕ → ℕ → ℕ → Counts → MaybeFeedback
-feedbackBehind from sender media highest c =
-    let b : List ℕ = emptyRr from ++ feedbackOf sender media highest c in
-    feedbackIn (headerAt b 8) b 8 media
-
+-- the block in the second packet
 abbrev summaryBehind : ℕ → ℕ → Counts → MaybeSummary
 summaryBehind from media c =
-    let b : List ℕ = emptyRr from ++ xrPacket from (summaryOf media c) in
+    let b : List ℕ = receiverReport from ++ xrPacket from (summaryOf media c) in
     summaryIn (blockAt b 16) b 16 media
 
-feedback-scan : (from sender media highest : ℕ) (c : Counts) (profile : Profile)
-    → reading (emptyRr from ++ feedbackOf sender media highest c) media profile
-    ≡ Reading.Read (record {
-      report = MaybeReport.Absent;
-      feedback = firstFeedback (feedbackBehind from sender media highest c ∷ []);
-      summary = MaybeSummary.Absent;
-      reporting = true;
-    })
-unfolding reading flatMap beginsIn blocks headerAt padding paddingRight mayStand bodyRight isReport isFeedback blocksFrom reportIn entryFor feedbackIn word bytes emptyRr feedbackOf countsBytes
-feedback-scan from sender media highest c Profile.Compound = refl
-feedback-scan from sender media highest c Profile.ReducedSize = refl
-
 summary-scan : (from media : ℕ) (c : Counts) (profile : Profile)
-    → reading (emptyRr from ++ xrPacket from (summaryOf media c)) media profile
+    → reading (receiverReport from ++ xrPacket from (summaryOf media c)) media profile
     ≡ Reading.Read (record {
       report = MaybeReport.Absent;
       feedback = MaybeFeedback.Absent;
       summary = firstSummary (summaryBehind from media c ∷ []);
       reporting = true;
     })
-unfolding reading flatMap beginsIn blocks headerAt padding paddingRight mayStand bodyRight isReport isFeedback blocksFrom reportIn entryFor feedbackIn summaryIn blockAt isSummary word bytes emptyRr xrPacket summaryOf countsBytes
+unfolding reading flatMap beginsIn blocks headerAt padding paddingRight mayStand bodyRight isReport isFeedback blocksFrom reportIn entryFor feedbackIn summaryIn blockAt isSummary word bytes receiverReport xrPacket summaryOf countsBytes
 summary-scan from media c Profile.Compound = refl
 summary-scan from media c Profile.ReducedSize = refl
 
--- ---- what is found in them
-
-module _ (from media : ℕ) (c : Counts) (f : Fits c) (m : media < 2 ^ 32) where
-  feedback-found : (sender highest : ℕ) → sender < 2 ^ 32 → highest < 2 ^ 32
-      → feedbackBehind from sender media highest c ≡ MaybeFeedback.Present (record { sender = sender; highest = highest; counts = c })
-  unfolding headerAt feedbackIn isFeedback feedback emptyRr feedbackOf bytes
-  feedback-found sender highest hs hh =
-      let head : List ℕ = emptyRr from ++ bytes 4 0x88CD0007 in
-      let b : List ℕ = emptyRr from ++ feedbackOf sender media highest c in
-      let about : word 4 b 16 ≡ media = field 4 media (head ++ bytes 4 sender) (bytes 4 highest ++ countsBytes c) m in
-      rw (eq-eqb (word 4 b 16) media about)
-      (λ i. MaybeFeedback.Present (record {
-        sender = field 4 sender head (bytes 4 media ++ bytes 4 highest ++ countsBytes c) hs i;
-        highest = field 4 highest (head ++ bytes 4 sender ++ bytes 4 media) (countsBytes c) hh i;
-        counts = counts-back c f (head ++ bytes 4 sender ++ bytes 4 media ++ bytes 4 highest) i;
-      }))
-
-  summary-found : summaryBehind from media c ≡ MaybeSummary.Present c
-  unfolding blockAt summaryIn isSummary entryFor emptyRr xrPacket summaryOf countsBytes word bytes
-  summary-found =
-      let head : List ℕ = emptyRr from ++ bytes 4 0x80CF0007 ++ bytes 4 from ++ bytes 4 0x0D000005 in
-      let b : List ℕ = emptyRr from ++ xrPacket from (summaryOf media c) in
-      let about : word 4 b 20 ≡ media = field 4 media head (countsBytes c) m in
-      rw (eq-eqb (word 4 b 20) media about) (ap MaybeSummary.Present (counts-back c f (head ++ bytes 4 media)))
-
-pub feedback-reads-back : FeedbackReadsBack
-feedback-reads-back s from sender media profile hs hm =
-    feedback-scan from sender media (highestOf s) (countsOf s) profile
-    ∙ ap (λ (f : MaybeFeedback). Reading.Read (record { report = MaybeReport.Absent; feedback = firstFeedback (f ∷ []); summary = MaybeSummary.Absent; reporting = true }))
-    (feedback-found from media (countsOf s) (counts-fit s) hm sender (highestOf s) hs (modulo-lt (2 ^ 32) (omega arith) (s .highest .0)))
+summary-found : (from media : ℕ) (c : Counts) → Fits c → media < 2 ^ 32 → summaryBehind from media c ≡ MaybeSummary.Present c
+unfolding blockAt summaryIn isSummary entryFor receiverReport xrPacket summaryOf countsBytes word bytes
+summary-found from media c f m =
+    let head : List ℕ = receiverReport from ++ bytes 4 0x80CF0007 ++ bytes 4 from ++ bytes 4 0x0D000005 in
+    let b : List ℕ = receiverReport from ++ xrPacket from (summaryOf media c) in
+    let about : word 4 b 20 ≡ media = field 4 media head (countsBytes c) m in
+    rw (eq-eqb (word 4 b 20) media about) (ap MaybeSummary.Present (counts-back c f [] (head ++ bytes 4 media)))
 
 pub summary-reads-back : SummaryReadsBack
 summary-reads-back s from media profile hm =
@@ -166,6 +122,6 @@ summary-reads-back s from media profile hm =
     (summary-found from media (countsOf s) (counts-fit s) hm)
 
 pub nothing-made-up : NothingMadeUp
-unfolding reading flatMap beginsIn blocks headerAt padding paddingRight mayStand bodyRight isReport isFeedback blocksFrom reportIn entryFor feedbackIn word bytes emptyRr
+unfolding reading flatMap beginsIn blocks headerAt padding paddingRight mayStand bodyRight isReport isFeedback blocksFrom reportIn entryFor feedbackIn word bytes receiverReport
 nothing-made-up from media Profile.Compound = refl
 nothing-made-up from media Profile.ReducedSize = refl

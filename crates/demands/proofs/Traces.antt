@@ -60,6 +60,28 @@ pub marks-parts : (us vs : List TruePacket) → Marks us → Marks vs → Marks 
 marks-parts [] vs m n = n
 marks-parts (u ∷ us) vs m n = (m .0, marks-parts us vs (m .1) n)
 
+-- packets in two parts that are what the program sees of some arrivals
+pub record Split (xs ys : List Packet) (vs : List TruePacket) : Type 0 where
+  pub front : List TruePacket
+  pub back : List TruePacket
+  pub is : vs ≡ front ++ back
+  pub first : xs ≡ map ofArrival front
+  pub more : ys ≡ map ofArrival back
+
+pub split : (xs ys : List Packet) (vs : List TruePacket) → xs ++ ys ≡ map ofArrival vs → Split xs ys vs
+split [] ys vs e = record { front = []; back = vs; is = refl; first = refl; more = e }
+split (x ∷ xs) ys [] e = let z : _≡_ {A = ℕ} 0 1 = cc in absurd (omega arith)
+split (x ∷ xs) ys (v ∷ vs) e =
+    let same : x ≡ ofArrival v = cc in
+    let rest = split xs ys vs cc in
+    record {
+      front = v ∷ rest .front;
+      back = rest .back;
+      is = ap (λ (l : List TruePacket). v ∷ l) (rest .is);
+      first = λ i. same i ∷ rest .first i;
+      more = rest .more;
+    }
+
 -- where no mark is above 3 every call brings an arrival
 pub all-arrivals : (ps : List TruePacket) → Marks ps → arrivals ps ≡ ps
 all-arrivals [] m = refl
@@ -101,7 +123,7 @@ good-fit shape (suc n) s g =
     rw (fits, good-fit shape n (drop (width shape) s) (and-right z rest (and-right m (z && rest) g)))
 
 -- calls that are all accepted, counted as a block
-count-accepted : (vs : List TruePacket) (s : Source) (jumps restarts : ℕ) → Marks vs → AnsweredFrom s vs → countAll (map ofArrival vs) s jumps restarts ≡ Counted (runFrom s vs) jumps restarts
+pub count-accepted : (vs : List TruePacket) (s : Source) (jumps restarts : ℕ) → Marks vs → AnsweredFrom s vs → countAll (map ofArrival vs) s jumps restarts ≡ Counted (runFrom s vs) jumps restarts
 unfolding countAll
 count-accepted [] s jumps restarts m a = refl
 count-accepted (v ∷ vs) s jumps restarts m a =

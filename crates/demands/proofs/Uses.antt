@@ -15,6 +15,7 @@ use Rattle.source.proofs.Kept.{sound-stays}
 use Rattle.report.specs.Reports.{feedbackBytes}
 use Rattle.rtcp.specs.declared.Profile.{Profile}
 use Rattle.rtcp.proofs.Profiles.{profiles-agree}
+use Rattle.streams.specs.Compounds.{receiverReport}
 use Rattle.trace.proofs.ReadBack.{label-reads-back, arrivals-read-back}
 use Rattle.trace.proofs.Accepted.{label-is-written, arrivals-are-written}
 use Rattle.trace.proofs.Theorems.{one-check}
@@ -36,7 +37,6 @@ use Rattle.convert.specs.Tables.{ecntable}
 use Rattle.convert.proofs.Steps.{row-room-is-exact}
 use Rattle.convert.proofs.Whole.{calls-print}
 use Rattle.demands.specs.Calls.{run}
-use Rattle.demands.specs.RoundTrip.{emptyRr}
 use Rattle.demands.specs.Witnesses.{wrapped, reordered, c1Packets, text, label, c1Block, block, whole, cut, begun, reported, notLater, heardOn}
 use Rattle.forms.specs.Witnesses.{trace}
 use Rattle.forms.proofs.Witnesses.{met as forms-met}
@@ -80,8 +80,8 @@ used =
     let quiet = never-without-loss (settingsC10 true) (record { used = 1; intervals = record { length = 5000; fraction = 0 } ∷ [] }) (reportC10 31607) refl (omega arith) in
     let feedback = feedback-reads-back (run c1Packets) 5 9 1 Profile.ReducedSize (met .ssrcs .0) (met .ssrcs .1) in
     let summary = summary-reads-back (run c1Packets) 5 1 Profile.ReducedSize (met .ssrcs .1) in
-    let accepted = profiles-agree (emptyRr 5) 1 .accepted _ (met .rr-read) in
-    let refused = profiles-agree (take 6 (emptyRr 5)) 1 .refused PacketSize (λ e. let z : _≡_ {A = ℕ} 0 1 = cc in absurd (omega arith)) (met .rr-cut) in
+    let accepted = profiles-agree (receiverReport 5) 1 .accepted _ (met .rr-read) in
+    let refused = profiles-agree (take 6 (receiverReport 5)) 1 .refused PacketSize (λ e. let z : _≡_ {A = ℕ} 0 1 = cc in absurd (omega arith)) (met .rr-cut) in
     let fits = row-fits text 1 (record { source = run c1Packets; jumped = 3; restarts = 2 }) (met .ssrcs .1) (met .row-accepted) in
     let room = room-is-exact none (feedbackBytes 9 1 (run c1Packets)) (replicate 31 0) 32 (met .room) in
     let row-room = row-room-is-exact begun begun (callNext begun label c1Block) label (replicate 40 0) 41 (met .row-room) in

@@ -3,7 +3,7 @@ use mathlib.Core.Path.{_≡_, refl}
 use mathlib.Core.Bool.{Bool, true, false}
 use mathlib.Core.List.{List, [], _∷_, map, flatMap}
 use mathlib.Core.Option.{none}
-use Prim.Native.Nat.{ℕ, zero, suc, _^_, _<_}
+use Prim.Native.Nat.{ℕ, zero, suc, _^_, _≤_, _<_}
 use lib.ListN.{length, take, drop, replicate}
 use native.Mathlib.Omega.{arith}
 use lib.Count.{ones, onesIn}
@@ -28,6 +28,7 @@ use Rattle.rtcp.specs.declared.Reading.{Reading}
 use Rattle.rtcp.specs.Header.{headerAt, padding}
 use Rattle.rtcp.specs.Packets.{paddingRight, mayStand}
 use Rattle.rtcp.specs.Compound.{beginsIn, blocks, reading}
+use Rattle.streams.specs.Compounds.{receiverReport}
 use Rattle.trace.specs.Checksum.{words, onesAdd, onesSum}
 use Rattle.trace.specs.Contents.{every, labelByte, labelOk, labelBody, countOk, goodRecords, arrivalsBody}
 use Rattle.trace.specs.Layout.{recordBytes, recordsBytes, recordAt, header, filled, checked, labelBlock, arrivalsBlock}
@@ -53,13 +54,17 @@ use Rattle.breaker.specs.declared.Answer.the-variants.{Go, Stop, Refused}
 use Rattle.breaker.specs.declared.Reason.the-variants.{Timeout}
 use Rattle.walk.specs.Blocks as Blocks
 use Rattle.walk.specs.Blocks.{blocksOf}
-use Rattle.walk.specs.Programs.{onward, walk}
+use Rattle.walk.specs.Programs.{onward, walk, walked}
 use Rattle.convert.specs.declared.Step.the-variants as step
 use Rattle.convert.specs.Runs.{startOf as runFrom, nextOf, soundRun, callNext, stepOf, arrived, rowOf}
 use Rattle.convert.specs.Theorems.{taken, ends, EnoughBy}
+use Rattle.mixed.specs.Places.{foundBy, renewedBy, addedBy}
+use Rattle.mixed.specs.Blocks as lines
+use Rattle.mixed.specs.Blocks.{settled}
+use Rattle.mixed.specs.Tables.{ecnstreams}
+use Rattle.mixed.specs.Witnesses.{trace as sources}
 use Rattle.demands.specs.Calls.{run}
 use Rattle.demands.specs.PrintedTable.{Holds}
-use Rattle.demands.specs.RoundTrip.{emptyRr}
 use Rattle.demands.specs.Witnesses.{Met, c1Packets, text, label, c1Block, whole, cut, begun, reported, notLater, heardOn}
 use Rattle.demands.proofs.ReadBack.{nothing-made-up}
 
@@ -77,6 +82,14 @@ whole-held = record { form = One; zeroth = refl; text = refl; others = (5, refl,
 cut-held : Holds cut text 1 c1Packets
 unfolding labelBlock arrivalsBlock recordsOf recordBytes recordsBytes header filled checked bytes words onesAdd onesSum word blockOf rightCheck contentsOf labelBody labelByte every arrivalsBody countOk goodRecords recordsIn recordAt Blocks.cut blocksOf
 cut-held = record { form = One; zeroth = refl; text = refl; others = (2, refl, (3, refl, tt)); records = refl }
+
+some-blocks : 1 ≤ length (blocksOf whole .others)
+unfolding labelBlock arrivalsBlock recordsOf recordBytes recordsBytes header filled checked bytes words onesAdd onesSum word Blocks.cut blocksOf
+some-blocks = leb→le 1 _ tt
+
+none-refused : walked ecnstreams (blocksOf sources) .ended ≡ none
+unfolding labelBlock arrivalsBlock recordsOf recordBytes recordsBytes header filled checked bytes words onesAdd onesSum word blockOf rightCheck contentsOf labelBody labelByte every arrivalsBody countOk goodRecords Blocks.cut blocksOf walk walked onward lines.nextOf settled foundBy renewedBy addedBy
+none-refused = refl
 
 whole-enough : EnoughBy (λ _. replicate 100 0) (blocksOf whole) (runFrom (blocksOf whole .zeroth))
 unfolding labelBlock arrivalsBlock recordsOf recordBytes recordsBytes header filled checked bytes words onesAdd onesSum word blockOf rightCheck contentsOf labelBody labelByte every arrivalsBody countOk goodRecords Blocks.cut blocksOf runFrom nextOf arrived blockCount sound fresh hasCounted packets countAll arrival first counted distance reachOf ahead behind pack marks place moved added rowOf rowBytes asField anySpecial special doubled doubledByte decimal digitsOf signed line lost places ones
@@ -100,8 +113,8 @@ row-accepted : rowFault text (record { source = run c1Packets; jumped = 3; resta
 unfolding rowFault labelOk labelByte every
 row-accepted = rw c1-sound
 
-rr-cut : reading (take 6 (emptyRr 5)) 1 Profile.Compound ≡ Reading.Refused PacketSize
-unfolding reading flatMap beginsIn blocks headerAt padding paddingRight mayStand word bytes emptyRr
+rr-cut : reading (take 6 (receiverReport 5)) 1 Profile.Compound ≡ Reading.Refused PacketSize
+unfolding reading flatMap beginsIn blocks headerAt padding paddingRight mayStand word bytes receiverReport
 rr-cut = refl
 
 record Breaking : Type 0 where
@@ -144,6 +157,9 @@ met = record {
   c1-seen = refl;
   held = whole-held;
   recut = cut-held;
+  whole-bytes = below 256 whole (omega arith) refl;
+  some-blocks = some-blocks;
+  none-refused = none-refused;
   bytes = below 256 (drop blockBytes whole) (omega arith) refl;
   enough = whole-enough;
   ends = refl;

@@ -6,8 +6,12 @@ pub mod Between
 pub mod Demand3
 pub mod PrintedTable
 pub mod BothForms
+pub mod OneStream
+pub mod LinesAreTable
 pub mod Examples
 pub mod BetweenReports
+pub mod EachSource
 pub mod WorseLoss
 pub mod Witnesses
 pub mod WitnessesBetween
+pub mod WitnessesSources

@@ -1,4 +1,5 @@
--- Demand 2, reports: what is written reads back to the same fields (document 01, "Packets": behind an 8-byte RR, the block in an XR packet).
+-- Demand 2, reports: what is written reads back to the same fields (document 01, "Packets": behind an 8-byte RR, the block in an XR packet). The RR is the one
+-- that begins the compound of a table.
 use mathlib.Core.Path.{_≡_}
 use mathlib.Core.Bool.{true}
 use mathlib.Core.List.{List, _++_}
@@ -14,10 +15,7 @@ use Rattle.rtcp.specs.declared.MaybeSummary.{MaybeSummary}
 use Rattle.rtcp.specs.declared.Profile.{Profile}
 use Rattle.rtcp.specs.declared.Reading.{Reading}
 use Rattle.rtcp.specs.Compound.{reading}
-
--- an RR with no report block (RFC 3550, section 6.4.2): version 2, no padding, count 0; type 201; length 1; SSRC
-unfoldable pub emptyRr : ℕ → List ℕ
-emptyRr ssrc = bytes 1 (2 * 64) ++ bytes 1 201 ++ bytes 2 1 ++ bytes 4 ssrc
+use Rattle.streams.specs.Compounds.{receiverReport}
 
 -- an XR packet of one block (RFC 3611, section 2): version 2, no padding; type 207; length; SSRC; the block
 unfoldable pub xrPacket : ℕ → List ℕ → List ℕ
@@ -28,7 +26,7 @@ xrPacket ssrc block = bytes 1 (2 * 64) ++ bytes 1 207 ++ bytes 2 (1 + length blo
 abbrev pub FeedbackReadsBack : Type 0
 FeedbackReadsBack =
     (s : Source) (from sender media : ℕ) (profile : Profile) → sender < 2 ^ 32 → media < 2 ^ 32
-    → reading (emptyRr from ++ feedbackBytes sender media s) media profile
+    → reading (receiverReport from ++ feedbackBytes sender media s) media profile
     ≡ Reading.Read (record {
       report = MaybeReport.Absent;
       feedback = MaybeFeedback.Present (record { sender = sender; highest = highestOf s; counts = countsOf s });
@@ -40,7 +38,7 @@ FeedbackReadsBack =
 abbrev pub SummaryReadsBack : Type 0
 SummaryReadsBack =
     (s : Source) (from media : ℕ) (profile : Profile) → media < 2 ^ 32
-    → reading (emptyRr from ++ xrPacket from (summaryBytes media s)) media profile
+    → reading (receiverReport from ++ xrPacket from (summaryBytes media s)) media profile
     ≡ Reading.Read (record {
       report = MaybeReport.Absent;
       feedback = MaybeFeedback.Absent;
@@ -52,5 +50,5 @@ SummaryReadsBack =
 abbrev pub NothingMadeUp : Type 0
 NothingMadeUp =
     (from media : ℕ) (profile : Profile)
-    → reading (emptyRr from) media profile
+    → reading (receiverReport from) media profile
     ≡ Reading.Read (record { report = MaybeReport.Absent; feedback = MaybeFeedback.Absent; summary = MaybeSummary.Absent; reporting = true })

@@ -23,6 +23,7 @@ use Rattle.rtcp.specs.declared.MaybeSummary.{MaybeSummary}
 use Rattle.rtcp.specs.declared.Profile.{Profile}
 use Rattle.rtcp.specs.declared.Reading.{Reading}
 use Rattle.rtcp.specs.Compound.{reading}
+use Rattle.streams.specs.Compounds.{receiverReport}
 use Rattle.trace.specs.Contents.{labelOk}
 use Rattle.trace.specs.Layout.{labelBlock, arrivalsBlock}
 use Rattle.trace.specs.Reading.{rightCheck, blockOf}
@@ -42,16 +43,17 @@ use Rattle.breaker.specs.HeardPackets.{untimed, Unheard}
 use Rattle.breaker.specs.Soundness as Breakers
 use Rattle.breaker.specs.Theorems.{Typed, numberFits}
 use Rattle.walk.specs.Blocks.{blocksOf}
-use Rattle.walk.specs.Programs.{walk}
+use Rattle.walk.specs.Programs.{walk, walked}
 use Rattle.convert.specs.declared.Run.{Run}
 use Rattle.convert.specs.declared.Step.the-variants as step
 use Rattle.convert.specs.Runs.{startOf as runFrom, callNext, stepOf}
 use Rattle.convert.specs.Tables.{ecntable}
 use Rattle.convert.specs.Theorems.{EnoughBy}
+use Rattle.mixed.specs.Tables.{ecnstreams}
+use Rattle.mixed.specs.Witnesses.{trace as sources}
 use Rattle.demands.specs.Calls.{TruePacket, wireOf, arrivals, run, Described}
 use Rattle.demands.specs.Count.{baseOf, SameArrivals}
 use Rattle.demands.specs.PrintedTable.{Holds}
-use Rattle.demands.specs.RoundTrip.{emptyRr}
 use Rattle.demands.specs.Examples.{c1, reportNumber}
 
 -- ---- lists of calls
@@ -121,6 +123,11 @@ pub record Met : Type 0 where
   -- TableHoldsCount and SameLastRow
   pub held : Holds whole text 1 c1Packets
   pub recut : Holds cut text 1 c1Packets
+  -- OneStream, with the label and the blocks of `held`
+  pub whole-bytes : Below 256 whole
+  pub some-blocks : 1 ≤ length (blocksOf whole .others)
+  -- LinesAreTable
+  pub none-refused : walked ecnstreams (blocksOf sources) .ended ≡ none
   -- CallsPrint
   pub bytes : Below 256 (drop blockBytes whole)
   pub enough : EnoughBy (λ _. replicate 100 0) (blocksOf whole) (runFrom (blocksOf whole .zeroth))
@@ -162,9 +169,9 @@ pub record Met : Type 0 where
   -- FeedbackReadsBack, SummaryReadsBack: the sender's SSRC and the media SSRC
   pub ssrcs : (9 < 2 ^ 32) × (1 < 2 ^ 32)
   -- ProfilesAgree: an RR is read, and refused with 4 where its last bytes are cut off
-  pub rr-read : reading (emptyRr 5) 1 Profile.Compound
+  pub rr-read : reading (receiverReport 5) 1 Profile.Compound
       ≡ Reading.Read (record { report = MaybeReport.Absent; feedback = MaybeFeedback.Absent; summary = MaybeSummary.Absent; reporting = true })
-  pub rr-cut : reading (take 6 (emptyRr 5)) 1 Profile.Compound ≡ Reading.Refused PacketSize
+  pub rr-cut : reading (take 6 (receiverReport 5)) 1 Profile.Compound ≡ Reading.Refused PacketSize
   -- RowFits
   pub row-accepted : rowFault text (record { source = run c1Packets; jumped = 3; restarts = 2 }) ≡ none
   -- RoomIsExact, RowRoomIsExact: C1's feedback packet and its row, each with one byte too few

@@ -4,3 +4,7 @@ pub mod Pairs
 pub mod Restored
 pub mod Parts
 pub mod Witnesses
+pub mod PlaceRuns
+pub mod Alike
+pub mod Taking
+pub mod TableLaws

@@ -7,19 +7,20 @@ use native.Mathlib.Nat.{mod-eq-of-lt}
 use native.Mathlib.Decide.{decLe}
 use native.Mathlib.Omega.{arith}
 use borrow.Author.Tests.{eqb-true, ltb-true, ne-eqb, le-leb}
-use lib.Dec.{eqb, leb, leb→le, ltb→lt}
+use lib.Dec.{eqb, leb, leb→le, ltb→lt, lt→ltb}
 use lib.IntN.{ℤ, pos, negsuc}
-use lib.ListN.{length, getD, drop, drop-of-length-le}
-use lib.Seq.{drop-cons}
+use lib.ListN.{length, getD, take, drop}
+use lib.Seq.{take-all, drop-cons}
 use Rattle.numbers.specs.Integers.{modulo}
 use Rattle.numbers.specs.Since.{signed}
-use Rattle.numbers.proofs.Integers.{minus-neg}
+use Rattle.numbers.proofs.Integers.{eqZ-eq, minus-neg}
 use Rattle.numbers.proofs.Differences.{signed-low, signed-high}
-use Rattle.answers.proofs.Conditions.{and-left}
+use Rattle.answers.proofs.Conditions.{and-left, all-true, true-is}
 use Rattle.source.specs.declared.Remembered.{Remembered}
 use Rattle.source.specs.declared.Remembered.the-variants.{Nothing, Number}
 use Rattle.source.specs.declared.Source.{Source}
-use Rattle.source.specs.Record.{wireNumber}
+use Rattle.source.specs.Record.{arrivals, distinct, zeros, fresh, sound, wireNumber}
+use Rattle.source.proofs.Facts.{facts, sound-has-counted}
 use Rattle.lent.specs.declared.source_words.Loaded.the-variants.{Held, Malformed}
 use Rattle.lent.specs.SourceWords.{rememberedWord, rememberedIn, sourceWith, sourceOf, isSource, loaded, sourceWords, FitsWord, RecordBack, WordsBack}
 
@@ -47,7 +48,7 @@ word-back w h = go (decLe (2 ^ 63) w)
 
 -- ---- what is remembered
 
-remembered-back : (r : Remembered) → wireNumber r ≡ true → (rememberedIn (rememberedWord r) ≡ r) × (rememberedWord r ≤ 65536)
+pub remembered-back : (r : Remembered) → wireNumber r ≡ true → (rememberedIn (rememberedWord r) ≡ r) × (rememberedWord r ≤ 65536)
 remembered-back Nothing e = (refl, omega arith)
 remembered-back (Number wire) e =
     let same : wire .0 + 1 - 1 ≡ wire .0 = omega arith in
@@ -90,18 +91,40 @@ elements : List ℕ → ℕ → ℕ → List ℕ
 elements l i zero = []
 elements l i (suc n) = getD l i 0 ∷ elements l (suc i) n
 
-elements-all : (l : List ℕ) (i n : ℕ) → length l ≡ i + n → drop i l ≡ elements l i n
+elements-are : (l : List ℕ) (i n : ℕ) → i + n ≤ length l → take n (drop i l) ≡ elements l i n
 unfolding elements
-elements-all l i zero h = drop-of-length-le l {i = i} (omega arith)
-elements-all l i (suc n) h =
+elements-are l i zero h = refl
+elements-are l i (suc n) h =
     let k : i < length l = omega arith in
-    drop-cons l i 0 k ∙ ap (λ (t : List ℕ). getD l i 0 ∷ t) (elements-all l (suc i) n (omega arith))
+    ap (take (suc n)) (drop-cons l i 0 k) ∙ ap (λ (t : List ℕ). getD l i 0 ∷ t) (elements-are l (suc i) n (omega arith))
+
+-- the words of the record in the first 10 of some words
+pub words-front : (words : List ℕ) → 10 ≤ length words → getD words 0 0 < 2 ^ 64 → getD words 1 0 < 2 ^ 64 → sourceWords (sourceOf words) ≡ take 10 words
+unfolding sourceWith sourceWords elements
+words-front words long base highest =
+    ap₂ (λ (x y : ℕ). x ∷ y ∷ (elements words 2 7 ++ (rememberedWord (rememberedIn (getD words 9 0)) ∷ []))) (word-back (getD words 0 0) base) (word-back (getD words 1 0) highest)
+    ∙ ap (λ (z : ℕ). getD words 0 0 ∷ getD words 1 0 ∷ (elements words 2 7 ++ (z ∷ []))) (remembered-word (getD words 9 0))
+    ∙ sym (elements-are words 0 10 long)
 
 pub words-back : WordsBack
-unfolding sourceWith sourceWords elements
 words-back words s base highest e =
     let h = held words e in
-    ap sourceWords (h .2)
-    ∙ ap₂ (λ (x y : ℕ). x ∷ y ∷ (elements words 2 7 ++ (rememberedWord (rememberedIn (getD words 9 0)) ∷ []))) (word-back (getD words 0 0) base) (word-back (getD words 1 0) highest)
-    ∙ ap (λ (z : ℕ). getD words 0 0 ∷ getD words 1 0 ∷ (elements words 2 7 ++ (z ∷ []))) (remembered-word (getD words 9 0))
-    ∙ sym (elements-all words 0 10 (h .0))
+    ap sourceWords (h .2) ∙ words-front words (omega (arith, h .0)) base highest ∙ take-all 10 words (omega (arith, h .0))
+
+-- ---- a sound record's words read back
+
+fits : (n : ℕ) {z : ℤ} → z ≡ pos n → n < 2 ^ 63 → FitsWord z
+fits n e h = rw e (record { least = record { le = tt }; most = record { lt = lt→ltb n (2 ^ 63) h } })
+
+pub sound-back : (s : Source) → sound s ≡ true → wireNumber (s .remembered) ≡ true → loaded (sourceWords s) ≡ Held s
+unfolding fresh
+sound-back s e n = go (fresh s) refl
+  where
+    go : (b : Bool) → fresh s ≡ b → loaded (sourceWords s) ≡ Held s
+    go true f =
+        record-back s (fits 0 (eqZ-eq (s .base .0) (pos 0) (true-is _ (all-true (zeros s) 0 f))) (omega arith))
+        (fits 0 (eqZ-eq (s .highest .0) (pos 0) (true-is _ (all-true (zeros s) 1 f))) (omega arith)) n
+    go false f =
+        let k = facts s (sound-has-counted s e f) in
+        let d : distinct s ≤ arrivals s = omega arith in
+        record-back s (fits (k .low) (k .base) (omega (arith, k .wire))) (fits (k .high) (k .highest) (omega (arith, k .spread, k .most, k .wire))) n

@@ -3,3 +3,5 @@ pub mod CompoundWords
 pub mod BreakerWords
 pub mod Witnesses
 pub mod EcnWords
+pub mod TableWords
+pub mod TableReads

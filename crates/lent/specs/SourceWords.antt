@@ -4,7 +4,7 @@
 use mathlib.Core.Path.{_≡_}
 use mathlib.Core.Bool.{Bool, true, cond, _&&_}
 use mathlib.Core.List.{List, [], _∷_}
-use Prim.Native.Nat.{ℕ, _+_, _-_, _^_, _<_}
+use Prim.Native.Nat.{ℕ, _+_, _-_, _^_, _<_, min}
 use lib.Dec.{eqb, leb}
 use lib.IntN.{ℤ, pos, negℤ}
 use lib.ListN.{length, getD}
@@ -42,6 +42,10 @@ sourceWith words remembered = record {
 
 abbrev pub sourceOf : List ℕ → Source
 sourceOf words = sourceWith words (rememberedIn (getD words 9 0))
+
+-- whatever the last word is: one above 65,536 counts as 65,536
+abbrev pub sourceNear : List ℕ → Source
+sourceNear words = sourceWith words (rememberedIn (min (getD words 9 0) 65536))
 
 -- 10 words, of which the last is at most a wire number + 1, are a record's
 abbrev pub isSource : List ℕ → Bool

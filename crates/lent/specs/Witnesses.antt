@@ -1,7 +1,8 @@
--- The hypotheses of the read-back laws can be met: words of a source's and of a breaker's record, and what they meet, by theorem.
+-- The hypotheses of the read-back laws can be met: words of a source's record, a table and a breaker's record, and what they meet, by theorem.
 use mathlib.Core.Path.{_≡_}
 use mathlib.Core.Bool.{true}
-use mathlib.Core.List.{List, [], _∷_, _++_}
+use mathlib.Core.List.{List, [], _∷_, _++_, map}
+use mathlib.Core.Option.{none}
 use Prim.Native.Nat.{ℕ, _-_, _^_, _<_}
 use lib.ListN.{length, getD, replicate}
 use Rattle.answers.specs.Conditions.{all}
@@ -9,11 +10,22 @@ use Rattle.breaker.specs.Theorems.{Typed}
 use Rattle.source.specs.Record.{wireNumber}
 use Rattle.lent.specs.declared.source_words.Loaded.the-variants.{Held}
 use Rattle.lent.specs.SourceWords.{sourceOf, loaded, FitsWord}
+use Rattle.streams.specs.Rules.{fault}
+use Rattle.lent.specs.TableWords as table
+use Rattle.lent.specs.TableWords.{placesIn, typedPlace}
+use Rattle.lent.specs.declared.table_words.Answer.the-variants.{Taken}
 use Rattle.lent.specs.BreakerWords.{breakerOf, wordsFit}
 
 -- base -1, as its two's complement, highest 65536, and number 65535 remembered
 abbrev pub someSource : List ℕ
 someSource = (2 ^ 64 - 1) ∷ 65536 ∷ 0 ∷ 0 ∷ 1 ∷ 1 ∷ 0 ∷ 5 ∷ 0 ∷ 65536 ∷ []
+
+-- three places, of which two are held: 65535 of source 7 came, with mark 2, and a jump after it; 100 of the source with the highest SSRC, with mark 3
+abbrev pub someTable : List ℕ
+someTable =
+    (7 ∷ 65535 ∷ 65535 ∷ 0 ∷ 0 ∷ 1 ∷ 0 ∷ 0 ∷ 1 ∷ 0 ∷ 65536 ∷ [])
+    ++ ((2 ^ 32 - 1) ∷ 100 ∷ 100 ∷ 0 ∷ 0 ∷ 0 ∷ 1 ∷ 0 ∷ 1 ∷ 0 ∷ 0 ∷ [])
+    ++ replicate 11 0
 
 -- with the full equation, stopped by the media rule, in a trial, a packet heard after the last report, with two intervals in its window
 abbrev pub someBreaker : List ℕ
@@ -27,6 +39,11 @@ pub record Met : Type 0 where
   pub source-held : loaded someSource ≡ Held (sourceOf someSource)
   pub base-word : getD someSource 0 0 < 2 ^ 64
   pub highest-word : getD someSource 1 0 < 2 ^ 64
+  -- TableBack, TableWordsBack
+  pub table-good : fault (placesIn someTable) ≡ none
+  pub table-typed : all (map typedPlace (placesIn someTable)) ≡ true
+  pub table-bits : (i : ℕ) → getD someTable i 0 < 2 ^ 64
+  pub table-taken : table.loaded someTable .answer ≡ Taken
   -- BreakerRestored, WordsRestored
   pub breaker-typed : Typed (breakerOf someBreaker)
   pub breaker-long : length someBreaker ≡ 77

@@ -5,3 +5,4 @@ pub mod breaker_words;
 pub mod compound_words;
 pub mod ecn_words;
 pub mod source_words;
+pub mod table_words;

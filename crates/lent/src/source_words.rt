@@ -11,7 +11,7 @@ use source::Source;
 ghost use mathlib.Core.Path.{_≡_};
 ghost use Prim.Native.Nat.{_≤_};
 ghost use lib.Seq.{sets};
-ghost use Rattle.lent.specs.SourceWords.{rememberedIn, rememberedWord, sourceWith, loaded, sourceWords};
+ghost use Rattle.lent.specs.SourceWords.{rememberedIn, rememberedWord, sourceWith, sourceNear, loaded, sourceWords};
 
 // The words of a record.
 pub const WORDS: usize = 10;
@@ -80,15 +80,26 @@ pub fn load(words: &[u64]) -> Loaded
     Loaded::Held(source_with(words, remembered_in(last)))
 }
 
-// Stores a record in the first 10 words.
-pub fn store(s: Source, words: &mut [u64])
-    ensures { λ _. ⌜ now (words .exit) ≡ sets (now (words .entry)) 0 (sourceWords s) ⌝ }
+// The record in the first 10 words, whatever the last is: one above 65,536 is read as 65,536.
+pub fn read(words: &[u64]) -> Source
+    ensures { λ r. ⌜ r ≡ sourceNear (now (words .entry)) ⌝ }
+{
+    let last = word_at(words, 9);
+    if last <= MOST_REMEMBERED {
+        return source_with(words, remembered_in(last));
+    }
+    source_with(words, remembered_in(MOST_REMEMBERED))
+}
+
+// The 10 words of a record.
+pub fn words_of(s: Source) -> [u64; 10]
+    ensures { λ r. ⌜ r ≡ sourceWords s ⌝ }
 {
     let base = s.base;
     let highest = s.highest;
     let history = s.history;
     let remembered = s.remembered;
-    let new = [
+    [
         complement(base.0),
         complement(highest.0),
         s.notect,
@@ -99,6 +110,13 @@ pub fn store(s: Source, words: &mut [u64])
         history.recent,
         history.older,
         word_of(remembered),
-    ];
+    ]
+}
+
+// Stores a record in the first 10 words.
+pub fn store(s: Source, words: &mut [u64])
+    ensures { λ _. ⌜ now (words .exit) ≡ sets (now (words .entry)) 0 (sourceWords s) ⌝ }
+{
+    let new = words_of(s);
     put_all(&new, words, 0);
 }

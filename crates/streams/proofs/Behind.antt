@@ -148,14 +148,14 @@ module _ (ps : List Place) (ssrc width : ℕ) (bytes : List ℕ) (o : (i : ℕ) 
   abbrev start : Source
   start = recordOf ssrc ps
 
-  in-limits : all (inLimits width bytes) ≡ true
+  pub in-limits : all (inLimits width bytes) ≡ true
   in-limits = go (all (inLimits width bytes)) (f .inside)
     where
       go : (b : Bool) → not b ≡ false → b ≡ true
       go true e = refl
       go false e = sym e
 
-  counted-is : blockCount start width bytes ≡ countAll (packets width (length bytes / width) bytes) start 0 0
+  pub counted-is : blockCount start width bytes ≡ countAll (packets width (length bytes / width) bytes) start 0 0
   unfolding blockCount
   counted-is = rw (record-sound ssrc ps (f .good), in-limits)
 

@@ -14,7 +14,7 @@ use Rattle.answers.specs.declared.Refusal.the-variants.{Malformed, Rules}
 use Rattle.answers.proofs.Conditions.{all-false, all-true}
 use Rattle.streams.specs.declared.Place.{Place}
 use Rattle.streams.specs.declared.Table.{Table}
-use Rattle.streams.specs.declared.rules.Checked.the-variants.{Held, Refused}
+use Rattle.streams.specs.declared.Checked.the-variants.{Held, Refused}
 use Rattle.streams.specs.Places.{empty, soundPlace, heldOf, restOf}
 use Rattle.streams.specs.Rules.{mostPlaces, rising, rules, allSound, fault}
 use Rattle.streams.specs.Tables.{lent, over, faultIn}

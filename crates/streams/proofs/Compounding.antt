@@ -27,14 +27,14 @@ use Rattle.streams.proofs.Turns.{one-left, none-left}
 
 -- ---- lengths
 
-feedback-long : (sender media : ℕ) (s : Source) → length (feedbackBytes sender media s) ≡ 32
+pub feedback-long : (sender media : ℕ) (s : Source) → length (feedbackBytes sender media s) ≡ 32
 feedback-long sender media s = length-feedback sender media (highestOf s) (countsOf s)
 
-report-long : (sender : ℕ) → length (receiverReport sender) ≡ 8
+pub report-long : (sender : ℕ) → length (receiverReport sender) ≡ 8
 unfolding receiverReport bytes
 report-long sender = refl
 
-feedbacks-long : (sender : ℕ) (ps : List Place) → length (feedbacks sender ps) ≡ 32 * length ps
+pub feedbacks-long : (sender : ℕ) (ps : List Place) → length (feedbacks sender ps) ≡ 32 * length ps
 unfolding feedbacks
 feedbacks-long sender [] = refl
 feedbacks-long sender (p ∷ ps) =

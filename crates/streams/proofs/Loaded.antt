@@ -7,7 +7,7 @@ use Prim.Native.Nat.{ℕ, suc, _≤_}
 use native.Mathlib.Omega.{arith}
 use borrow.Author.Tests.{ltb-true, lt-leb}
 use lib.Dec.{ltb, eqb}
-use lib.ListN.{length, take, drop, length-append, length-take}
+use lib.ListN.{length, drop, length-append, length-take}
 use lib.Seq.{take-at}
 use Rattle.answers.specs.declared.Refusal.{Refusal}
 use Rattle.answers.specs.declared.Refusal.the-variants.{Rules}
@@ -84,18 +84,24 @@ module _ (ps : List Place) where
     over-stored = rw over-loaded
 
   module _ (o : ltb mostPlaces (length ps) ≡ false) where
-    few-loaded : over (loaded ps) ≡ false
+    pub few-loaded : over (loaded ps) ≡ false
     few-loaded = ap (ltb mostPlaces) loaded-count ∙ o
 
-    few-lent : lent (loaded ps) ≡ ps
+    pub few-lent : lent (loaded ps) ≡ ps
     unfolding loaded
     few-lent = rw o (take-at ps (drop (length ps) (emptyTable (length ps) .places)) (length ps) refl)
 
+    pub few-fault : faultIn (loaded ps) ≡ fault ps
+    unfolding faultIn
+    few-fault = rw few-loaded (ap fault few-lent)
+
+    -- as many other places
+    pub few-behind : (qs : List Place) → length qs ≡ length ps → lent (withLent (loaded ps) qs) ≡ qs
+    few-behind qs e = take-at qs _ (loaded ps .count) (e ∙ sym loaded-count)
+
     few-stored : (qs : List Place) → length qs ≡ length ps → stored (withLent (loaded ps) qs) ps ≡ qs
     unfolding stored
-    few-stored qs e =
-        let back : take (loaded ps .count) (qs ++ drop (loaded ps .count) (loaded ps .places)) ≡ qs = take-at qs _ (loaded ps .count) (e ∙ sym loaded-count) in
-        rw (few-loaded, back) (sets-all qs ps e)
+    few-stored qs e = rw (few-loaded, few-behind qs e) (sets-all qs ps e)
 
 -- ---- one arrival
 
@@ -122,6 +128,11 @@ module _ (ps : List Place) (ssrc : ℕ) (wire : Wire) (mark : ℕ) where
       go : (b : Bool) → ltb mostPlaces (length ps) ≡ b → ArrivedBack (arrivedIn (loaded ps) ssrc wire mark)
       go true o = back-over o
       go false o = back-few o
+
+  -- the places in use behind the call
+  pub arrived-lent : ltb mostPlaces (length ps) ≡ false → lent (arrivedIn (loaded ps) ssrc wire mark .table) ≡ arrivePlaces ps ssrc wire mark
+  unfolding arrivedIn
+  arrived-lent o = rw (few-loaded ps o, few-lent ps o) (few-behind ps o (arrivePlaces ps ssrc wire mark) (arrive-long ps ssrc wire mark))
 
   pub arrived-back : (t : Table) (r : TableArrived) → t ≡ loaded ps → r ≡ arrivedIn t ssrc wire mark → ArrivedBack r
   arrived-back t r et er = rw (er, et) back
@@ -152,6 +163,11 @@ module _ (ps : List Place) (ssrc width : ℕ) (bytes : List ℕ) where
       go true o = block-over o
       go false o = block-few o
 
+  -- the places in use behind the call
+  pub counted-lent : ltb mostPlaces (length ps) ≡ false → lent (countedIn (loaded ps) ssrc width bytes .table) ≡ countPlaces ps ssrc width bytes
+  unfolding countedIn
+  counted-lent o = rw (few-loaded ps o, few-lent ps o) (few-behind ps o (countPlaces ps ssrc width bytes) (count-long ps ssrc width bytes))
+
   pub counted-back : (t : Table) (r : TableCounted) → t ≡ loaded ps → r ≡ countedIn t ssrc width bytes → CountedBack r
   counted-back t r et er = rw (er, et) block
 
@@ -170,8 +186,7 @@ module _ (ps : List Place) (sender : ℕ) (old : List ℕ) {answer : Written} {o
 
   compound-few : ltb mostPlaces (length ps) ≡ false → Wrote (faultIn (loaded ps)) (compoundBytes sender (lent (loaded ps))) old answer out
       → Wrote (fault ps) (compoundBytes sender ps) old answer out
-  unfolding faultIn
-  compound-few o w = wrote-same (rw (few-loaded ps o) (ap fault (few-lent ps o))) (ap (compoundBytes sender) (few-lent ps o)) w
+  compound-few o w = wrote-same (few-fault ps o) (ap (compoundBytes sender) (few-lent ps o)) w
 
   pub compound-back : (t : Table) → t ≡ loaded ps → Wrote (faultIn t) (compoundBytes sender (lent t)) old answer out → Wrote (fault ps) (compoundBytes sender ps) old answer out
   compound-back t et w = go (ltb mostPlaces (length ps)) refl (rw et at w)

@@ -12,8 +12,8 @@ use Rattle.streams.specs.declared.Stand.{Stand}
 use Rattle.streams.specs.declared.Table.{Table}
 use Rattle.streams.specs.declared.Counted.the-variants as counted
 use Rattle.streams.specs.declared.TableCounted.{TableCounted}
-use Rattle.streams.specs.declared.rules.Checked.{Checked}
-use Rattle.streams.specs.declared.rules.Checked.the-variants.{Held, Refused}
+use Rattle.streams.specs.declared.Checked.{Checked}
+use Rattle.streams.specs.declared.Checked.the-variants.{Held, Refused}
 use Rattle.streams.specs.Places.{heldOf}
 use Rattle.streams.specs.Tables.{lent, faultIn}
 use Rattle.streams.specs.Seats.{putAt}

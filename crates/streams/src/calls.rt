@@ -1,5 +1,6 @@
 // The calls on a table by value.
 use crate::Arrived;
+use crate::Checked;
 use crate::Counted;
 use crate::Place;
 use crate::Stand;
@@ -7,7 +8,6 @@ use crate::Table;
 use crate::TableArrived;
 use crate::TableCounted;
 use crate::rules;
-use crate::rules::Checked;
 use crate::stands;
 use answers::Refusal;
 use format::Wire;

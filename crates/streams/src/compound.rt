@@ -1,7 +1,7 @@
 // The compound of a table: an RR without report blocks, and the held places' feedback.
+use crate::Checked;
 use crate::Table;
 use crate::rules;
-use crate::rules::Checked;
 use answers::Written;
 use numbers::big_endian::write32;
 ghost use mathlib.Core.Path.{_≡_};

@@ -7,6 +7,7 @@ ghost use Rattle.streams.specs.Rules.{fault};
 ghost use Rattle.streams.specs.Answers.{arriveAnswer, arrivePlaces, countAnswer, countPlaces};
 ghost use Rattle.streams.specs.Compounds.{compoundBytes};
 ghost use Rattle.streams.specs.Tables.{emptyTable, lent, faultIn, arrivedIn, countedIn};
+ghost use Rattle.streams.specs.Checks.{checkedIn};
 
 mod calls;
 mod compound;
@@ -29,6 +30,12 @@ pub struct Place {
 pub struct Table {
     pub places: [Place; 16],
     pub count: usize,
+}
+
+// How many places are held, all in front; or the refusal.
+pub enum Checked {
+    Held(usize),
+    Refused(Refusal),
 }
 
 // The answer to an arrival.
@@ -85,6 +92,13 @@ impl Table {
             places: [place; 16],
             count,
         }
+    }
+
+    // Which of the places in use are held: the first so many. Refusals: 16 table against the rules, 9 a malformed record.
+    pub fn check(self) -> Checked
+        ensures { λ r. ⌜ r ≡ checkedIn self ⌝ }
+    {
+        rules::check(self)
     }
 
     // Counts one arrival of an SSRC. Refusals: 16 table against the rules, 9 a malformed record, 10 mark above 3, 15 no place left, 8 full, 7 jump.

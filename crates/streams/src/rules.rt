@@ -1,4 +1,5 @@
 // Whether a table keeps the rules, and its held records are sound.
+use crate::Checked;
 use crate::Place;
 use crate::Table;
 use answers::Refusal;
@@ -11,12 +12,6 @@ ghost use Rattle.streams.specs.Places.{held, empty, soundPlace, heldOf};
 ghost use Rattle.streams.specs.Rules.{rising};
 ghost use Rattle.streams.specs.Tables.{lent};
 ghost use Rattle.streams.specs.Checks.{checkedIn};
-
-// How many places are held, all in front; or the refusal.
-pub enum Checked {
-    Held(usize),
-    Refused(Refusal),
-}
 
 // Whether a place is held: some mark is counted.
 fn is_held(p: Place) -> bool

@@ -1,0 +1,32 @@
+-- The hypotheses of CallsPrint can be met: a trace of two sources, lent words and outputs that meet them all.
+use mathlib.Core.List.{List, [], _∷_, _++_}
+use Prim.Native.Nat.{ℕ, _*_, _≤_}
+use lib.ListN.{length, drop, replicate}
+use Rattle.format.specs.Blocks.{blockBytes}
+use Rattle.format.specs.Forms.{shapeOf}
+use Rattle.format.specs.declared.Form.the-variants.{One}
+use Rattle.trace.specs.Layout.{labelBlock, arrivalsBlock}
+use Rattle.trace.specs.Theorems.{Below}
+use Rattle.trace.specs.Writing.{recordsOf}
+use Rattle.walk.specs.Blocks.{blocksOf}
+use Rattle.mixed.specs.Blocks.{mostLines}
+use Rattle.mixed.specs.Theorems.{callsOver, EnoughBy}
+
+-- the label of SSRC 9, then arrivals of SSRC 2, of SSRC 1, with a jump, and of SSRC 2 again
+abbrev pub trace : List ℕ
+trace =
+    labelBlock (shapeOf One) (65 ∷ []) 9
+    ++ (arrivalsBlock (shapeOf One) (recordsOf (0 ∷ 20 ∷ []) (65535 ∷ 0 ∷ []) (2 ∷ 3 ∷ [])) 2
+    ++ (arrivalsBlock (shapeOf One) (recordsOf (0 ∷ 30 ∷ []) (7 ∷ 30000 ∷ []) (1 ∷ 1 ∷ [])) 1
+    ++ arrivalsBlock (shapeOf One) (recordsOf (40 ∷ []) (2 ∷ []) (0 ∷ [])) 2))
+
+abbrev pub words : List ℕ
+words = replicate 208 0
+
+abbrev pub outs : ℕ → List ℕ
+outs i = replicate 100 0
+
+pub record Met : Type 0 where
+  pub bytes : Below 256 (drop blockBytes trace)
+  pub room : 13 * mostLines ≤ length words
+  pub enough : EnoughBy outs (blocksOf trace .zeroth) (callsOver trace words)
