@@ -36,8 +36,9 @@ static uint16_t report_marked(uint64_t *breaker, uint64_t time, uint32_t highest
 
     if (refusal != 0)
         return FLASKNIB_REFUSED + refusal;
-    printf("lost %d, marked %d, expected %d\n", (int)counts[0], (int)counts[1], (int)counts[2]);
-    return flasknib_breaker_report_ecn(breaker, FLASKNIB_BREAKER_WORDS, time, highest, (int64_t)counts[0], counts[1], counts[2], 100, 1000, rate);
+    printf("lost %d, marked %d, expected %d\n", (int)counts[FLASKNIB_ECN_LOST], (int)counts[FLASKNIB_ECN_MARKED], (int)counts[FLASKNIB_ECN_EXPECTED]);
+    return flasknib_breaker_report_ecn(breaker, FLASKNIB_BREAKER_WORDS, time, highest, (int64_t)counts[FLASKNIB_ECN_LOST],
+                                       counts[FLASKNIB_ECN_MARKED], counts[FLASKNIB_ECN_EXPECTED], 100, 1000, rate);
 }
 
 /* Three reports at `rate` bytes per second with the full throughput equation; the last answer. */
@@ -76,7 +77,7 @@ int main(void)
     print_answer("full equation, 31606 bytes/s", with_full_equation(31606));
     print_answer("full equation, 31607 bytes/s", with_full_equation(31607));
 
-    faster[5] = 4;
+    faster[FLASKNIB_BREAKER_STATE] = 4;
     print_answer("tick in state 4", flasknib_breaker_tick(faster, FLASKNIB_BREAKER_WORDS, 30000));
     return 0;
 }

@@ -8,7 +8,7 @@
 #include "flasknib.h"
 
 static const uint16_t wires[] = {65534, 65535, 0, 0, 3};
-static const uint8_t marks[] = {2, 2, 3, 3, 1};
+static const uint8_t marks[] = {FLASKNIB_MARK_ECT0, FLASKNIB_MARK_ECT0, FLASKNIB_MARK_CE, FLASKNIB_MARK_CE, FLASKNIB_MARK_ECT1};
 static const uint8_t rebooted[] = {0x75, 0x30, 2, 0, 0x75, 0x31, 2, 0, 0x75, 0x32, 3, 0}; /* 30000, 30001, 30002, in records of 4 bytes */
 static const char label[] = "probe 2, left";
 static const uint32_t media = 1, sender = 9;
@@ -53,12 +53,12 @@ int main(void)
             return answer;
     }
 
-    printf("highest %" PRId64 "\n", (int64_t)source[1]);
-    printf("ECT(0) %" PRIu64 "\n", source[4]);
-    printf("ECT(1) %" PRIu64 "\n", source[3]);
-    printf("CE %" PRIu64 "\n", source[5]);
-    printf("not-ECT %" PRIu64 "\n", source[2]);
-    printf("duplicates %" PRIu64 "\n", source[6]);
+    printf("highest %" PRId64 "\n", (int64_t)source[FLASKNIB_SOURCE_HIGHEST]);
+    printf("ECT(0) %" PRIu64 "\n", source[FLASKNIB_SOURCE_ECT0]);
+    printf("ECT(1) %" PRIu64 "\n", source[FLASKNIB_SOURCE_ECT1]);
+    printf("CE %" PRIu64 "\n", source[FLASKNIB_SOURCE_CE]);
+    printf("not-ECT %" PRIu64 "\n", source[FLASKNIB_SOURCE_NOT_ECT]);
+    printf("duplicates %" PRIu64 "\n", source[FLASKNIB_SOURCE_DUPLICATES]);
 
     print_words("feedback", feedback, flasknib_write_feedback(source, FLASKNIB_SOURCE_WORDS, sender, media, feedback, sizeof feedback));
     print_words("summary", summary, flasknib_write_summary(source, FLASKNIB_SOURCE_WORDS, media, summary, sizeof summary));

@@ -12,10 +12,31 @@
 #include <stddef.h>
 #include <stdint.h>
 
+#ifdef __cplusplus
+extern "C" {
+#endif
+
+/* The library's version. While the first number is 0, another second number may change or remove what is declared here. */
+#define FLASKNIB_VERSION_MAJOR 0
+#define FLASKNIB_VERSION_MINOR 1
+#define FLASKNIB_VERSION_PATCH 0
+#define FLASKNIB_VERSION_STRING "0.1.0"
+
+/* ---- what a caller owes ----------------------------------------------------------------------------------------------------------
+ * A pointer and the count behind it (words, length, room, n_...) describe memory that the caller lends for the call. What is promised holds where
+ *   - no pointer is null, not even where its count is 0: lend any address then (in C++, data() of an empty vector may be null);
+ *   - all of that memory can be read, and written where the pointer is not to const;
+ *   - each pointer is aligned for its type: 8 bytes for words and times, 2 for numbers;
+ *   - what can be written overlaps nothing else that is lent in the same call: a label inside `out` gives a wrong row. Parts that are only
+ *     read may overlap.
+ * The library keeps nothing between calls: no heap, no global state, no I/O, no lock. Calls may run at once in several threads where none writes
+ * what another uses, so with a record to each thread. Of the C library it uses memcpy and its like, and nothing else.
+ */
+
 /* Refusals. */
 enum {
     FLASKNIB_INCOMPLETE = 1,    /* empty input, a header cut off, not one whole block */
-    FLASKNIB_VERSION = 2,       /* the version is not 2 */
+    FLASKNIB_RTP_VERSION = 2,   /* the version in an RTCP header is not 2 */
     FLASKNIB_FIRST_PACKET = 3,  /* the first packet is no SR or RR */
     FLASKNIB_PACKET_SIZE = 4,   /* a packet passes the end, or does not have its body's size */
     FLASKNIB_PADDING = 5,       /* the padding is wrong, or not in the last packet */
@@ -62,6 +83,22 @@ enum {
  * forgets the remembered number; one that is refused with 9, 10 or 8 does not.
  */
 #define FLASKNIB_SOURCE_WORDS 10
+
+/* The places of the words. The history is two words. */
+enum {
+    FLASKNIB_SOURCE_BASE = 0,
+    FLASKNIB_SOURCE_HIGHEST = 1,
+    FLASKNIB_SOURCE_NOT_ECT = 2,
+    FLASKNIB_SOURCE_ECT1 = 3,
+    FLASKNIB_SOURCE_ECT0 = 4,
+    FLASKNIB_SOURCE_CE = 5,
+    FLASKNIB_SOURCE_DUPLICATES = 6,
+    FLASKNIB_SOURCE_HISTORY = 7,
+    FLASKNIB_SOURCE_REMEMBERED = 9
+};
+
+/* The marks, as the two bits of the IP header have them (RFC 3168): ECT(1) is 1, ECT(0) is 2. Another mark is refused with 10. */
+enum { FLASKNIB_MARK_NOT_ECT = 0, FLASKNIB_MARK_ECT1 = 1, FLASKNIB_MARK_ECT0 = 2, FLASKNIB_MARK_CE = 3 };
 
 /* What flasknib_arrive and flasknib_table_arrive answer for a restart. It is no refusal: the arrival is counted. */
 enum { FLASKNIB_RESTARTED = 128 };
@@ -126,6 +163,37 @@ uint8_t flasknib_table_place(const uint64_t *table, size_t words, size_t place, 
  */
 #define FLASKNIB_COMPOUND_WORDS 24
 
+/* The places of the words. REPORT, FEEDBACK, SUMMARY and SR_OR_RR say whether it is there. */
+enum {
+    FLASKNIB_COMPOUND_REPORT = 0,
+    FLASKNIB_COMPOUND_REPORT_FRACTION = 1,
+    FLASKNIB_COMPOUND_REPORT_LOST = 2,
+    FLASKNIB_COMPOUND_REPORT_HIGHEST = 3,
+    FLASKNIB_COMPOUND_REPORT_JITTER = 4,
+    FLASKNIB_COMPOUND_REPORT_LSR = 5,
+    FLASKNIB_COMPOUND_REPORT_DLSR = 6,
+    FLASKNIB_COMPOUND_FEEDBACK = 7,
+    FLASKNIB_COMPOUND_FEEDBACK_SENDER = 8,
+    FLASKNIB_COMPOUND_FEEDBACK_HIGHEST = 9,
+    FLASKNIB_COMPOUND_FEEDBACK_ECT0 = 10,
+    FLASKNIB_COMPOUND_FEEDBACK_ECT1 = 11,
+    FLASKNIB_COMPOUND_FEEDBACK_CE = 12,
+    FLASKNIB_COMPOUND_FEEDBACK_NOT_ECT = 13,
+    FLASKNIB_COMPOUND_FEEDBACK_LOST = 14,
+    FLASKNIB_COMPOUND_FEEDBACK_DUPLICATES = 15,
+    FLASKNIB_COMPOUND_SUMMARY = 16,
+    FLASKNIB_COMPOUND_SUMMARY_ECT0 = 17,
+    FLASKNIB_COMPOUND_SUMMARY_ECT1 = 18,
+    FLASKNIB_COMPOUND_SUMMARY_CE = 19,
+    FLASKNIB_COMPOUND_SUMMARY_NOT_ECT = 20,
+    FLASKNIB_COMPOUND_SUMMARY_LOST = 21,
+    FLASKNIB_COMPOUND_SUMMARY_DUPLICATES = 22,
+    FLASKNIB_COMPOUND_SR_OR_RR = 23
+};
+
+/* The bytes of the longest compound; a longer one is refused with 10. */
+#define FLASKNIB_COMPOUND_MOST_BYTES 65507
+
 /* Which compounds are taken. FLASKNIB_COMPOUND: those that begin with an SR or an RR (RFC 3550, section 6.1); any other is refused with 3.
  * FLASKNIB_REDUCED_SIZE: reduced-size ones too (RFC 5506), which need not have an SR or an RR; 3 is not given. What the first takes has the same
  * words under the second. A packet without an SR or an RR (word 23 is 0) must not enter the congestion rule (RFC 8083, section 5). */
@@ -137,6 +205,9 @@ uint8_t flasknib_read_compound(const uint8_t *bytes, size_t length, uint32_t med
 
 /* 3 words of what came between two ECN reports: packets lost (signed), packets marked with CE, packets expected. */
 #define FLASKNIB_ECN_WORDS 3
+
+/* The places of the words. */
+enum { FLASKNIB_ECN_LOST = 0, FLASKNIB_ECN_MARKED = 1, FLASKNIB_ECN_EXPECTED = 2 };
 
 /* What came between two ECN reports of one receiver about one source, the earlier and the later one, each with the highest number, the packets
  * marked with CE and the packets lost as the packets carry them: of ECN feedback words 9, 12 and 14 of the compound; of a summary entry words 19
@@ -160,9 +231,61 @@ uint8_t flasknib_ecn_between(uint32_t earlier_highest, uint16_t earlier_ce, uint
  */
 #define FLASKNIB_BREAKER_WORDS 77
 
+/* The places of the words. Interval i, 0 for the newest, has its length at INTERVALS + 2 * i and its fraction lost behind that. */
+enum {
+    FLASKNIB_BREAKER_K = 0,
+    FLASKNIB_BREAKER_M = 1,
+    FLASKNIB_BREAKER_TIMEOUT = 2,
+    FLASKNIB_BREAKER_REDUCE = 3,
+    FLASKNIB_BREAKER_FULL = 4,
+    FLASKNIB_BREAKER_STATE = 5,
+    FLASKNIB_BREAKER_LAST = 6,
+    FLASKNIB_BREAKER_HEARD = 7,
+    FLASKNIB_BREAKER_REPORTED = 8,
+    FLASKNIB_BREAKER_HIGHEST = 9,
+    FLASKNIB_BREAKER_RUN = 10,
+    FLASKNIB_BREAKER_TRIAL = 11,
+    FLASKNIB_BREAKER_USED = 12,
+    FLASKNIB_BREAKER_INTERVALS = 13
+};
+
+/* The greatest value of each argument; the next one is refused with 10. The least is 1 for k, m, timeout and size, and 0 for the others.
+ *   k         intervals over which the congestion rule takes the losses
+ *   m         reports in a row whose highest number is not ahead, after which the breaker stops
+ *   timeout   ms without a report or a heard packet, after which it stops
+ *   time      ms of any clock that does not go back, below 2^48
+ *   fraction  of the packets of an interval lost, in 256ths, as a report block has it
+ *   rtt       the round trip in ms
+ *   size      the bytes of a packet
+ *   rate      the bytes sent per second; a report with 0 empties the window and is not tested
+ *   marked, expected, and lost on both sides of 0: packets, 2^31 */
+#define FLASKNIB_BREAKER_MOST_K 32
+#define FLASKNIB_BREAKER_MOST_M 32
+#define FLASKNIB_BREAKER_MOST_TIMEOUT 600000
+#define FLASKNIB_BREAKER_MOST_TIME UINT64_C(281474976710655)
+#define FLASKNIB_BREAKER_MOST_FRACTION 255
+#define FLASKNIB_BREAKER_MOST_RTT 60000
+#define FLASKNIB_BREAKER_MOST_SIZE 65535
+#define FLASKNIB_BREAKER_MOST_RATE 125000000
+#define FLASKNIB_BREAKER_MOST_PACKETS INT64_C(2147483648)
+
+/* The preset of the settings: 3 intervals, 3 reports, 15,000 ms, no reduction, the simplified equation. */
+#define FLASKNIB_PRESET_K 3
+#define FLASKNIB_PRESET_M 3
+#define FLASKNIB_PRESET_TIMEOUT 15000
+#define FLASKNIB_PRESET_REDUCE 0
+#define FLASKNIB_PRESET_FULL 0
+
+/* The reasons of a stop: no report and no heard packet for the timeout; m reports with no new number; a rate above ten times the throughput
+ * equation. */
+enum { FLASKNIB_REASON_TIMEOUT = 1, FLASKNIB_REASON_MEDIA = 2, FLASKNIB_REASON_CONGESTION = 3 };
+
 /* What a breaker call answers: FLASKNIB_GO, FLASKNIB_REDUCE, FLASKNIB_STOP + reason (1 timeout, 2 media, 3 congestion), or
- * FLASKNIB_REFUSED + refusal. */
-enum { FLASKNIB_GO = 0, FLASKNIB_REDUCE = 1, FLASKNIB_STOP = 0x100, FLASKNIB_REFUSED = 0x200 };
+ * FLASKNIB_REFUSED + refusal. (No enum: C++20 does not add two.) */
+#define FLASKNIB_GO 0
+#define FLASKNIB_REDUCE 1
+#define FLASKNIB_STOP 0x100
+#define FLASKNIB_REFUSED 0x200
 
 /* Starts a breaker: Go and the record, or refusal 10, or 12 where `breaker` has fewer than 77 words. `reduce` and `full` are 0 or 1, else refusal
  * 10. With `full` the congestion rule takes the full throughput equation (RFC 8083, section 4.3, with b = 1 and t_RTO = 4 * Tr), which reacts
@@ -196,11 +319,23 @@ uint16_t flasknib_breaker_heard(uint64_t *breaker, size_t words, uint64_t time);
 /* 3 words of a block: its kind; the label's length or the number of records; the SSRC. */
 #define FLASKNIB_BLOCK_WORDS 3
 
+/* The places of the words. */
+enum { FLASKNIB_BLOCK_KIND = 0, FLASKNIB_BLOCK_COUNT = 1, FLASKNIB_BLOCK_SSRC = 2 };
+
 /* The kinds of a block. Those of form 1 are 1 and 2, those of form 2 are 3 and 4. */
 enum { FLASKNIB_LABEL_ONE = 1, FLASKNIB_ARRIVALS_ONE = 2, FLASKNIB_LABEL_TWO = 3, FLASKNIB_ARRIVALS_TWO = 4 };
 
 /* The bytes of every block. */
 #define FLASKNIB_BLOCK_BYTES 512
+
+/* The bytes of the longest label; by form the bytes of a record and the records of a full block. The label or the first record stands at byte
+ * 8 of its block. */
+#define FLASKNIB_LABEL_MOST_BYTES 502
+#define FLASKNIB_RECORD_ONE_BYTES 8
+#define FLASKNIB_RECORD_TWO_BYTES 10
+#define FLASKNIB_ARRIVALS_ONE_MOST 62
+#define FLASKNIB_ARRIVALS_TWO_MOST 50
+#define FLASKNIB_BLOCK_BODY 8
 
 /* Reads a block of 512 bytes, of either form. Gives 0 and 3 words at the front of `found`, or refusal 1, 13 or 14, or 12 where `found` has fewer
  * words. */
@@ -224,5 +359,9 @@ int64_t flasknib_write_head(uint8_t *out, size_t room);
 #define FLASKNIB_ROW_MOST_BYTES 1228
 int64_t flasknib_write_row(const uint8_t *label, size_t length, uint32_t ssrc, const uint64_t *source, size_t words, uint64_t jumped,
                            uint64_t restarts, uint8_t *out, size_t room);
+
+#ifdef __cplusplus
+}
+#endif
 
 #endif

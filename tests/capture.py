@@ -2,6 +2,7 @@
 
 Each line has a compound (RR, ECN feedback, XR with an ECN summary block) in hexadecimal, its sender SSRC and its media SSRC.
 """
+import itertools
 import shutil
 import struct
 import subprocess
@@ -20,12 +21,13 @@ def udp(payload):
     return header + struct.pack("!HHHH", PORT, PORT, 8 + len(payload), 0) + payload
 
 
-def write_pcap(path, payloads):
-    """Link type 101: each packet begins with its IP header."""
+def write_pcap(path, payloads, captured=()):
+    """Link type 101: each packet begins with its IP header. Of the first packets so many bytes are captured, of the others all."""
     with open(path, "wb") as file:
         file.write(struct.pack("!IHHiIII", 0xA1B2C3D4, 2, 4, 0, 0, 65535, 101))
-        for second, packet in enumerate(map(udp, payloads)):
-            file.write(struct.pack("!IIII", second, 0, len(packet), len(packet)) + packet)
+        for second, (packet, most) in enumerate(itertools.zip_longest(map(udp, payloads), captured)):
+            there = packet[:most]
+            file.write(struct.pack("!IIII", second, 0, len(there), len(packet)) + there)
 
 
 def tshark(*words):
@@ -81,4 +83,5 @@ def main(lines, path):
     print(f"capture: {len(written)} compounds, tshark marks none as malformed and shows what was written in {', '.join(shown)}")
 
 
-main(*sys.argv[1:])
+if __name__ == "__main__":
+    main(*sys.argv[1:])

@@ -1,0 +1,74 @@
+# make            proves and compiles the programs and the library; needs the Rattle toolchain, whose `rt` must be on the path
+# make install    copies what make built below PREFIX (/usr/local), for a package below DESTDIR; needs no toolchain
+# make sums       target/SHA256SUMS, the sums of what make built
+# make deb        a Debian package of what make install installs
+PREFIX ?= /usr/local
+DESTDIR ?=
+
+VERSION := $(shell cat VERSION)
+# The programs are the crates over `shell`.
+PROGRAMS := $(shell awk -F: '($$2 " ") ~ / shell / { print $$1 }' crates.txt)
+
+binaries := $(PROGRAMS:%=target/bin/%)
+archive := target/staticlib/libcapi.a
+static := target/lib/libflasknib.a
+# While the version begins with 0, its second number may change the functions: it is in the soname.
+soname := libflasknib.so.$(basename $(VERSION))
+shared := target/lib/libflasknib.so.$(VERSION)
+manual := $(PROGRAMS:%=man/%.1) man/ecn.1
+built := $(binaries) $(static) $(shared) target/man/flasknib.3 target/SHA256SUMS
+to := $(DESTDIR)$(PREFIX)
+
+.PHONY: all built install sums deb programs
+.DELETE_ON_ERROR:
+
+all:
+	rt check $(PROGRAMS)
+	rt staticlib capi
+	$(MAKE) built
+
+built: $(built)
+
+sums: target/SHA256SUMS
+
+deb: $(built)
+	packaging/deb
+
+programs:
+	@echo $(PROGRAMS)
+
+$(binaries) $(archive):
+	@echo "$@ is not there: run make first" >&2; exit 1
+
+$(static): $(archive)
+	@mkdir -p $(@D)
+	cp $< $@
+
+$(shared): $(static) VERSION
+	$(CC) -shared -nostartfiles -Wl,-soname,$(soname) -Wl,-z,defs -Wl,-z,text -Wl,-z,noexecstack \
+		-Wl,--whole-archive $(static) -Wl,--no-whole-archive -o $@
+
+target/man/flasknib.3: man/flasknib.3 include/flasknib.h packaging/synopsis
+	@mkdir -p $(@D)
+	packaging/synopsis include/flasknib.h man/flasknib.3 >$@
+
+target/SHA256SUMS: $(binaries) $(static) $(shared) packaging/sums
+	cd target && ../packaging/sums $(PROGRAMS:%=bin/%) $(static:target/%=%) $(shared:target/%=%) >SHA256SUMS
+
+install: $(built)
+	install -d $(to)/bin $(to)/include $(to)/lib/pkgconfig $(to)/share/man/man1 $(to)/share/man/man3 $(to)/share/doc/flasknib \
+		$(to)/share/flasknib/ecnlib
+	install -m 755 $(binaries) $(to)/bin
+	install -m 644 include/flasknib.h $(to)/include
+	install -m 644 $(static) $(shared) $(to)/lib
+	ln -sf $(notdir $(shared)) $(to)/lib/$(soname)
+	ln -sf $(soname) $(to)/lib/libflasknib.so
+	sed 's|@PREFIX@|$(PREFIX)|; s|@VERSION@|$(VERSION)|' packaging/flasknib.pc.in >$(to)/lib/pkgconfig/flasknib.pc
+	chmod 644 $(to)/lib/pkgconfig/flasknib.pc
+	install -m 644 $(manual) $(to)/share/man/man1
+	install -m 644 target/man/flasknib.3 $(to)/share/man/man3
+	install -m 644 target/SHA256SUMS $(to)/share/doc/flasknib
+	install -m 644 tools/wireshark/ecn.lua $(to)/share/flasknib
+	install -m 644 tools/ecnlib/*.py $(to)/share/flasknib/ecnlib
+	install -m 755 tools/ecn $(to)/share/flasknib
+	ln -sf ../share/flasknib/ecn $(to)/bin/ecn

@@ -1,0 +1,417 @@
+/* constants: the numbers of flasknib.h, asked of the library. Compiled as C and as C++. Prints each check that does not hold, and a last line. */
+#include <stdio.h>
+#include <string.h>
+
+#include "flasknib.h"
+
+static int checks, failures;
+
+static void check(int holds, const char *what, int line)
+{
+    checks++;
+    if (!holds) {
+        failures++;
+        printf("constants.c:%d: %s\n", line, what);
+    }
+}
+#define CHECK(what) check((what), #what, __LINE__)
+
+enum { SSRC = 0x1234567, SENDER = 9 };
+
+/* Numbers 10 to 19 without 18, and 10 again: 4 not-ECT, 3 ECT(1), 2 ECT(0) and 1 CE. */
+static void counted(uint64_t *source)
+{
+    static const uint8_t marks[] = {FLASKNIB_MARK_NOT_ECT, FLASKNIB_MARK_NOT_ECT, FLASKNIB_MARK_NOT_ECT, FLASKNIB_MARK_NOT_ECT, FLASKNIB_MARK_ECT1,
+                                    FLASKNIB_MARK_ECT1,    FLASKNIB_MARK_ECT1,    FLASKNIB_MARK_ECT0,    FLASKNIB_MARK_ECT0,    FLASKNIB_MARK_CE};
+    static const uint16_t wires[] = {10, 11, 12, 13, 14, 15, 16, 17, 19, 10};
+
+    memset(source, 0, FLASKNIB_SOURCE_WORDS * sizeof *source);
+    for (size_t i = 0; i < sizeof marks; i++)
+        CHECK(flasknib_arrive(source, FLASKNIB_SOURCE_WORDS, wires[i], marks[i]) == 0);
+}
+
+static void sources(void)
+{
+    uint64_t source[FLASKNIB_SOURCE_WORDS + 1] = {0};
+
+    CHECK(flasknib_arrive(source, FLASKNIB_SOURCE_WORDS - 1, 1, 0) == FLASKNIB_MALFORMED);
+    CHECK(flasknib_arrive(source, FLASKNIB_SOURCE_WORDS + 1, 1, 0) == FLASKNIB_MALFORMED);
+    counted(source);
+    CHECK(source[FLASKNIB_SOURCE_BASE] == 10);
+    CHECK(source[FLASKNIB_SOURCE_HIGHEST] == 19);
+    CHECK(source[FLASKNIB_SOURCE_NOT_ECT] == 4);
+    CHECK(source[FLASKNIB_SOURCE_ECT1] == 3);
+    CHECK(source[FLASKNIB_SOURCE_ECT0] == 2);
+    CHECK(source[FLASKNIB_SOURCE_CE] == 1);
+    CHECK(source[FLASKNIB_SOURCE_DUPLICATES] == 1);
+    CHECK(source[FLASKNIB_SOURCE_HISTORY] == 0x3fd);
+    CHECK(source[FLASKNIB_SOURCE_HISTORY + 1] == 0);
+    CHECK(source[FLASKNIB_SOURCE_REMEMBERED] == 0);
+    CHECK(flasknib_arrive(source, FLASKNIB_SOURCE_WORDS, 20, FLASKNIB_MARK_CE + 1) == FLASKNIB_LIMITS);
+    CHECK(flasknib_arrive(source, FLASKNIB_SOURCE_WORDS, 30000, 0) == FLASKNIB_JUMP);
+    CHECK(source[FLASKNIB_SOURCE_REMEMBERED] == 30001 + 1);
+    CHECK(flasknib_arrive(source, FLASKNIB_SOURCE_WORDS, 30001, 0) == FLASKNIB_RESTARTED);
+}
+
+/* Records of 4 bytes: a jump, a jump, and the number behind it, which restarts. */
+static void jumps(void)
+{
+    static const uint8_t records[] = {0x20, 0, 0, 0, 0x40, 0, 0, 0, 0x40, 1, 0, 0};
+    uint64_t source[FLASKNIB_SOURCE_WORDS];
+    int64_t answer;
+
+    counted(source);
+    answer = flasknib_count_block(source, FLASKNIB_SOURCE_WORDS, records, sizeof records, 4);
+    CHECK(FLASKNIB_BLOCK_JUMPS(answer) == 2);
+    CHECK(FLASKNIB_BLOCK_RESTARTS(answer) == 1);
+}
+
+/* A record of 2^48 arrivals, all of number 5 with ECT(0). */
+static void full_source(void)
+{
+    uint64_t source[FLASKNIB_SOURCE_WORDS] = {0};
+
+    source[FLASKNIB_SOURCE_BASE] = source[FLASKNIB_SOURCE_HIGHEST] = 5;
+    source[FLASKNIB_SOURCE_ECT0] = UINT64_C(1) << 48;
+    source[FLASKNIB_SOURCE_DUPLICATES] = (UINT64_C(1) << 48) - 1;
+    source[FLASKNIB_SOURCE_HISTORY] = 1;
+    CHECK(flasknib_arrive(source, FLASKNIB_SOURCE_WORDS, 6, 0) == FLASKNIB_FULL);
+    source[FLASKNIB_SOURCE_HISTORY] = 0;
+    CHECK(flasknib_arrive(source, FLASKNIB_SOURCE_WORDS, 6, 0) == FLASKNIB_MALFORMED);
+}
+
+static void big_endian(uint8_t *at, uint32_t number)
+{
+    for (int i = 0; i < 4; i++)
+        at[i] = (uint8_t)(number >> (24 - 8 * i));
+}
+
+enum { RR_BYTES = 32, XR_AT = RR_BYTES + FLASKNIB_FEEDBACK_BYTES, COMPOUND = XR_AT + 8 + FLASKNIB_SUMMARY_BYTES };
+
+/* An RR with a block of the numbers 0x51, -2, 3 to 6, ECN feedback and an ECN summary, all about SSRC. */
+static void compound(uint8_t *bytes)
+{
+    static const uint32_t words[] = {0x81c90007, SENDER, SSRC, 0x51fffffe, 3, 4, 5, 6};
+    uint64_t source[FLASKNIB_SOURCE_WORDS];
+    int64_t written;
+
+    counted(source);
+    for (size_t i = 0; i < RR_BYTES / 4; i++)
+        big_endian(bytes + 4 * i, words[i]);
+    written = flasknib_write_feedback(source, FLASKNIB_SOURCE_WORDS, SENDER, SSRC, bytes + RR_BYTES, FLASKNIB_FEEDBACK_BYTES);
+    CHECK(written == FLASKNIB_FEEDBACK_BYTES);
+    big_endian(bytes + XR_AT, 0x80cf0007);
+    big_endian(bytes + XR_AT + 4, SENDER);
+    written = flasknib_write_summary(source, FLASKNIB_SOURCE_WORDS, SSRC, bytes + XR_AT + 8, FLASKNIB_SUMMARY_BYTES);
+    CHECK(written == FLASKNIB_SUMMARY_BYTES);
+}
+
+static void compound_words(void)
+{
+    static const uint64_t minus_two = (uint64_t)INT64_C(-2);
+    uint8_t bytes[COMPOUND];
+    uint64_t found[FLASKNIB_COMPOUND_WORDS];
+
+    compound(bytes);
+    CHECK(flasknib_read_compound(bytes, COMPOUND, SSRC, FLASKNIB_COMPOUND, found, FLASKNIB_COMPOUND_WORDS - 1) == FLASKNIB_ROOM);
+    CHECK(flasknib_read_compound(bytes, COMPOUND, SSRC, FLASKNIB_COMPOUND, found, FLASKNIB_COMPOUND_WORDS) == 0);
+    CHECK(found[FLASKNIB_COMPOUND_REPORT] == 1);
+    CHECK(found[FLASKNIB_COMPOUND_REPORT_FRACTION] == 0x51);
+    CHECK(found[FLASKNIB_COMPOUND_REPORT_LOST] == minus_two);
+    CHECK(found[FLASKNIB_COMPOUND_REPORT_HIGHEST] == 3);
+    CHECK(found[FLASKNIB_COMPOUND_REPORT_JITTER] == 4);
+    CHECK(found[FLASKNIB_COMPOUND_REPORT_LSR] == 5);
+    CHECK(found[FLASKNIB_COMPOUND_REPORT_DLSR] == 6);
+    CHECK(found[FLASKNIB_COMPOUND_FEEDBACK] == 1);
+    CHECK(found[FLASKNIB_COMPOUND_FEEDBACK_SENDER] == SENDER);
+    CHECK(found[FLASKNIB_COMPOUND_FEEDBACK_HIGHEST] == 19);
+    CHECK(found[FLASKNIB_COMPOUND_FEEDBACK_ECT0] == 2);
+    CHECK(found[FLASKNIB_COMPOUND_FEEDBACK_ECT1] == 3);
+    CHECK(found[FLASKNIB_COMPOUND_FEEDBACK_CE] == 1);
+    CHECK(found[FLASKNIB_COMPOUND_FEEDBACK_NOT_ECT] == 4);
+    CHECK(found[FLASKNIB_COMPOUND_FEEDBACK_LOST] == 1);
+    CHECK(found[FLASKNIB_COMPOUND_FEEDBACK_DUPLICATES] == 1);
+    CHECK(found[FLASKNIB_COMPOUND_SUMMARY] == 1);
+    CHECK(found[FLASKNIB_COMPOUND_SUMMARY_ECT0] == 2);
+    CHECK(found[FLASKNIB_COMPOUND_SUMMARY_ECT1] == 3);
+    CHECK(found[FLASKNIB_COMPOUND_SUMMARY_CE] == 1);
+    CHECK(found[FLASKNIB_COMPOUND_SUMMARY_NOT_ECT] == 4);
+    CHECK(found[FLASKNIB_COMPOUND_SUMMARY_LOST] == 1);
+    CHECK(found[FLASKNIB_COMPOUND_SUMMARY_DUPLICATES] == 1);
+    CHECK(found[FLASKNIB_COMPOUND_SR_OR_RR] == 1);
+}
+
+/* The answer about a compound with one byte changed. */
+static uint8_t changed(size_t at, uint8_t byte)
+{
+    uint8_t bytes[COMPOUND];
+    uint64_t found[FLASKNIB_COMPOUND_WORDS];
+
+    compound(bytes);
+    bytes[at] = byte;
+    return flasknib_read_compound(bytes, COMPOUND, SSRC, FLASKNIB_COMPOUND, found, FLASKNIB_COMPOUND_WORDS);
+}
+
+static void compound_refusals(void)
+{
+    static uint8_t longest[FLASKNIB_COMPOUND_MOST_BYTES + 1];
+    uint64_t found[FLASKNIB_COMPOUND_WORDS];
+
+    CHECK(flasknib_read_compound(longest, 0, SSRC, FLASKNIB_COMPOUND, found, FLASKNIB_COMPOUND_WORDS) == FLASKNIB_INCOMPLETE);
+    CHECK(flasknib_read_compound(longest, sizeof longest - 1, SSRC, FLASKNIB_COMPOUND, found, FLASKNIB_COMPOUND_WORDS) == FLASKNIB_RTP_VERSION);
+    CHECK(flasknib_read_compound(longest, sizeof longest, SSRC, FLASKNIB_COMPOUND, found, FLASKNIB_COMPOUND_WORDS) == FLASKNIB_LIMITS);
+    CHECK(changed(0, 0x41) == FLASKNIB_RTP_VERSION);
+    CHECK(changed(1, 0xcf) == FLASKNIB_FIRST_PACKET);
+    CHECK(changed(3, 0xff) == FLASKNIB_PACKET_SIZE);
+    CHECK(changed(0, 0xa1) == FLASKNIB_PADDING);
+    CHECK(changed(XR_AT + 8 + 3, 6) == FLASKNIB_BLOCK_SIZE);
+    CHECK(flasknib_read_compound(longest, 4, SSRC, FLASKNIB_REDUCED_SIZE + 1, found, FLASKNIB_COMPOUND_WORDS) == FLASKNIB_LIMITS);
+    longest[0] = 0x80;
+    CHECK(flasknib_read_compound(longest, 4, SSRC, FLASKNIB_COMPOUND, found, FLASKNIB_COMPOUND_WORDS) == FLASKNIB_FIRST_PACKET);
+    CHECK(flasknib_read_compound(longest, 4, SSRC, FLASKNIB_REDUCED_SIZE, found, FLASKNIB_COMPOUND_WORDS) == 0);
+}
+
+static void ecn_counts(void)
+{
+    uint64_t counts[FLASKNIB_ECN_WORDS];
+
+    CHECK(flasknib_ecn_between(5, 6, 7, 8, 8, 8, counts, FLASKNIB_ECN_WORDS - 1) == FLASKNIB_ROOM);
+    CHECK(flasknib_ecn_between(5, 6, 7, 8, 8, 8, counts, FLASKNIB_ECN_WORDS) == 0);
+    CHECK(counts[FLASKNIB_ECN_LOST] == 1);
+    CHECK(counts[FLASKNIB_ECN_MARKED] == 2);
+    CHECK(counts[FLASKNIB_ECN_EXPECTED] == 3);
+}
+
+static uint16_t started(uint64_t k, uint64_t m, uint64_t timeout, uint8_t reduce, uint8_t full, uint64_t time)
+{
+    uint64_t breaker[FLASKNIB_BREAKER_WORDS];
+    return flasknib_breaker_start(k, m, timeout, reduce, full, time, breaker, FLASKNIB_BREAKER_WORDS);
+}
+
+enum { REFUSED = FLASKNIB_REFUSED + FLASKNIB_LIMITS };
+
+static void start_limits(void)
+{
+    CHECK(started(FLASKNIB_PRESET_K, FLASKNIB_PRESET_M, FLASKNIB_PRESET_TIMEOUT, FLASKNIB_PRESET_REDUCE, FLASKNIB_PRESET_FULL, 0) == FLASKNIB_GO);
+    CHECK(started(FLASKNIB_BREAKER_MOST_K, FLASKNIB_BREAKER_MOST_M, FLASKNIB_BREAKER_MOST_TIMEOUT, 1, 1, FLASKNIB_BREAKER_MOST_TIME) == FLASKNIB_GO);
+    CHECK(started(1, 1, 1, 0, 0, 0) == FLASKNIB_GO);
+    CHECK(started(0, 1, 1, 0, 0, 0) == REFUSED);
+    CHECK(started(1, 0, 1, 0, 0, 0) == REFUSED);
+    CHECK(started(1, 1, 0, 0, 0, 0) == REFUSED);
+    CHECK(started(FLASKNIB_BREAKER_MOST_K + 1, 1, 1, 0, 0, 0) == REFUSED);
+    CHECK(started(1, FLASKNIB_BREAKER_MOST_M + 1, 1, 0, 0, 0) == REFUSED);
+    CHECK(started(1, 1, FLASKNIB_BREAKER_MOST_TIMEOUT + 1, 0, 0, 0) == REFUSED);
+    CHECK(started(1, 1, 1, 2, 0, 0) == REFUSED);
+    CHECK(started(1, 1, 1, 0, 2, 0) == REFUSED);
+    CHECK(started(1, 1, 1, 0, 0, FLASKNIB_BREAKER_MOST_TIME + 1) == REFUSED);
+}
+
+/* The answer of a breaker of the preset, started at 0, to a report at 10. */
+static uint16_t reported(uint64_t fraction, uint64_t rtt, uint64_t size, uint64_t rate)
+{
+    uint64_t breaker[FLASKNIB_BREAKER_WORDS];
+
+    flasknib_breaker_start(FLASKNIB_PRESET_K, FLASKNIB_PRESET_M, FLASKNIB_PRESET_TIMEOUT, 0, 0, 0, breaker, FLASKNIB_BREAKER_WORDS);
+    return flasknib_breaker_report(breaker, FLASKNIB_BREAKER_WORDS, 10, 1, fraction, rtt, size, rate);
+}
+
+static uint16_t reported_ecn(int64_t lost, uint64_t marked, uint64_t expected)
+{
+    uint64_t breaker[FLASKNIB_BREAKER_WORDS];
+
+    flasknib_breaker_start(FLASKNIB_PRESET_K, FLASKNIB_PRESET_M, FLASKNIB_PRESET_TIMEOUT, 0, 0, 0, breaker, FLASKNIB_BREAKER_WORDS);
+    return flasknib_breaker_report_ecn(breaker, FLASKNIB_BREAKER_WORDS, 10, 1, lost, marked, expected, 1, 1, 1);
+}
+
+static void report_limits(void)
+{
+    CHECK(reported(FLASKNIB_BREAKER_MOST_FRACTION, FLASKNIB_BREAKER_MOST_RTT, FLASKNIB_BREAKER_MOST_SIZE, FLASKNIB_BREAKER_MOST_RATE) == FLASKNIB_GO);
+    CHECK(reported(0, 0, 1, 0) == FLASKNIB_GO);
+    CHECK(reported(FLASKNIB_BREAKER_MOST_FRACTION + 1, 0, 1, 0) == REFUSED);
+    CHECK(reported(0, FLASKNIB_BREAKER_MOST_RTT + 1, 1, 0) == REFUSED);
+    CHECK(reported(0, 0, 0, 0) == REFUSED);
+    CHECK(reported(0, 0, FLASKNIB_BREAKER_MOST_SIZE + 1, 0) == REFUSED);
+    CHECK(reported(0, 0, 1, FLASKNIB_BREAKER_MOST_RATE + 1) == REFUSED);
+    CHECK(reported_ecn(FLASKNIB_BREAKER_MOST_PACKETS, FLASKNIB_BREAKER_MOST_PACKETS, FLASKNIB_BREAKER_MOST_PACKETS) == FLASKNIB_GO);
+    CHECK(reported_ecn(-FLASKNIB_BREAKER_MOST_PACKETS, 0, 0) == FLASKNIB_GO);
+    CHECK(reported_ecn(FLASKNIB_BREAKER_MOST_PACKETS + 1, 0, 0) == REFUSED);
+    CHECK(reported_ecn(-FLASKNIB_BREAKER_MOST_PACKETS - 1, 0, 0) == REFUSED);
+    CHECK(reported_ecn(0, FLASKNIB_BREAKER_MOST_PACKETS + 1, 0) == REFUSED);
+    CHECK(reported_ecn(0, 0, FLASKNIB_BREAKER_MOST_PACKETS + 1) == REFUSED);
+}
+
+/* Each word of a breaker that has had two reports and a heard packet. */
+static void breaker_words(void)
+{
+    uint64_t breaker[FLASKNIB_BREAKER_WORDS + 1];
+
+    CHECK(flasknib_breaker_start(5, 6, 7000, 1, 0, 10, breaker, FLASKNIB_BREAKER_WORDS - 1) == FLASKNIB_REFUSED + FLASKNIB_ROOM);
+    CHECK(flasknib_breaker_start(5, 6, 7000, 1, 0, 10, breaker, FLASKNIB_BREAKER_WORDS) == FLASKNIB_GO);
+    CHECK(flasknib_breaker_tick(breaker, FLASKNIB_BREAKER_WORDS - 1, 10) == FLASKNIB_REFUSED + FLASKNIB_MALFORMED);
+    breaker[FLASKNIB_BREAKER_WORDS] = 0;
+    CHECK(flasknib_breaker_tick(breaker, FLASKNIB_BREAKER_WORDS + 1, 10) == FLASKNIB_REFUSED + FLASKNIB_MALFORMED);
+    CHECK(flasknib_breaker_report(breaker, FLASKNIB_BREAKER_WORDS, 1000, 77, 0, 1, 1000, 1) == FLASKNIB_GO);
+    CHECK(flasknib_breaker_report(breaker, FLASKNIB_BREAKER_WORDS, 1500, 77, 33, 1, 1000, 1) == FLASKNIB_GO);
+    CHECK(flasknib_breaker_heard(breaker, FLASKNIB_BREAKER_WORDS, 1600) == FLASKNIB_GO);
+    CHECK(breaker[FLASKNIB_BREAKER_K] == 5);
+    CHECK(breaker[FLASKNIB_BREAKER_M] == 6);
+    CHECK(breaker[FLASKNIB_BREAKER_TIMEOUT] == 7000);
+    CHECK(breaker[FLASKNIB_BREAKER_REDUCE] == 1);
+    CHECK(breaker[FLASKNIB_BREAKER_FULL] == 0);
+    CHECK(breaker[FLASKNIB_BREAKER_STATE] == 0);
+    CHECK(breaker[FLASKNIB_BREAKER_LAST] == 1500);
+    CHECK(breaker[FLASKNIB_BREAKER_HEARD] == 1600);
+    CHECK(breaker[FLASKNIB_BREAKER_REPORTED] == 1);
+    CHECK(breaker[FLASKNIB_BREAKER_HIGHEST] == 77);
+    CHECK(breaker[FLASKNIB_BREAKER_RUN] == 1);
+    CHECK(breaker[FLASKNIB_BREAKER_TRIAL] == 0);
+    CHECK(breaker[FLASKNIB_BREAKER_USED] == 1);
+    CHECK(breaker[FLASKNIB_BREAKER_INTERVALS] == 500);
+    CHECK(breaker[FLASKNIB_BREAKER_INTERVALS + 1] == 33);
+    CHECK(flasknib_breaker_report(breaker, FLASKNIB_BREAKER_WORDS, 1599, 78, 0, 1, 1, 1) == FLASKNIB_REFUSED + FLASKNIB_TIME);
+}
+
+/* Two reports behind a start with k = 1, m = 1 and a timeout of 1,000 ms; the second, with all but one packet in 256 lost, at `time` with `highest`. */
+static uint16_t second_report(uint8_t reduce, uint64_t time, uint32_t highest, uint64_t *breaker)
+{
+    CHECK(flasknib_breaker_start(1, 1, 1000, reduce, 0, 0, breaker, FLASKNIB_BREAKER_WORDS) == FLASKNIB_GO);
+    CHECK(flasknib_breaker_report(breaker, FLASKNIB_BREAKER_WORDS, 10, 1, 255, 60000, 1, 125000000) == FLASKNIB_GO);
+    return flasknib_breaker_report(breaker, FLASKNIB_BREAKER_WORDS, time, highest, 255, 60000, 1, 125000000);
+}
+
+static void stops(void)
+{
+    uint64_t breaker[FLASKNIB_BREAKER_WORDS];
+
+    CHECK(second_report(0, 1010, 2, breaker) == FLASKNIB_STOP + FLASKNIB_REASON_TIMEOUT);
+    CHECK(breaker[FLASKNIB_BREAKER_STATE] == FLASKNIB_REASON_TIMEOUT);
+    CHECK(second_report(0, 20, 1, breaker) == FLASKNIB_STOP + FLASKNIB_REASON_MEDIA);
+    CHECK(breaker[FLASKNIB_BREAKER_STATE] == FLASKNIB_REASON_MEDIA);
+    CHECK(second_report(0, 20, 2, breaker) == FLASKNIB_STOP + FLASKNIB_REASON_CONGESTION);
+    CHECK(breaker[FLASKNIB_BREAKER_STATE] == FLASKNIB_REASON_CONGESTION);
+    CHECK(second_report(1, 20, 2, breaker) == FLASKNIB_REDUCE);
+    CHECK(breaker[FLASKNIB_BREAKER_TRIAL] == 1);
+}
+
+static int64_t label_of(uint8_t form, size_t length, uint8_t *block, size_t room)
+{
+    uint8_t label[FLASKNIB_LABEL_MOST_BYTES + 1];
+
+    memset(label, 'x', sizeof label);
+    return flasknib_write_label(form, label, length, SSRC, block, room);
+}
+
+static int64_t arrivals_of(uint8_t form, size_t count, uint8_t *block, size_t room)
+{
+    static const uint64_t times[FLASKNIB_ARRIVALS_ONE_MOST + 1] = {0};
+    static const uint8_t marks[FLASKNIB_ARRIVALS_ONE_MOST + 1] = {0};
+    uint16_t numbers[FLASKNIB_ARRIVALS_ONE_MOST + 1];
+
+    for (uint16_t i = 0; i < FLASKNIB_ARRIVALS_ONE_MOST + 1; i++)
+        numbers[i] = i;
+    return flasknib_write_arrivals(form, times, count, numbers, count, marks, count, SSRC, block, room);
+}
+
+/* The limits of a form, the kinds of its blocks and the words that they are read to; the records of a full block counted from its body. */
+static void form_limits(uint8_t form, uint64_t label, uint64_t arrivals, size_t most, size_t width)
+{
+    uint8_t block[FLASKNIB_BLOCK_BYTES];
+    uint64_t found[FLASKNIB_BLOCK_WORDS], source[FLASKNIB_SOURCE_WORDS] = {0};
+
+    CHECK(label_of(form, FLASKNIB_LABEL_MOST_BYTES + 1, block, sizeof block) == -FLASKNIB_LIMITS);
+    CHECK(label_of(form, FLASKNIB_LABEL_MOST_BYTES, block, sizeof block) == FLASKNIB_BLOCK_BYTES);
+    CHECK(flasknib_read_block(block, sizeof block, found, FLASKNIB_BLOCK_WORDS) == 0);
+    CHECK(found[FLASKNIB_BLOCK_KIND] == label);
+    CHECK(found[FLASKNIB_BLOCK_COUNT] == FLASKNIB_LABEL_MOST_BYTES);
+    CHECK(found[FLASKNIB_BLOCK_SSRC] == SSRC);
+    CHECK(block[FLASKNIB_BLOCK_BODY - 1] != 'x' && block[FLASKNIB_BLOCK_BODY] == 'x');
+
+    CHECK(arrivals_of(form, most + 1, block, sizeof block) == -FLASKNIB_LIMITS);
+    CHECK(arrivals_of(form, most, block, sizeof block) == FLASKNIB_BLOCK_BYTES);
+    CHECK(flasknib_read_block(block, sizeof block, found, FLASKNIB_BLOCK_WORDS - 1) == FLASKNIB_ROOM);
+    CHECK(flasknib_read_block(block, sizeof block, found, FLASKNIB_BLOCK_WORDS) == 0);
+    CHECK(found[FLASKNIB_BLOCK_KIND] == arrivals);
+    CHECK(found[FLASKNIB_BLOCK_COUNT] == most);
+    CHECK(flasknib_count_block(source, FLASKNIB_SOURCE_WORDS, block + FLASKNIB_BLOCK_BODY, most * width, width) == 0);
+    CHECK(source[FLASKNIB_SOURCE_HIGHEST] == most - 1);
+    CHECK(source[FLASKNIB_SOURCE_NOT_ECT] == most);
+}
+
+static void blocks(void)
+{
+    uint8_t block[FLASKNIB_BLOCK_BYTES];
+    uint64_t found[FLASKNIB_BLOCK_WORDS];
+
+    form_limits(1, FLASKNIB_LABEL_ONE, FLASKNIB_ARRIVALS_ONE, FLASKNIB_ARRIVALS_ONE_MOST, FLASKNIB_RECORD_ONE_BYTES);
+    form_limits(2, FLASKNIB_LABEL_TWO, FLASKNIB_ARRIVALS_TWO, FLASKNIB_ARRIVALS_TWO_MOST, FLASKNIB_RECORD_TWO_BYTES);
+    CHECK(label_of(1, 3, block, sizeof block) == FLASKNIB_BLOCK_BYTES);
+    CHECK(flasknib_read_block(block, sizeof block - 1, found, FLASKNIB_BLOCK_WORDS) == FLASKNIB_INCOMPLETE);
+    block[9] = 'y';
+    CHECK(flasknib_read_block(block, sizeof block, found, FLASKNIB_BLOCK_WORDS) == FLASKNIB_CHECKSUM);
+    block[9] = 'x';
+    block[1] = 9; /* a kind that no form has, and the checksum with it */
+    block[511] = (uint8_t)(block[511] - 8);
+    CHECK(flasknib_read_block(block, sizeof block, found, FLASKNIB_BLOCK_WORDS) == FLASKNIB_CONTENTS);
+}
+
+/* Whether a writer asked with room 0 answers this size. */
+static int asks(int64_t answer, size_t size)
+{
+    return FLASKNIB_WRITE_REFUSAL(answer) == FLASKNIB_ROOM && FLASKNIB_WRITE_SIZE(answer) == size;
+}
+
+static void sizes(void)
+{
+    uint8_t out[1], label[FLASKNIB_LABEL_MOST_BYTES];
+    uint64_t source[FLASKNIB_SOURCE_WORDS] = {0};
+    int64_t row;
+
+    CHECK(asks(flasknib_write_feedback(source, FLASKNIB_SOURCE_WORDS, SENDER, SSRC, out, 0), FLASKNIB_FEEDBACK_BYTES));
+    CHECK(asks(flasknib_write_summary(source, FLASKNIB_SOURCE_WORDS, SSRC, out, 0), FLASKNIB_SUMMARY_BYTES));
+    CHECK(asks(flasknib_write_head(out, 0), FLASKNIB_HEAD_BYTES));
+    CHECK(asks(label_of(1, 0, out, 0), FLASKNIB_BLOCK_BYTES));
+    CHECK(asks(arrivals_of(2, 1, out, 0), FLASKNIB_BLOCK_BYTES));
+    memset(label, '"', sizeof label);
+    row = flasknib_write_row(label, sizeof label, SSRC, source, FLASKNIB_SOURCE_WORDS, 0, 0, out, 0);
+    CHECK(FLASKNIB_WRITE_REFUSAL(row) == FLASKNIB_ROOM);
+    CHECK(FLASKNIB_WRITE_SIZE(row) > 2 * FLASKNIB_LABEL_MOST_BYTES && FLASKNIB_WRITE_SIZE(row) <= FLASKNIB_ROW_MOST_BYTES);
+}
+
+static void tables(void)
+{
+    static uint64_t table[(FLASKNIB_TABLE_MOST_PLACES + 1) * FLASKNIB_PLACE_WORDS];
+    uint64_t found[FLASKNIB_PLACE_WORDS];
+    uint8_t bytes[1];
+    size_t words = FLASKNIB_TABLE_MOST_PLACES * FLASKNIB_PLACE_WORDS;
+
+    CHECK(flasknib_table_arrive(table, words - 1, SSRC, 1, 0) == FLASKNIB_RULES);
+    CHECK(flasknib_table_arrive(table, words + FLASKNIB_PLACE_WORDS, SSRC, 1, 0) == FLASKNIB_RULES);
+    for (uint32_t i = 0; i < FLASKNIB_TABLE_MOST_PLACES; i++)
+        CHECK(flasknib_table_arrive(table, words, SSRC + i, 1, FLASKNIB_MARK_CE) == 0);
+    CHECK(flasknib_table_arrive(table, words, SSRC + FLASKNIB_TABLE_MOST_PLACES, 1, 0) == FLASKNIB_PLACES);
+    CHECK(table[FLASKNIB_PLACE_WORDS] == SSRC + 1);
+    CHECK(table[FLASKNIB_PLACE_WORDS + 1 + FLASKNIB_SOURCE_CE] == 1);
+    CHECK(flasknib_table_place(table, words, 1, found, FLASKNIB_PLACE_WORDS - 1) == FLASKNIB_ROOM);
+    CHECK(flasknib_table_place(table, words, 1, found, FLASKNIB_PLACE_WORDS) == 0);
+    CHECK(found[0] == SSRC + 1);
+    CHECK(flasknib_table_write_compound(table, words, SSRC, bytes, 0) == -(256 * FLASKNIB_TABLE_COMPOUND_MOST_BYTES + FLASKNIB_ROOM));
+}
+
+int main(void)
+{
+    sources();
+    jumps();
+    full_source();
+    tables();
+    compound_words();
+    compound_refusals();
+    ecn_counts();
+    start_limits();
+    report_limits();
+    breaker_words();
+    stops();
+    blocks();
+    sizes();
+    printf("%d checks of the header's numbers, %d fail\n", checks, failures);
+    return failures != 0;
+}

@@ -1,0 +1,68 @@
+"""The bytes of a trace, as docs/TRACE.md has them. Whether a block is sound is not said here: that is the proved reader's to say."""
+import struct
+from typing import Iterator, NamedTuple, Sequence
+
+BLOCK, BODY = 512, 502
+MARKS = ("not-ECT", "ECT(1)", "ECT(0)", "CE")
+
+
+class Form(NamedTuple):
+    number: int
+    label: int  # the kind of its label block
+    arrivals: int  # and of its arrivals blocks
+    time: int  # the bytes of a time
+    most: int  # the most records of a block
+
+
+FORMS = {1: Form(1, 1, 2, 4, 62), 2: Form(2, 3, 4, 6, 50)}
+
+
+class Record(NamedTuple):
+    time: int
+    number: int
+    mark: int
+
+
+class Header(NamedTuple):
+    kind: int
+    count: int
+    ssrc: int
+
+
+def header(block: bytes) -> Header:
+    return Header(*struct.unpack_from(">HHI", block))
+
+
+def check(block: bytes) -> int:
+    return int.from_bytes(block[-2:], "big")
+
+
+def label_in(block: bytes) -> bytes:
+    return block[8 : 8 + header(block).count]
+
+
+def records_in(block: bytes, form: Form) -> Iterator[Record]:
+    width = form.time + 4
+    for at in range(8, 8 + header(block).count * width, width):
+        number, mark = struct.unpack_from(">HB", block, at + form.time)
+        yield Record(int.from_bytes(block[at : at + form.time], "big"), number, mark)
+
+
+class Script:
+    """The writer where the library is not there."""
+
+    name = "this script"
+
+    def label(self, form: Form, label: bytes, ssrc: int) -> bytes:
+        return self.block(form.label, len(label), ssrc, label)
+
+    def arrivals(self, form: Form, records: Sequence[Record], ssrc: int) -> bytes:
+        body = (each.time.to_bytes(form.time, "big") + struct.pack(">HBB", each.number, each.mark, 0) for each in records)
+        return self.block(form.arrivals, len(records), ssrc, b"".join(body))
+
+    def block(self, kind: int, count: int, ssrc: int, body: bytes) -> bytes:
+        front = struct.pack(">HHI", kind, count, ssrc) + body.ljust(BODY, b"\0")
+        total = sum(struct.unpack(">255H", front))
+        while total > 0xFFFF:
+            total = (total & 0xFFFF) + (total >> 16)
+        return front + struct.pack(">H", 0xFFFF - total)

@@ -1,0 +1,65 @@
+"""The proved library through ctypes: the reader and the writers of one block. include/flasknib.h says what each call does."""
+import ctypes
+import ctypes.util
+import glob
+import os
+from typing import Optional, Sequence
+
+from .blocks import BLOCK, Form, Record
+from .common import FAILED, REFUSED, Ended
+from .programs import BESIDE
+
+# Where the library is beside the script: with it, where both are installed, where the repository builds it
+PLACES = ("libflasknib.so", "../libflasknib.so", "../lib/libflasknib.so", "../../lib/libflasknib.so", "../target/lib/libflasknib.so*")
+
+
+class Library:
+    """A writer, with the names that blocks.Script has, and the reader's verdict."""
+
+    def __init__(self, path: str):
+        self.file = os.path.basename(path)
+        self.name = f"the proved writer in {self.file}"
+        try:
+            calls = ctypes.CDLL(path)
+            self.read_block, self.write_label, self.write_arrivals = (
+                getattr(calls, f"flasknib_{name}") for name in ("read_block", "write_label", "write_arrivals")
+            )
+        except (OSError, AttributeError) as error:
+            raise Ended(FAILED, f"the library {path} cannot be used: {error}") from error
+        byte, word, size = ctypes.c_uint8, ctypes.c_uint32, ctypes.c_size_t
+        self.read_block.restype, self.write_label.restype, self.write_arrivals.restype = byte, ctypes.c_int64, ctypes.c_int64
+        self.read_block.argtypes = [ctypes.c_char_p, size, ctypes.POINTER(ctypes.c_uint64), size]
+        self.write_label.argtypes = [byte, ctypes.c_char_p, size, word, ctypes.POINTER(byte), size]
+        lists = [each for kind in (ctypes.c_uint64, ctypes.c_uint16, byte) for each in (ctypes.POINTER(kind), size)]
+        self.write_arrivals.argtypes = [byte, *lists, word, ctypes.POINTER(byte), size]
+
+    def refusal(self, block: bytes) -> int:
+        """The number with which the reader refuses a block, whatever its place, or 0."""
+        return self.read_block(block, len(block), (ctypes.c_uint64 * 3)(), 3)
+
+    def label(self, form: Form, label: bytes, ssrc: int) -> bytes:
+        out = (ctypes.c_uint8 * BLOCK)()
+        return self.written(out, self.write_label(form.number, label, len(label), ssrc, out, BLOCK))
+
+    def arrivals(self, form: Form, records: Sequence[Record], ssrc: int) -> bytes:
+        out, n = (ctypes.c_uint8 * BLOCK)(), len(records)
+        kinds = (ctypes.c_uint64, ctypes.c_uint16, ctypes.c_uint8)
+        lists = [each for kind, values in zip(kinds, zip(*records)) for each in ((kind * n)(*values), n)]
+        return self.written(out, self.write_arrivals(form.number, *lists, ssrc, out, BLOCK))
+
+    def written(self, out: ctypes.Array, answer: int) -> bytes:
+        if answer != BLOCK:
+            raise Ended(REFUSED, f"{self.name} refuses a block with {-answer % 256}")
+        return bytes(out)
+
+
+def library() -> Optional[Library]:
+    """That of $FLASKNIB_LIBRARY (set and empty: none), else beside the script or where it is installed with it, else on the system's path."""
+    given = os.environ.get("FLASKNIB_LIBRARY")
+    if given is not None:
+        return Library(given) if given else None
+    for place in PLACES:
+        for path in sorted(glob.glob(os.path.join(BESIDE, place))):
+            return Library(path)
+    found = ctypes.util.find_library("flasknib")
+    return Library(found) if found else None

@@ -1,0 +1,154 @@
+"""Makes a trace from a CSV file of arrivals.
+
+The CSV file has a head line that names its columns, in any order: time (whole ms), number (the sequence number of the RTP packet, 0 to
+65535) and mark (0 to 3, or not-ECT, ECT(1), ECT(0), CE). A column ssrc may say of which source each arrival is; else --ssrc does.
+Other columns are passed over. Arrivals stand in the file in the order in which they came. A trace of several sources is for ecnstreams:
+each block has arrivals of one source in their order, and blocks are written as they fill.
+
+The blocks are written by the proved library where it is found ($FLASKNIB_LIBRARY, beside this script, or the system's path), else by this
+script. The trace is put in place only when the proved program takes it: ecntable for one source; for several ecnstreams, or where that is missing
+ecntable for each of them. What was used is said.
+
+Exit status: 0 the trace is in place; 1 the CSV file or the label is outside the trace's rules, or the program refuses the trace; 2 a read or a
+write failed, or the program is missing.
+"""
+import argparse
+import csv
+import io
+import sys
+from typing import Iterator, NamedTuple, Optional
+
+from . import programs
+from .blocks import BLOCK, BODY, FORMS, MARKS, Form, Record, Script, header
+from .common import FAILED, REFUSED, WELL, Ended, Replacement, many, refused_words
+from .library import library
+
+MARK_NAMES = {name.lower(): mark for mark, name in enumerate(MARKS)} | {str(mark): mark for mark in range(4)}
+
+
+class Arrival(NamedTuple):
+    ssrc: int
+    record: Record
+
+
+def add_arguments(parser: argparse.ArgumentParser) -> None:
+    parser.add_argument("csv", metavar="CSV", help="the arrivals; - is standard input")
+    parser.add_argument("-o", "--out", required=True, metavar="TRACE")
+    parser.add_argument("--label", default="", metavar="TEXT", help="the trace's label, 0 to 502 bytes of ASCII (empty)")
+    parser.add_argument("--ssrc", type=number, metavar="N", help="the source, where there is no column ssrc; 0x.. is hexadecimal")
+    parser.add_argument("--form", type=int, choices=FORMS, default=1, help="1: times below 2^32 ms, 49 days (the default); 2: times below 2^48 ms")
+
+
+def number(text: str) -> int:
+    return int(text, 0)
+
+
+def number_in(text: str, limit: int, where: str) -> int:
+    if not (text.isascii() and text.isdecimal() and len(text) < 100 and int(text) < limit):
+        raise Ended(REFUSED, f"{where} {text!r} is no whole number from 0 to {limit - 1}")
+    return int(text)
+
+
+def arrival_in(row: dict, form: Form, ssrc: Optional[int], where: str) -> Arrival:
+    """The arrival in a row of the CSV file."""
+    limits = {"time": 256**form.time, "number": 2**16} | ({} if ssrc is not None else {"ssrc": 2**32})
+    values = {name: number_in((row[name] or "").strip(), limit, f"{where}: {name}") for name, limit in limits.items()}
+    mark = (row["mark"] or "").strip().lower()
+    if mark not in MARK_NAMES:
+        raise Ended(REFUSED, f"{where}: mark {mark!r} is not 0 to 3, nor one of {', '.join(MARKS)}")
+    return Arrival(values.get("ssrc", ssrc), Record(values["time"], values["number"], MARK_NAMES[mark]))
+
+
+def arrivals_in(text: io.TextIOBase, name: str, form: Form, ssrc: Optional[int]) -> Iterator[Arrival]:
+    rows = csv.DictReader(text)
+    rows.fieldnames = [column.strip().lower() for column in rows.fieldnames or []]
+    missing = [column for column in ("time", "number", "mark") if column not in rows.fieldnames]
+    if missing:
+        raise Ended(REFUSED, f"{name}, line 1: no column {' and no column '.join(missing)}")
+    if ("ssrc" in rows.fieldnames) == (ssrc is not None):
+        raise Ended(REFUSED, f"{name}: give the source once, by a column ssrc or by --ssrc")
+    for row in rows:
+        yield arrival_in(row, form, ssrc, f"{name}, line {rows.line_num}")
+
+
+def label_given(text: str) -> bytes:
+    label = text.encode("utf-8", "surrogateescape")
+    if len(label) > BODY or any(not 32 <= byte <= 126 and byte not in b"\r\n" for byte in label):
+        raise Ended(REFUSED, f"the label has to be 0 to {BODY} bytes of printable ASCII or line breaks")
+    return label
+
+
+class Made:
+    """A trace as it is written: block by block, with what it holds."""
+
+    def __init__(self, form: Form, label: bytes):
+        self.form, self.label, self.writer = form, label, library() or Script()
+        self.sources, self.blocks, self.records = {}, 0, 0
+
+    def write(self, arrivals: Iterator[Arrival], ssrc: Optional[int], file: io.BufferedRandom) -> None:
+        """All blocks. The label has the SSRC of the first arrival, or the one that was given."""
+        for ssrc, record in arrivals:
+            if not self.blocks:
+                self.put(file, self.writer.label(self.form, self.label, ssrc))
+            self.records += 1
+            held = self.sources.setdefault(ssrc, [])
+            held.append(record)
+            if len(held) == self.form.most:
+                self.put(file, self.writer.arrivals(self.form, held, ssrc))
+                held.clear()
+        if not self.blocks:
+            if ssrc is None:
+                raise Ended(REFUSED, "there are no arrivals, so the SSRC has to be given: leave out the column ssrc and give --ssrc")
+            self.put(file, self.writer.label(self.form, self.label, ssrc))
+        for ssrc, held in self.sources.items():
+            if held:
+                self.put(file, self.writer.arrivals(self.form, held, ssrc))
+
+    def put(self, file: io.BufferedRandom, block: bytes) -> None:
+        file.write(block)
+        self.blocks += 1
+
+    def only(self, file: io.BufferedRandom, ssrc: int) -> Iterator[bytes]:
+        """The trace of one source alone."""
+        yield self.writer.label(self.form, self.label, ssrc)
+        file.seek(BLOCK)
+        yield from (block for block in iter(lambda: file.read(BLOCK), b"") if header(block).ssrc == ssrc)
+
+    def taken(self, file: io.BufferedRandom, folder: Optional[str]) -> str:
+        """Which program takes the trace; raises where it does not."""
+        file.flush()
+        several = len(self.sources) > 1
+        try:
+            name = "ecnstreams" if several else "ecntable"
+            path, sources = programs.program(name, folder), [None]
+        except Ended:
+            if not several:
+                raise
+            name, path, sources = "ecntable for each source", programs.program("ecntable", folder), list(self.sources)
+        for ssrc in sources:
+            file.seek(0)
+            said = programs.asked(path, iter(lambda: file.read(1 << 18), b"") if ssrc is None else self.only(file, ssrc))
+            if said.told or said.refusal:
+                where = "" if ssrc is None else f" of source {ssrc}"
+                raise Ended(FAILED if said.told else REFUSED, f"the trace{where} is not sound: " + (said.told or refused_words(*said.refusal)))
+        return name
+
+
+def run(options: argparse.Namespace) -> int:
+    if options.ssrc is not None and not 0 <= options.ssrc < 2**32:
+        raise Ended(REFUSED, f"the SSRC {options.ssrc} is not from 0 to {2**32 - 1}")
+    made = Made(FORMS[options.form], label_given(options.label))
+    trace = Replacement(options.out, [options.csv])
+    try:
+        name = "standard input" if options.csv == "-" else options.csv
+        with open(sys.stdin.fileno() if options.csv == "-" else options.csv, encoding="utf-8-sig", newline="") as text:
+            made.write(arrivals_in(text, name, made.form, options.ssrc), options.ssrc, trace.file)
+        name = made.taken(trace.file, options.bin)
+        trace.commit()
+    except (UnicodeDecodeError, csv.Error) as error:
+        raise Ended(REFUSED, f"{name}: {error}") from error
+    finally:
+        trace.discard()
+    held = f"{many(made.blocks, 'block')}, {many(made.records, 'record')}, {many(len(made.sources), 'source')}"
+    print(f"{options.out}: {held}; written by {made.writer.name}, taken by {name}")
+    return WELL
