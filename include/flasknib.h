@@ -52,20 +52,19 @@ enum {
     FLASKNIB_CONTENTS = 14,     /* a block's contents */
     FLASKNIB_PLACES = 15,       /* a new SSRC, and every place of the table is held */
     FLASKNIB_RULES = 16,        /* a table against its rules */
-    FLASKNIB_FORM_TWO = 17      /* a time needs form 2: printed by the program ecnforms, answered by no function here */
+    FLASKNIB_FORM_TWO = 17      /* a time needs form 2: given by the converter of forms alone */
 };
 
 /* ---- what a writer answers -------------------------------------------------------------------------------------------------------
- * The six functions flasknib_write_... and flasknib_table_write_compound give the length, the number of bytes that they wrote, or minus a
- * refusal's number. Refusal 12 comes with its size, the number of bytes that the call would write: the answer is minus (256 * size + 12). With a
- * room of exactly that many bytes the same call succeeds, with one byte fewer it does not. The size can be asked with a room of 0; `out` must not
- * be null, even then. The other refusals have no size. The functions that fill words answer a plain 12: how many words they need is fixed, and
- * stands below.
+ * The functions that write bytes give the length, the number of bytes that they wrote, or minus a refusal's number. Refusal 12 comes with
+ * its size, the number of bytes that the call would write: the answer is minus (256 * size + 12). With a room of exactly that many bytes the
+ * same call succeeds, with one byte fewer it does not. The size can be asked with a room of 0; `out` must not be null, even then. The other
+ * refusals have no size. The functions that fill words answer a plain 12: how many words they need is fixed, and stands below.
  *
  * The two macros take a writer's answer, an int64_t, apart. They evaluate it twice: give them a variable, not a call.
  */
 
-/* The refusal, 1 to 16, or 0 where there is a length: an int. */
+/* The refusal, or 0 where there is a length: an int. */
 #define FLASKNIB_WRITE_REFUSAL(answer) ((answer) < 0 ? (int)-((answer) % 256) : 0)
 
 /* The size that comes with refusal 12, or 0 where there is another refusal or a length: a size_t. */
@@ -115,6 +114,11 @@ int64_t flasknib_count_block(uint64_t *source, size_t words, const uint8_t *reco
 /* The jumps and the restarts in an answer of flasknib_count_block or flasknib_table_count_block that is not negative: a uint64_t each. */
 #define FLASKNIB_BLOCK_JUMPS(answer) ((uint64_t)(answer) % 256)
 #define FLASKNIB_BLOCK_RESTARTS(answer) ((uint64_t)(answer) / 256)
+
+/* The packets lost: highest - base + 1, less the different numbers that arrived. Negative where packets from before the base came, and 0 in the
+ * fresh record. Gives 0 and 1 word, signed, at the front of `found`, or refusal 9, or 12 where `found` has no word. */
+#define FLASKNIB_LOST_WORDS 1
+uint8_t flasknib_lost(const uint64_t *source, size_t words, uint64_t *found, size_t found_words);
 
 /* Writes the ECN feedback packet of RFC 6679, 32 bytes. Gives its length, or minus refusal 9, or 12 with its size. */
 #define FLASKNIB_FEEDBACK_BYTES 32
@@ -218,6 +222,14 @@ enum { FLASKNIB_ECN_LOST = 0, FLASKNIB_ECN_MARKED = 1, FLASKNIB_ECN_EXPECTED = 2
 uint8_t flasknib_ecn_between(uint32_t earlier_highest, uint16_t earlier_ce, uint16_t earlier_lost, uint32_t later_highest, uint16_t later_ce,
                              uint16_t later_lost, uint64_t *counts, size_t words);
 
+/* What came between two reports, counter by counter: the later one minus the earlier one, modulo its width. Reports carry the highest number,
+ * ECT(0) and ECT(1) in 32 bits, CE, not-ECT, lost and duplicates in 16. It is the true count where that is from 0 to 2^16 - 1, or to 2^32 - 1. */
+uint16_t flasknib_since16(uint16_t later, uint16_t earlier);
+uint32_t flasknib_since32(uint32_t later, uint32_t earlier);
+
+/* The same of packets lost, which can fall: the difference is read as signed, -32,768 to 32,767. */
+int16_t flasknib_lost_since(uint16_t later, uint16_t earlier);
+
 /* ---- the circuit breaker ---------------------------------------------------------------------------------------------------------
  * 77 words: k, m, timeout (ms), whether reductions are allowed, whether the full throughput equation is taken in place of the simplified one;
  * state (0 running, else the reason of the stop); time of the last report or start, time of the last report, heard packet or start, from which
@@ -293,6 +305,10 @@ enum { FLASKNIB_REASON_TIMEOUT = 1, FLASKNIB_REASON_MEDIA = 2, FLASKNIB_REASON_C
 uint16_t flasknib_breaker_start(uint64_t k, uint64_t m, uint64_t timeout, uint8_t reduce, uint8_t full, uint64_t time, uint64_t *breaker,
                                 size_t words);
 
+/* The same with the preset settings: k = 3, m = 3, a timeout of 15,000 ms, no reductions, the simplified equation. Refusal 10 is then for a time of
+ * 2^48 ms or more. */
+uint16_t flasknib_breaker_start_preset(uint64_t time, uint64_t *breaker, size_t words);
+
 /* A report with the fraction lost in 256ths, 0 to 255: refusals 9, 10, 11. A stopped breaker answers its stop. */
 uint16_t flasknib_breaker_report(uint64_t *breaker, size_t words, uint64_t time, uint32_t highest, uint64_t fraction, uint64_t rtt,
                                  uint64_t size, uint64_t rate);
@@ -341,6 +357,14 @@ enum { FLASKNIB_LABEL_ONE = 1, FLASKNIB_ARRIVALS_ONE = 2, FLASKNIB_LABEL_TWO = 3
  * words. */
 uint8_t flasknib_read_block(const uint8_t *block, size_t length, uint64_t *found, size_t words);
 
+/* 3 words of a record: its time (ms), its wire number, its mark. */
+#define FLASKNIB_RECORD_WORDS 3
+
+/* The record `i`, counted from 0, of an arrivals block of either form. Gives 0 and 3 words at the front of `found`, or refusal 1 for another length
+ * than 512, 14 for a kind that is not arrivals or a count outside its form's limits, 10 for an `i` not below the count, or 12 where `found` has
+ * fewer words. Nothing else of the block is judged: flasknib_read_block does that, once a block. */
+uint8_t flasknib_record_at(const uint8_t *block, size_t length, size_t i, uint64_t *found, size_t words);
+
 /* Writes a label block of form 1 or 2, 512 bytes. Gives its length, or minus refusal 10 for a label outside the trace's rules or another form, or
  * 12 with its size. */
 int64_t flasknib_write_label(uint8_t form, const uint8_t *label, size_t length, uint32_t ssrc, uint8_t *out, size_t room);
@@ -359,6 +383,58 @@ int64_t flasknib_write_head(uint8_t *out, size_t room);
 #define FLASKNIB_ROW_MOST_BYTES 1228
 int64_t flasknib_write_row(const uint8_t *label, size_t length, uint32_t ssrc, const uint64_t *source, size_t words, uint64_t jumped,
                            uint64_t restarts, uint8_t *out, size_t room);
+
+/* Writes the line `refused N block I`, at most 40 bytes, of any refusal's number and any block's. Gives its length, or minus refusal 12 with its
+ * size. */
+#define FLASKNIB_REFUSED_MOST_BYTES 40
+int64_t flasknib_write_refused(uint8_t number, uint64_t block, uint8_t *out, size_t room);
+
+/* ---- a run of ecntable -----------------------------------------------------------------------------------------------------------
+ * What the program does with a trace, block by block: flasknib_write_head, flasknib_run_start on block 0, flasknib_run_block on each later block,
+ * and flasknib_write_refused for the first that is refused, with its number; a tail under 512 bytes is a block too, and so is an empty trace.
+ *
+ * 15 words: the form of the trace, 1 or 2; the label's length; the SSRC; the 10 words of the source's record; jumped; restarts. Another form, an
+ * SSRC of 2^32 or more, a record that is malformed, and jumped or restarts above 2^48 are malformed (9).
+ */
+#define FLASKNIB_RUN_WORDS 15
+
+/* Takes block 0, which must be a label block of either form. Gives 0 and 15 words at the front of `run`, or refusal 1, 13 or 14 (14 for arrivals
+ * too), or 12 where `run` has fewer words. */
+uint8_t flasknib_run_start(const uint8_t *zeroth, size_t length, uint64_t *run, size_t words);
+
+/* Takes a later block, which must hold arrivals of the label's form and SSRC, and writes the row after it, at most FLASKNIB_ROW_MOST_BYTES.
+ * `zeroth` is block 0, from which the row has its label: lend the same bytes to every call. Gives the row's length and the next run, or minus
+ * refusal 9, for a block 0 that is not the run's own too, 1, 13 or 14 for the block, or 12 with the row's size. A refused call changes nothing. */
+int64_t flasknib_run_block(uint64_t *run, size_t words, const uint8_t *zeroth, size_t zeroth_length, const uint8_t *block, size_t block_length,
+                           uint8_t *out, size_t room);
+
+/* ---- a trace in the other form ---------------------------------------------------------------------------------------------------
+ * What the program ecnforms does with a trace, block by block: flasknib_forms_start on block 0, flasknib_forms_block on each later block, and
+ * flasknib_forms_close behind the last, or behind the first that is refused. What they write is the trace in the other form, each arrivals block
+ * full but perhaps the last.
+ *
+ * 3 words: the trace's own form, 1 or 2; its SSRC; how many records are held. Those stand in a part of 502 bytes or more that is lent with each
+ * call, in the other form, as the body of a block has them; its bytes need not be set before the first call. Another form, an SSRC of 2^32 or more,
+ * as many records as a block of the other form takes, a part of fewer bytes, and a held record with a mark above 3 or a last byte that is not 0 are
+ * malformed (9).
+ */
+#define FLASKNIB_FORMS_WORDS 3
+#define FLASKNIB_FORMS_PART_BYTES 502
+
+/* Takes block 0, which must be a label block of either form, and writes it in the other form, 512 bytes. Gives its length and the 3 words of a
+ * conversion that holds no record, or minus refusal 9 for another number of words, 1, 13 or 14 for the block (14 for arrivals too), or 12 with its
+ * size. */
+int64_t flasknib_forms_start(const uint8_t *zeroth, size_t length, uint64_t *forms, size_t words, uint8_t *out, size_t room);
+
+/* Takes a later block, which must hold arrivals of the label's form and SSRC, and writes the blocks that are full with its records: 0, 512 or 1,024
+ * bytes. The records left over are held in the part. Gives the blocks' length and the next conversion, or minus refusal 9, 1, 13 or 14 for the
+ * block, 17 for a time that needs form 2, or 12 with the blocks' size. A refused call changes nothing, the part neither. */
+int64_t flasknib_forms_block(uint64_t *forms, size_t words, uint8_t *part, size_t part_length, const uint8_t *block, size_t block_length,
+                             uint8_t *out, size_t room);
+
+/* Writes the records that are held as a last block, 512 bytes, or nothing where there are none. Gives its length, or minus refusal 9, or 12 with
+ * its size. */
+int64_t flasknib_forms_close(const uint64_t *forms, size_t words, const uint8_t *part, size_t part_length, uint8_t *out, size_t room);
 
 #ifdef __cplusplus
 }

@@ -397,6 +397,27 @@ static void tables(void)
     CHECK(flasknib_table_write_compound(table, words, SSRC, bytes, 0) == -(256 * FLASKNIB_TABLE_COMPOUND_MOST_BYTES + FLASKNIB_ROOM));
 }
 
+/* The queries, the run and the converter of forms: how many words and bytes they need. */
+static void queries(void)
+{
+    uint8_t block[FLASKNIB_BLOCK_BYTES], part[FLASKNIB_FORMS_PART_BYTES], out[1];
+    uint64_t source[FLASKNIB_SOURCE_WORDS] = {0}, found[FLASKNIB_RUN_WORDS];
+    uint64_t forms[FLASKNIB_FORMS_WORDS] = {1, SSRC, 0};
+
+    CHECK(flasknib_lost(source, FLASKNIB_SOURCE_WORDS, found, FLASKNIB_LOST_WORDS - 1) == FLASKNIB_ROOM);
+    CHECK(flasknib_lost(source, FLASKNIB_SOURCE_WORDS, found, FLASKNIB_LOST_WORDS) == 0);
+    CHECK(arrivals_of(1, 1, block, sizeof block) == FLASKNIB_BLOCK_BYTES);
+    CHECK(flasknib_record_at(block, sizeof block, 0, found, FLASKNIB_RECORD_WORDS - 1) == FLASKNIB_ROOM);
+    CHECK(flasknib_record_at(block, sizeof block, 0, found, FLASKNIB_RECORD_WORDS) == 0);
+    CHECK(asks(flasknib_write_refused(255, UINT64_MAX, out, 0), FLASKNIB_REFUSED_MOST_BYTES));
+    CHECK(label_of(1, 3, block, sizeof block) == FLASKNIB_BLOCK_BYTES);
+    CHECK(flasknib_run_start(block, sizeof block, found, FLASKNIB_RUN_WORDS - 1) == FLASKNIB_ROOM);
+    CHECK(flasknib_run_start(block, sizeof block, found, FLASKNIB_RUN_WORDS) == 0);
+    CHECK(flasknib_forms_close(forms, FLASKNIB_FORMS_WORDS, part, FLASKNIB_FORMS_PART_BYTES - 1, out, 0) == -FLASKNIB_MALFORMED);
+    CHECK(flasknib_forms_close(forms, FLASKNIB_FORMS_WORDS - 1, part, FLASKNIB_FORMS_PART_BYTES, out, 0) == -FLASKNIB_MALFORMED);
+    CHECK(flasknib_forms_close(forms, FLASKNIB_FORMS_WORDS, part, FLASKNIB_FORMS_PART_BYTES, out, 0) == 0);
+}
+
 int main(void)
 {
     sources();
@@ -412,6 +433,7 @@ int main(void)
     stops();
     blocks();
     sizes();
+    queries();
     printf("%d checks of the header's numbers, %d fail\n", checks, failures);
     return failures != 0;
 }

@@ -1,13 +1,15 @@
 //! The same calls answered by the model.
 use crate::calls::{Calls, Settings, GO, REDUCE, REFUSED, RESTART, RESTARTED, STOP};
-use model::between::{between, Carried};
+use model::between::{between, lost_since, since, Carried};
 use model::breaker::{Answer, Breaker, Report};
 use model::compound::Profile;
-use model::refusal::{put, require, Refusal, Written, JUMP, LIMITS, ROOM};
+use model::converter::Run;
+use model::forms::Conversion;
+use model::refusal::{put, require, Refusal, Written, JUMP, LIMITS, MALFORMED, ROOM};
 use model::source::{count_block, Counted, Source};
 use model::streams::Table;
 use model::trace::{arrivals_block, label_block, Contents, Form, Record};
-use model::{compound, report, table, trace};
+use model::{compound, forms, report, table, trace};
 
 pub struct Expected;
 
@@ -54,6 +56,14 @@ fn step(words: &mut [u64], call: impl Fn(&mut Breaker) -> Result<Answer, Refusal
     }))
 }
 
+/// The answer to a start, and its record at the front of `words`.
+fn started(breaker: Result<Breaker, Refusal>, words: &mut [u64]) -> u16 {
+    match put_words(breaker.map(|breaker| breaker.to_words()), words) {
+        0 => GO,
+        refusal => REFUSED + u16::from(refusal),
+    }
+}
+
 /// The answer to an arrival.
 fn arrived(answer: Result<Counted, Refusal>) -> u8 {
     match answer {
@@ -83,6 +93,10 @@ impl Calls for Expected {
                 RESTART * restarts as i64 + jumps as i64
             }
         }
+    }
+
+    fn lost(&self, words: &[u64], found: &mut [u64]) -> u8 {
+        put_words(Source::from_words(words).map(|source| [source.lost() as u64]), found)
     }
 
     /// Here too a jump is the one refusal that changes something.
@@ -132,13 +146,26 @@ impl Calls for Expected {
         put_words(between(earlier, later), counts)
     }
 
+    fn since16(&self, later: u16, earlier: u16) -> u16 {
+        since(16, later.into(), earlier.into()) as u16
+    }
+
+    fn since32(&self, later: u32, earlier: u32) -> u32 {
+        since(32, later.into(), earlier.into()) as u32
+    }
+
+    fn lost_since(&self, later: u16, earlier: u16) -> i16 {
+        lost_since(later, earlier) as i16
+    }
+
     fn breaker_start(&self, settings: Settings, time: u64, words: &mut [u64]) -> u16 {
         let Settings { k, m, timeout, reduce, full } = settings;
-        let started = Breaker::start(k, m, timeout, reduce, full, time).map(|breaker| breaker.to_words());
-        match put_words(started, words) {
-            0 => GO,
-            refusal => REFUSED + u16::from(refusal),
-        }
+        started(Breaker::start(k, m, timeout, reduce, full, time), words)
+    }
+
+    /// Document 01, "The breaker": k = 3, m = 3, t = 15,000 ms, no reduction.
+    fn breaker_start_preset(&self, time: u64, words: &mut [u64]) -> u16 {
+        started(Breaker::start(3, 3, 15_000, 0, 0, time), words)
     }
 
     fn breaker_report(&self, words: &mut [u64], report: &Report) -> u16 {
@@ -164,6 +191,11 @@ impl Calls for Expected {
         put_words(words, found)
     }
 
+    fn record_at(&self, block: &[u8], index: usize, found: &mut [u64]) -> u8 {
+        let words = trace::record_at(block, index).map(|record| [record.time, record.wire.into(), record.mark.into()]);
+        put_words(words, found)
+    }
+
     fn write_label(&self, form: u8, label: &[u8], ssrc: u32, out: &mut [u8]) -> i64 {
         length(put(Form::from_number(form).and_then(|form| label_block(form, label, ssrc)), out))
     }
@@ -183,5 +215,46 @@ impl Calls for Expected {
     fn write_row(&self, label: &[u8], ssrc: u32, words: &[u64], jumped: u64, restarts: u64, out: &mut [u8]) -> i64 {
         let row = Source::from_words(words).and_then(|source| table::row(label, ssrc, &source, jumped, restarts));
         length(put(row, out))
+    }
+
+    fn write_refused(&self, number: u8, block: u64, out: &mut [u8]) -> i64 {
+        length(put(Ok(trace::refused_line(number, block)), out))
+    }
+
+    fn run_start(&self, zeroth: &[u8], words: &mut [u64]) -> u8 {
+        let mut run = Run::default();
+        put_words(run.block(zeroth).map(|_| run.to_words()), words)
+    }
+
+    fn run_block(&self, words: &mut [u64], zeroth: &[u8], block: &[u8], out: &mut [u8]) -> i64 {
+        let taken = Run::from_words(words, zeroth).and_then(|mut run| run.block(block).map(|_| run));
+        let written = put(taken.as_ref().map(Run::row).map_err(|&refusal| refusal), out);
+        if let (Ok(run), Written::Length(_)) = (taken, written) {
+            words.copy_from_slice(&run.to_words());
+        }
+        length(written)
+    }
+
+    fn forms_start(&self, zeroth: &[u8], words: &mut [u64], out: &mut [u8]) -> i64 {
+        let begun = require(words.len() == forms::WORDS, MALFORMED).and_then(|()| Conversion::start(zeroth));
+        let written = put(begun.as_ref().map(|(_, label)| label).map_err(|&refusal| refusal), out);
+        if let (Ok((conversion, _)), Written::Length(_)) = (&begun, written) {
+            words.copy_from_slice(&conversion.to_words());
+        }
+        length(written)
+    }
+
+    fn forms_block(&self, words: &mut [u64], part: &mut [u8], block: &[u8], out: &mut [u8]) -> i64 {
+        let taken = Conversion::from_words(words, part).and_then(|mut next| next.take(block).map(|full| (next, full)));
+        let written = put(taken.as_ref().map(|(_, full)| full).map_err(|&refusal| refusal), out);
+        if let (Ok((next, _)), Written::Length(_)) = (&taken, written) {
+            words.copy_from_slice(&next.to_words());
+            next.keep(part);
+        }
+        length(written)
+    }
+
+    fn forms_close(&self, words: &[u64], part: &[u8], out: &mut [u8]) -> i64 {
+        length(put(Conversion::from_words(words, part).map(|conversion| conversion.last()), out))
     }
 }

@@ -7,6 +7,7 @@ use model::breaker::{Loss, Report};
 extern "C" {
     fn flasknib_arrive(source: *mut u64, words: usize, wire: u16, mark: u8) -> u8;
     fn flasknib_count_block(source: *mut u64, words: usize, records: *const u8, length: usize, width: usize) -> i64;
+    fn flasknib_lost(source: *const u64, words: usize, found: *mut u64, found_words: usize) -> u8;
     fn flasknib_table_arrive(table: *mut u64, words: usize, ssrc: u32, wire: u16, mark: u8) -> u8;
     fn flasknib_table_count_block(table: *mut u64, words: usize, ssrc: u32, records: *const u8, length: usize, width: usize) -> i64;
     fn flasknib_table_write_compound(table: *const u64, words: usize, sender: u32, out: *mut u8, room: usize) -> i64;
@@ -16,6 +17,10 @@ extern "C" {
     fn flasknib_read_compound(bytes: *const u8, length: usize, media: u32, profile: u8, found: *mut u64, words: usize) -> u8;
     fn flasknib_ecn_between(earlier_highest: u32, earlier_ce: u16, earlier_lost: u16, later_highest: u32, later_ce: u16, later_lost: u16,
                             counts: *mut u64, words: usize) -> u8;
+    fn flasknib_since16(later: u16, earlier: u16) -> u16;
+    fn flasknib_since32(later: u32, earlier: u32) -> u32;
+    fn flasknib_lost_since(later: u16, earlier: u16) -> i16;
+    fn flasknib_breaker_start_preset(time: u64, breaker: *mut u64, words: usize) -> u16;
     fn flasknib_breaker_start(k: u64, m: u64, timeout: u64, reduce: u8, full: u8, time: u64, breaker: *mut u64, words: usize) -> u16;
     fn flasknib_breaker_report(breaker: *mut u64, words: usize, time: u64, highest: u32, fraction: u64, rtt: u64, size: u64, rate: u64) -> u16;
     fn flasknib_breaker_report_ecn(breaker: *mut u64, words: usize, time: u64, highest: u32, lost: i64, marked: u64, expected: u64, rtt: u64,
@@ -23,12 +28,21 @@ extern "C" {
     fn flasknib_breaker_tick(breaker: *mut u64, words: usize, time: u64) -> u16;
     fn flasknib_breaker_heard(breaker: *mut u64, words: usize, time: u64) -> u16;
     fn flasknib_read_block(block: *const u8, length: usize, found: *mut u64, words: usize) -> u8;
+    fn flasknib_record_at(block: *const u8, length: usize, i: usize, found: *mut u64, words: usize) -> u8;
     fn flasknib_write_label(form: u8, label: *const u8, length: usize, ssrc: u32, out: *mut u8, room: usize) -> i64;
     fn flasknib_write_arrivals(form: u8, times: *const u64, n_times: usize, numbers: *const u16, n_numbers: usize, marks: *const u8,
                                n_marks: usize, ssrc: u32, out: *mut u8, room: usize) -> i64;
     fn flasknib_write_head(out: *mut u8, room: usize) -> i64;
     fn flasknib_write_row(label: *const u8, length: usize, ssrc: u32, source: *const u64, words: usize, jumped: u64,
                           restarts: u64, out: *mut u8, room: usize) -> i64;
+    fn flasknib_write_refused(number: u8, block: u64, out: *mut u8, room: usize) -> i64;
+    fn flasknib_run_start(zeroth: *const u8, length: usize, run: *mut u64, words: usize) -> u8;
+    fn flasknib_run_block(run: *mut u64, words: usize, zeroth: *const u8, zeroth_length: usize, block: *const u8, block_length: usize,
+                          out: *mut u8, room: usize) -> i64;
+    fn flasknib_forms_start(zeroth: *const u8, length: usize, forms: *mut u64, words: usize, out: *mut u8, room: usize) -> i64;
+    fn flasknib_forms_block(forms: *mut u64, words: usize, part: *mut u8, part_length: usize, block: *const u8, block_length: usize,
+                            out: *mut u8, room: usize) -> i64;
+    fn flasknib_forms_close(forms: *const u64, words: usize, part: *const u8, part_length: usize, out: *mut u8, room: usize) -> i64;
 }
 
 pub struct Library;
@@ -41,6 +55,10 @@ impl Calls for Library {
 
     fn count_block(&self, source: &mut [u64], records: &[u8], width: usize) -> i64 {
         unsafe { flasknib_count_block(source.as_mut_ptr(), source.len(), records.as_ptr(), records.len(), width) }
+    }
+
+    fn lost(&self, source: &[u64], found: &mut [u64]) -> u8 {
+        unsafe { flasknib_lost(source.as_ptr(), source.len(), found.as_mut_ptr(), found.len()) }
     }
 
     fn table_arrive(&self, table: &mut [u64], ssrc: u32, wire: u16, mark: u8) -> u8 {
@@ -77,6 +95,22 @@ impl Calls for Library {
         unsafe { flasknib_ecn_between(highest, ce, lost, later.highest, later.ce, later.lost, at, words) }
     }
 
+    fn since16(&self, later: u16, earlier: u16) -> u16 {
+        unsafe { flasknib_since16(later, earlier) }
+    }
+
+    fn since32(&self, later: u32, earlier: u32) -> u32 {
+        unsafe { flasknib_since32(later, earlier) }
+    }
+
+    fn lost_since(&self, later: u16, earlier: u16) -> i16 {
+        unsafe { flasknib_lost_since(later, earlier) }
+    }
+
+    fn breaker_start_preset(&self, time: u64, breaker: &mut [u64]) -> u16 {
+        unsafe { flasknib_breaker_start_preset(time, breaker.as_mut_ptr(), breaker.len()) }
+    }
+
     fn breaker_start(&self, settings: Settings, time: u64, breaker: &mut [u64]) -> u16 {
         let Settings { k, m, timeout, reduce, full } = settings;
         unsafe { flasknib_breaker_start(k, m, timeout, reduce, full, time, breaker.as_mut_ptr(), breaker.len()) }
@@ -105,6 +139,10 @@ impl Calls for Library {
         unsafe { flasknib_read_block(block.as_ptr(), block.len(), found.as_mut_ptr(), found.len()) }
     }
 
+    fn record_at(&self, block: &[u8], index: usize, found: &mut [u64]) -> u8 {
+        unsafe { flasknib_record_at(block.as_ptr(), block.len(), index, found.as_mut_ptr(), found.len()) }
+    }
+
     fn write_label(&self, form: u8, label: &[u8], ssrc: u32, out: &mut [u8]) -> i64 {
         unsafe { flasknib_write_label(form, label.as_ptr(), label.len(), ssrc, out.as_mut_ptr(), out.len()) }
     }
@@ -123,5 +161,33 @@ impl Calls for Library {
     fn write_row(&self, label: &[u8], ssrc: u32, source: &[u64], jumped: u64, restarts: u64, out: &mut [u8]) -> i64 {
         let (label_at, source_at, at) = (label.as_ptr(), source.as_ptr(), out.as_mut_ptr());
         unsafe { flasknib_write_row(label_at, label.len(), ssrc, source_at, source.len(), jumped, restarts, at, out.len()) }
+    }
+
+    fn write_refused(&self, number: u8, block: u64, out: &mut [u8]) -> i64 {
+        unsafe { flasknib_write_refused(number, block, out.as_mut_ptr(), out.len()) }
+    }
+
+    fn run_start(&self, zeroth: &[u8], run: &mut [u64]) -> u8 {
+        unsafe { flasknib_run_start(zeroth.as_ptr(), zeroth.len(), run.as_mut_ptr(), run.len()) }
+    }
+
+    fn run_block(&self, run: &mut [u64], zeroth: &[u8], block: &[u8], out: &mut [u8]) -> i64 {
+        let (run_at, words, at, room) = (run.as_mut_ptr(), run.len(), out.as_mut_ptr(), out.len());
+        unsafe { flasknib_run_block(run_at, words, zeroth.as_ptr(), zeroth.len(), block.as_ptr(), block.len(), at, room) }
+    }
+
+    fn forms_start(&self, zeroth: &[u8], forms: &mut [u64], out: &mut [u8]) -> i64 {
+        let (forms_at, words, at, room) = (forms.as_mut_ptr(), forms.len(), out.as_mut_ptr(), out.len());
+        unsafe { flasknib_forms_start(zeroth.as_ptr(), zeroth.len(), forms_at, words, at, room) }
+    }
+
+    fn forms_block(&self, forms: &mut [u64], part: &mut [u8], block: &[u8], out: &mut [u8]) -> i64 {
+        let (forms_at, part_at, at) = (forms.as_mut_ptr(), part.as_mut_ptr(), out.as_mut_ptr());
+        unsafe { flasknib_forms_block(forms_at, forms.len(), part_at, part.len(), block.as_ptr(), block.len(), at, out.len()) }
+    }
+
+    fn forms_close(&self, forms: &[u64], part: &[u8], out: &mut [u8]) -> i64 {
+        let (at, room) = (out.as_mut_ptr(), out.len());
+        unsafe { flasknib_forms_close(forms.as_ptr(), forms.len(), part.as_ptr(), part.len(), at, room) }
     }
 }

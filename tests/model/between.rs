@@ -11,11 +11,20 @@ pub struct Carried {
     pub lost: u16,
 }
 
+/// The later counter minus the earlier one, modulo its width.
+pub fn since(width: u32, later: u64, earlier: u64) -> u64 {
+    (later + (1 << width) - earlier) % (1 << width)
+}
+
+/// The same of packets lost, read as signed.
+pub fn lost_since(later: u16, earlier: u16) -> i64 {
+    (i64::from(later) - i64::from(earlier) + 65_536 + 32_768) % 65_536 - 32_768
+}
+
 /// Lost (-32,768 to 32,767), marked and expected; 10 where the highest number went back.
 pub fn between(earlier: &Carried, later: &Carried) -> Result<[u64; WORDS], Refusal> {
-    let expected = (u64::from(later.highest) + (1 << 32) - u64::from(earlier.highest)) % (1 << 32);
+    let expected = since(32, later.highest.into(), earlier.highest.into());
     require(expected < 1 << 31, LIMITS)?;
-    let marked = (u64::from(later.ce) + 65_536 - u64::from(earlier.ce)) % 65_536;
-    let lost = (i64::from(later.lost) - i64::from(earlier.lost) + 65_536 + 32_768) % 65_536 - 32_768;
-    Ok([lost as u64, marked, expected])
+    let marked = since(16, later.ce.into(), earlier.ce.into());
+    Ok([lost_since(later.lost, earlier.lost) as u64, marked, expected])
 }

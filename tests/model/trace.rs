@@ -84,6 +84,21 @@ pub fn read(block: &[u8]) -> Result<(Form, u32, Contents), Refusal> {
     Ok((form, u32_at(block, 4), contents.ok_or(CONTENTS)?))
 }
 
+/// The record `index` of an arrivals block of either form, of which nothing else is judged: 1, 14, 10.
+pub fn record_at(block: &[u8], index: usize) -> Result<Record, Refusal> {
+    require(block.len() == BLOCK, INCOMPLETE)?;
+    let form = match u16_at(block, 0) {
+        2 => Form::One,
+        4 => Form::Two,
+        _ => return Err(CONTENTS),
+    };
+    let count = usize::from(u16_at(block, 2));
+    require((1..=form.most_records()).contains(&count), CONTENTS)?;
+    require(index < count, LIMITS)?;
+    let (time, rest) = time_and_rest(form, &block[8 + index * form.width()..]);
+    Ok(Record { time, wire: u16_at(rest, 0), mark: rest[2] })
+}
+
 fn read_label(body: &[u8], count: usize) -> Option<Contents> {
     let (label, unused) = body.split_at_checked(count)?;
     (is_label(label) && all_zero(unused)).then(|| Contents::Label(label.to_vec()))
@@ -204,5 +219,9 @@ pub fn later(label: &Label, block: &[u8]) -> Result<Vec<Record>, Refusal> {
 
 /// What every program prints for the first refused block.
 pub fn refused(refusal: Refusal, index: usize) -> Vec<u8> {
-    format!("refused {} block {index}\r\n", refusal.number()).into_bytes()
+    refused_line(refusal.number(), index as u64)
+}
+
+pub fn refused_line(number: u8, block: u64) -> Vec<u8> {
+    format!("refused {number} block {block}\r\n").into_bytes()
 }

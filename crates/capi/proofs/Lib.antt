@@ -8,3 +8,5 @@ pub mod SourceChains
 pub mod BreakerChains
 pub mod SomeChains
 pub mod TableCalls
+pub mod RunSteps
+pub mod FormsSteps

@@ -1,10 +1,8 @@
 -- A source's record in lent words, or refusal 9. Assumes nothing.
-use mathlib.Core.Path.{_≡_, refl, sym, ap, _∙_}
-use mathlib.Core.Bool.{Bool, true, false, cond}
+use mathlib.Core.Path.{_≡_, sym, ap, _∙_}
 use mathlib.Core.List.{List}
 use mathlib.Core.Option.{Option}
 use Prim.Native.Nat.{ℕ, _+_, _*_}
-use native.Mathlib.Omega.{arith}
 use borrow.Author.Tests.{ne-eqb}
 use lib.IntN.{pos, negℤ}
 use lib.Seq.{sets}
@@ -23,20 +21,10 @@ use Rattle.source.specs.declared.BlockCount.the-variants.{Counted, Refused as N
 use Rattle.source.specs.Arrivals.{arrival}
 use Rattle.source.specs.Blocks.{blockCount}
 use Rattle.lent.specs.declared.source_words.Loaded.the-variants.{Held, Malformed}
-use Rattle.lent.specs.SourceWords.{sourceOf, isSource, loaded, sourceWords}
-use Rattle.lent.proofs.SourceLaws.{held}
+use Rattle.lent.specs.SourceWords.{sourceOf, loaded, sourceWords}
+use Rattle.lent.proofs.SourceLaws.{held, other}
 use Rattle.capi.proofs.Fronts.{sets-whole}
 use Rattle.capi.specs.Sources.{recordFault, arriveAnswer, arriveWords, CountsArrival, blockAnswer, blockWords, CountsBlock}
-
--- ---- whether words are a record's
-
-other : (words : List ℕ) → loaded words ≡ Malformed → isSource words ≡ false
-unfolding loaded
-other words e = go (isSource words) e
-  where
-    go : (b : Bool) → cond b (Held (sourceOf words)) Malformed ≡ Malformed → b ≡ false
-    go true e = let z : _≡_ {A = ℕ} 0 1 = cc in absurd (omega arith)
-    go false e = refl
 
 -- ---- a writer of a record
 

@@ -1,22 +1,22 @@
 -- What the functions of trace blocks and table rows give and leave (include/flasknib.h, "trace blocks and table rows").
 use Prim.Native.Nat.{ℕ}
-use mathlib.Core.Bool.{Bool, cond, _||_}
+use mathlib.Core.Bool.{cond}
 use mathlib.Core.List.{List, [], _∷_}
 use mathlib.Core.Option.{Option, none, some}
-use lib.Dec.{eqb}
 use lib.IntN.{ℤ}
 use Rattle.answers.specs.declared.Refusal.{Refusal}
 use Rattle.answers.specs.declared.Refusal.the-variants.{Limits}
-use Rattle.format.specs.declared.Form.{Form}
-use Rattle.format.specs.declared.Form.the-variants.{One, Two}
 use Rattle.format.specs.Forms.{shapeOf}
 use Rattle.source.specs.declared.Totals.{Totals}
 use Rattle.trace.specs.declared.Block.{Block}
 use Rattle.trace.specs.declared.Block.the-variants.{Label, Arrivals, Refused}
 use Rattle.trace.specs.Layout.{labelBlock, arrivalsBlock}
-use Rattle.trace.specs.Reading.{blockOf}
+use Rattle.trace.specs.declared.Found.{Found}
+use Rattle.trace.specs.declared.Found.the-variants.{Is, Refused as Missing}
+use Rattle.trace.specs.Reading.{blockOf, foundAt}
 use Rattle.trace.specs.Writing.{labelFault, recordsOf, arrivalsFault}
-use Rattle.table.specs.Lines.{headBytes, rowFault, rowBytes}
+use Rattle.table.specs.Lines.{headBytes, rowFault, rowBytes, refusedLine}
+use Rattle.lent.specs.FormWords.{isForm, formOf}
 use Rattle.lent.specs.SourceWords.{sourceOf}
 use Rattle.capi.specs.Codes.{lengthCode, refusalCode, Gives}
 use Rattle.capi.specs.Sources.{recordFault}
@@ -43,16 +43,28 @@ ReadsBlock block old r found =
     (foundWords (blockOf block))
     old r found
 
+-- ---- flasknib_record_at
+
+abbrev pub foundFault : Found → Option Refusal
+foundFault (Is r) = none
+foundFault (Missing refusal) = some refusal
+
+-- its time, its wire number and its mark
+abbrev pub recordWords : Found → List ℕ
+recordWords (Is r) = r .time ∷ r .number .0 ∷ r .mark ∷ []
+recordWords (Missing refusal) = []
+
+-- "Trace file", the record i: 1, 14, 10, 12; or 0 and the three words
+abbrev pub FindsRecord : List ℕ → ℕ → List ℕ → ℕ → List ℕ → Type 0
+FindsRecord block i old r found =
+    Gives refusalCode
+    (foundFault (foundAt block i))
+    (recordWords (foundAt block i))
+    old r found
+
 -- ---- flasknib_write_label, flasknib_write_arrivals
 
--- form 1 or 2; another is 10
-abbrev pub isForm : ℕ → Bool
-isForm number = eqb number 1 || eqb number 2
-
-abbrev pub formOf : ℕ → Form
-formOf number = cond (eqb number 2) Two One
-
--- 10 for another form
+-- 10 for another form than 1 or 2
 abbrev pub formFault : ℕ → Option Refusal → Option Refusal
 formFault number fault = cond (isForm number) fault (some Limits)
 
@@ -72,7 +84,7 @@ WritesArrivals form times numbers marks ssrc old r out =
     (arrivalsBlock (shapeOf (formOf form)) (recordsOf times numbers marks) ssrc)
     old r out
 
--- ---- flasknib_write_head, flasknib_write_row
+-- ---- flasknib_write_head, flasknib_write_row, flasknib_write_refused
 
 -- "Table", the head line: 12; or its bytes
 abbrev pub WritesHead : List ℕ → ℤ → List ℕ → Type 0
@@ -92,4 +104,12 @@ WritesRow label ssrc words jumped restarts old r out =
     Gives lengthCode
     (recordFault words (rowFault label (totalsOf words jumped restarts)))
     (rowBytes label ssrc (totalsOf words jumped restarts))
+    old r out
+
+-- "Table", the line of a refused block: 12; or its bytes
+abbrev pub WritesRefused : ℕ → ℕ → List ℕ → ℤ → List ℕ → Type 0
+WritesRefused number block old r out =
+    Gives lengthCode
+    none
+    (refusedLine number block)
     old r out

@@ -19,7 +19,7 @@ use Rattle.breaker.specs.declared.Loss.{Loss}
 use Rattle.breaker.specs.declared.Loss.the-variants.{Counts}
 use Rattle.breaker.specs.declared.Step.{Step}
 use Rattle.breaker.specs.Answers.{reasonNumber}
-use Rattle.breaker.specs.Calls.{unstarted, startOf}
+use Rattle.breaker.specs.Calls.{unstarted, preset, startOf}
 use Rattle.breaker.specs.Runs.{Call, report, tick, heard, called}
 use Rattle.breaker.specs.Theorems.{numberFits}
 use Rattle.lent.specs.declared.breaker_words.Loaded.{Loaded}
@@ -45,7 +45,7 @@ refusalIn Reduce = none
 refusalIn (Stop reason) = none
 refusalIn (Refused refusal) = some refusal
 
--- ---- flasknib_breaker_start
+-- ---- flasknib_breaker_start, flasknib_breaker_start_preset
 
 -- `reduce` and `full` are 0 or 1, else refusal 10
 unfoldable pub starts : ℕ → ℕ → ℕ → ℕ → ℕ → ℕ → Step
@@ -71,6 +71,10 @@ PutsStart s old r out =
 -- "The breaker", a start: 10, 12; or Go and the record's 77 words
 abbrev pub StartsBreaker : ℕ → ℕ → ℕ → ℕ → ℕ → ℕ → List ℕ → ℕ → List ℕ → Type 0
 StartsBreaker k m timeout reduce full time old r out = PutsStart (starts k m timeout reduce full time) old r out
+
+-- the same with the preset settings, of which 10 can only be of the time
+abbrev pub StartsPreset : ℕ → List ℕ → ℕ → List ℕ → Type 0
+StartsPreset time old r out = PutsStart (startOf preset time) old r out
 
 -- ---- flasknib_breaker_report, flasknib_breaker_report_ecn, flasknib_breaker_tick, flasknib_breaker_heard
 

@@ -6,3 +6,5 @@ pub mod Blocks
 pub mod Chains
 pub mod Tables
 pub mod TableSteps
+pub mod RunCalls
+pub mod FormsCalls

@@ -1,8 +1,8 @@
 -- What the calls on one source's record answer, and what they leave in the lent words (include/flasknib.h, "one RTP source").
 use Prim.Native.Nat.{ℕ, _+_, _*_}
 use mathlib.Core.Bool.{cond}
-use mathlib.Core.List.{List}
-use mathlib.Core.Option.{Option, some}
+use mathlib.Core.List.{List, []}
+use mathlib.Core.Option.{Option, none, some}
 use lib.Dec.{eqb}
 use lib.IntN.{ℤ, pos, negℤ}
 use Rattle.answers.specs.declared.Refusal.{Refusal}
@@ -12,11 +12,15 @@ use Rattle.source.specs.declared.Arrival.{Arrival}
 use Rattle.source.specs.declared.Arrival.the-variants.{Accepted, Restarted, Refused}
 use Rattle.source.specs.declared.BlockCount.{BlockCount}
 use Rattle.source.specs.declared.BlockCount.the-variants.{Counted, Refused as NotCounted}
+use Rattle.source.specs.declared.Lost.{Lost}
+use Rattle.source.specs.declared.Lost.the-variants.{Packets, Refused as NoLost}
+use Rattle.source.specs.Record.{lostAnswer}
 use Rattle.source.specs.Arrivals.{arrival}
 use Rattle.source.specs.Blocks.{blockCount}
 use Rattle.report.specs.Reports.{fault, feedbackBytes, summaryBytes}
 use Rattle.lent.specs.SourceWords.{sourceOf, isSource, sourceWords}
-use Rattle.capi.specs.Codes.{lengthCode, Gives, Leaves}
+use Rattle.lent.specs.LostWords.{lostWords}
+use Rattle.capi.specs.Codes.{lengthCode, refusalCode, Gives, Leaves}
 
 -- words that are no record's are refused with 9, before the refusals of its values
 unfoldable pub recordFault : List ℕ → Option Refusal → Option Refusal
@@ -78,6 +82,24 @@ CountsBlock words width records r out =
     (blockAnswer words width records)
     (blockWords words width records)
     r out
+
+-- ---- flasknib_lost
+
+abbrev pub lostFault : Lost → Option Refusal
+lostFault (Packets lost) = none
+lostFault (NoLost refusal) = some refusal
+
+abbrev pub lostFound : Lost → List ℕ
+lostFound (Packets lost) = lostWords lost
+lostFound (NoLost refusal) = []
+
+-- "Counting arrivals", lost: 9, 12; or 0 and its word
+abbrev pub TellsLost : List ℕ → List ℕ → ℕ → List ℕ → Type 0
+TellsLost words old r found =
+    Gives refusalCode
+    (recordFault words (lostFault (lostAnswer (sourceOf words))))
+    (lostFound (lostAnswer (sourceOf words)))
+    old r found
 
 -- ---- flasknib_write_feedback, flasknib_write_summary
 

@@ -3,7 +3,7 @@ ghost use mathlib.Core.Path.{_≡_};
 ghost use lib.ListN.{length};
 ghost use Rattle.capi.specs.Codes.{Leaves};
 ghost use Rattle.breaker.specs.declared.Loss.the-variants.{Fraction};
-ghost use Rattle.capi.specs.BreakerCalls.{answerCode, isRefused, recordIn, leftBy, PutsStart, StartsBreaker, countsGiven, TakesReport, TakesTick, TakesHeard};
+ghost use Rattle.capi.specs.BreakerCalls.{answerCode, isRefused, recordIn, leftBy, PutsStart, StartsBreaker, StartsPreset, countsGiven, TakesReport, TakesTick, TakesHeard};
 use answers::ROOM;
 use answers::Refusal;
 use breaker::Answer;
@@ -114,6 +114,14 @@ pub extern "C" fn flasknib_breaker_start(
         full: full == 1,
     };
     put_front(Breaker::start(settings, time), breaker)
+}
+
+// Starts a breaker with the preset settings: Go and the record at the front of `breaker`, or refusal 10 or 12.
+#[no_mangle]
+pub extern "C" fn flasknib_breaker_start_preset(time: u64, breaker: &mut [u64]) -> u16
+    ensures { λ r. ⌜ StartsPreset time (now (breaker .entry)) r (now (breaker .exit)) ⌝ }
+{
+    put_front(Breaker::start_preset(time), breaker)
 }
 
 // A report on the record in `breaker`: the answer, and the next record in its place.

@@ -1,12 +1,13 @@
-// The table's head line and rows.
+// The table's head line, its rows and the line of a refused block.
 use crate::codes;
 use answers::Refusal;
 use lent::source_words::Loaded;
 use lent::source_words::load;
 use source::Totals;
 use table::write_head;
+use table::write_refused;
 use table::write_row;
-ghost use Rattle.capi.specs.Blocks.{WritesHead, WritesRow};
+ghost use Rattle.capi.specs.Blocks.{WritesHead, WritesRow, WritesRefused};
 
 // Writes the table's head line. Gives its length, or minus refusal 12.
 #[no_mangle]
@@ -37,4 +38,12 @@ pub extern "C" fn flasknib_write_row(
         restarts,
     };
     codes::length(write_row(label, ssrc, totals, out))
+}
+
+// Writes the line `refused N block I`. Gives its length, or minus refusal 12.
+#[no_mangle]
+pub extern "C" fn flasknib_write_refused(number: u8, block: u64, out: &mut [u8]) -> i64
+    ensures { λ r. ⌜ WritesRefused number block (now (out .entry)) r (now (out .exit)) ⌝ }
+{
+    codes::length(write_refused(number, block, out))
 }

@@ -86,12 +86,21 @@ held words {s} e = go (isSource words) refl e
     go true f e = (eqb-true (length words) 10 (and-left (eqb (length words) 10) (leb (getD words 9 0) 65536) f), f, cc)
     go false f e = let z : _≡_ {A = ℕ} 0 1 = cc in absurd (omega arith)
 
+-- and those that are none's are not
+pub other : (words : List ℕ) → loaded words ≡ Malformed → isSource words ≡ false
+unfolding loaded
+other words e = go (isSource words) e
+  where
+    go : (b : Bool) → cond b (Held (sourceOf words)) Malformed ≡ Malformed → b ≡ false
+    go true e = let z : _≡_ {A = ℕ} 0 1 = cc in absurd (omega arith)
+    go false e = refl
+
 -- n elements from i on, one by one
-elements : List ℕ → ℕ → ℕ → List ℕ
+unfoldable pub elements : List ℕ → ℕ → ℕ → List ℕ
 elements l i zero = []
 elements l i (suc n) = getD l i 0 ∷ elements l (suc i) n
 
-elements-are : (l : List ℕ) (i n : ℕ) → i + n ≤ length l → take n (drop i l) ≡ elements l i n
+pub elements-are : (l : List ℕ) (i n : ℕ) → i + n ≤ length l → take n (drop i l) ≡ elements l i n
 unfolding elements
 elements-are l i zero h = refl
 elements-are l i (suc n) h =

@@ -20,9 +20,15 @@ use Rattle.lent.specs.SourceWords.{sourceWith, sourceOf, loaded}
 use Rattle.lent.specs.TableWords as table
 use Rattle.lent.specs.TableWords.{placesBy, placesIn, eachBelow, wordsFault, unfit}
 use Rattle.lent.specs.BreakerWords.{breakerOf, wordsFit}
-use Rattle.lent.specs.Witnesses.{Met, someSource, someTable, someBreaker}
+use Rattle.lent.specs.RunWords.{runWith, runOf}
+use Rattle.lent.specs.RunWords as run
+use Rattle.lent.specs.ConversionWords.{conversionOf}
+use Rattle.lent.specs.ConversionWords as conversion
+use Rattle.lent.specs.Witnesses.{Met, someSource, someTable, someBreaker, someRun, someConversion}
 use Rattle.lent.proofs.SourceLaws.{record-back, words-back}
 use Rattle.lent.proofs.TableLaws.{table-back, table-words-back}
+use Rattle.lent.proofs.RunLaws.{run-back, run-words-back}
+use Rattle.lent.proofs.ConversionLaws.{conversion-back, conversion-words-back}
 use Rattle.lent.proofs.Restored.{breaker-restored, read-typed, words-restored}
 
 fit-words : (s : List ℕ) → all (map (λ (w : ℕ). ltb w (2 ^ 64)) s) ≡ true → (i : ℕ) → getD s i 0 < 2 ^ 64
@@ -31,7 +37,7 @@ fit-words (w ∷ s) e zero = ltb-true w (2 ^ 64) (and-left (ltb w (2 ^ 64)) (all
 fit-words (w ∷ s) e (suc i) = fit-words s (and-right (ltb w (2 ^ 64)) (all (map (λ (w : ℕ). ltb w (2 ^ 64)) s)) e) i
 
 pub met : Met
-unfolding sourceWith loaded signed wordsFit placesBy eachBelow wordsFault unfit table.loaded fault rising heldOf restOf sound fresh hasCounted marks place places ones
+unfolding sourceWith loaded signed wordsFit placesBy eachBelow wordsFault unfit table.loaded fault rising heldOf restOf sound fresh hasCounted marks place places ones runWith run.loaded conversion.loaded
 met = record {
   base-fits = record { least = leZ-yes tt; most = ltZ-yes tt };
   highest-fits = record { least = leZ-yes tt; most = ltZ-yes tt };
@@ -46,9 +52,16 @@ met = record {
   breaker-typed = read-typed someBreaker;
   breaker-long = refl;
   breaker-fits = refl;
+  run-ssrc = omega arith;
+  run-held = refl;
+  run-base = omega arith;
+  run-highest = omega arith;
+  conversion-ssrc = omega arith;
+  conversion-held = refl;
 }
 
 used : Unit {0}
+unfolding runWith sourceWith
 used =
     let source = record-back (sourceOf someSource) (met .base-fits) (met .highest-fits) (met .remembered-fits) in
     let source-words = words-back someSource (sourceOf someSource) (met .base-word) (met .highest-word) (met .source-held) in
@@ -56,4 +69,8 @@ used =
     let table-words = table-words-back someTable (met .table-bits) (met .table-taken) in
     let breaker = breaker-restored (breakerOf someBreaker) (met .breaker-typed) in
     let breaker-words = words-restored someBreaker (met .breaker-long) (met .breaker-fits) in
+    let run = run-back (runOf someRun) (met .run-ssrc) (met .base-fits) (met .highest-fits) (met .remembered-fits) in
+    let run-words = run-words-back someRun (runOf someRun) (met .run-base) (met .run-highest) (met .run-held) in
+    let conversion = conversion-back (conversionOf someConversion) (met .conversion-ssrc) in
+    let conversion-words = conversion-words-back someConversion (conversionOf someConversion) (met .conversion-held) in
     tt

@@ -5,3 +5,7 @@ pub mod Witnesses
 pub mod EcnWords
 pub mod TableWords
 pub mod TableReads
+pub mod LostWords
+pub mod FormWords
+pub mod RunWords
+pub mod ConversionWords

@@ -1,4 +1,5 @@
--- The hypotheses of the read-back laws can be met: words of a source's record, a table and a breaker's record, and what they meet, by theorem.
+-- The hypotheses of the read-back laws can be met: words of a source's record, a table, a breaker's record, a run and a conversion, and what they meet, by
+-- theorem.
 use mathlib.Core.Path.{_≡_}
 use mathlib.Core.Bool.{true}
 use mathlib.Core.List.{List, [], _∷_, _++_, map}
@@ -15,6 +16,12 @@ use Rattle.lent.specs.TableWords as table
 use Rattle.lent.specs.TableWords.{placesIn, typedPlace}
 use Rattle.lent.specs.declared.table_words.Answer.the-variants.{Taken}
 use Rattle.lent.specs.BreakerWords.{breakerOf, wordsFit}
+use Rattle.lent.specs.RunWords.{runOf}
+use Rattle.lent.specs.RunWords as run
+use Rattle.lent.specs.ConversionWords.{conversionOf}
+use Rattle.lent.specs.ConversionWords as conversion
+use Rattle.lent.specs.declared.run_words.Loaded.the-variants as aRun
+use Rattle.lent.specs.declared.conversion_words.Loaded.the-variants as aConversion
 
 -- base -1, as its two's complement, highest 65536, and number 65535 remembered
 abbrev pub someSource : List ℕ
@@ -30,6 +37,14 @@ someTable =
 -- with the full equation, stopped by the media rule, in a trial, a packet heard after the last report, with two intervals in its window
 abbrev pub someBreaker : List ℕ
 someBreaker = (3 ∷ 3 ∷ 15000 ∷ 1 ∷ 1 ∷ 2 ∷ 5000 ∷ 6000 ∷ 1 ∷ (2 ^ 32 - 1) ∷ 2 ∷ 1 ∷ 2 ∷ 2000 ∷ 20 ∷ 1000 ∷ 255 ∷ []) ++ replicate 60 0
+
+-- form 2, a label of 502 bytes and the greatest SSRC, with that record, a jump and a restart
+abbrev pub someRun : List ℕ
+someRun = (2 ∷ 502 ∷ (2 ^ 32 - 1) ∷ []) ++ (someSource ++ (1 ∷ 1 ∷ []))
+
+-- from form 2, with 61 records held
+abbrev pub someConversion : List ℕ
+someConversion = 2 ∷ (2 ^ 32 - 1) ∷ 61 ∷ []
 
 pub record Met : Type 0 where
   -- RecordBack, WordsBack
@@ -48,3 +63,11 @@ pub record Met : Type 0 where
   pub breaker-typed : Typed (breakerOf someBreaker)
   pub breaker-long : length someBreaker ≡ 77
   pub breaker-fits : all (wordsFit someBreaker) ≡ true
+  -- RunBack, RunWordsBack
+  pub run-ssrc : runOf someRun .ssrc < 2 ^ 32
+  pub run-held : run.loaded someRun ≡ aRun.Held (runOf someRun)
+  pub run-base : getD someRun 3 0 < 2 ^ 64
+  pub run-highest : getD someRun 4 0 < 2 ^ 64
+  -- ConversionBack, ConversionWordsBack
+  pub conversion-ssrc : conversionOf someConversion .ssrc < 2 ^ 32
+  pub conversion-held : conversion.loaded someConversion ≡ aConversion.Held (conversionOf someConversion)

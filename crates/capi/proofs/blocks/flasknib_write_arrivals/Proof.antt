@@ -12,7 +12,7 @@ use Rattle.answers.proofs.Stores.{wrote-size, wrote-refused}
 use Rattle.format.specs.Forms.{shapeOf}
 use Rattle.trace.specs.Layout.{arrivalsBlock}
 use Rattle.trace.specs.Writing.{recordsOf, arrivalsFault}
-use Rattle.capi.specs.Blocks.{formOf}
+use Rattle.lent.specs.FormWords.{formOf}
 use Rattle.capi.proofs.Lengths.{arrivals-length}
 use Rattle.capi.proofs.Answers.{coded}
 use Rattle.capi.proofs.blocks.flasknib_write_arrivals.Statement.{statement}

@@ -14,17 +14,17 @@ use Rattle.capi.proofs.blocks.put_found.Tie as tie
 returns : tie.Need-returns
 returns c =
     let a = c .before .args in
-    gives refusalCode (wrote-short (a .kind ∷ a .count ∷ a .ssrc ∷ []) (now (a .found)) refl (c .if1 .taken) refl) refl
+    gives refusalCode (wrote-short (a .x ∷ a .y ∷ a .z ∷ []) (now (a .found)) refl (c .if1 .taken) refl) refl
 
 slice-write-found-2 : tie.Need-slice-write-found-2
 slice-write-found-2 c =
     let a = c .before .args in
-    omega (arith, length-set (now (a .found)) 0 (a .kind), c .if1 .left)
+    omega (arith, length-set (now (a .found)) 0 (a .x), c .if1 .left)
 
 returns-2 : tie.Need-returns-2
 returns-2 c =
     let a = c .before .args in
-    gives refusalCode (wrote-all (a .kind ∷ a .count ∷ a .ssrc ∷ []) (now (a .found)) refl (c .if1 .left) refl refl) refl
+    gives refusalCode (wrote-all (a .x ∷ a .y ∷ a .z ∷ []) (now (a .found)) refl (c .if1 .left) refl refl) refl
 
 pub put-found-spec : {M : Type 1} → statement M
 put-found-spec =

@@ -1,8 +1,6 @@
 -- `lent::source_words::store` meets its contract. Assumes nothing.
 use borrow.Author.Needs.{needs}
 use mathlib.Core.Path.{ap, _∙_}
-use mathlib.Core.List.{List}
-use Prim.Native.Nat.{ℕ}
 use denote.Ref.{now}
 use lib.Seq.{sets}
 use Rattle.lent.proofs.source_words.store.Statement.{statement}
@@ -10,15 +8,10 @@ use Rattle.lent.proofs.source_words.store.Tie as tie
 
 returns : tie.Need-returns
 returns c =
-    let old = now (c .before .before .before .before .before .before .before .args .words) in
-    c .before .before .put-all .ensures ∙ ap (λ (new : List ℕ). sets old 0 new) (c .before .before .before .before .before .words-of .ensures)
+    let words = now (c .before .before .before .before .before .before .before .args .words) in
+    c .before .before .put-all .ensures ∙ ap (sets words 0) (c .before .before .before .before .before .words-of .ensures)
 
 pub store-spec : {M : Type 1} → statement M
 store-spec =
     tie.close
-    (tie.spec
-    (λ c κs. search needs)
-    (λ c. search needs)
-    (λ c κs. search needs)
-    (λ c. search needs)
-    returns)
+    (tie.spec (λ c κs. search needs) (λ c. search needs) (λ c κs. search needs) (λ c. search needs) returns)

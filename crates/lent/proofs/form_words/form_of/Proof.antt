@@ -1,7 +1,7 @@
--- `capi::blocks::form_of` meets its contract. Assumes nothing.
+-- `lent::form_words::form_of` meets its contract. Assumes nothing.
 use borrow.Author.Tests.{eq-eqb, ne-eqb}
-use Rattle.capi.proofs.blocks.form_of.Statement.{statement}
-use Rattle.capi.proofs.blocks.form_of.Tie as tie
+use Rattle.lent.proofs.form_words.form_of.Statement.{statement}
+use Rattle.lent.proofs.form_words.form_of.Tie as tie
 
 returns : tie.Need-returns
 returns c = rw (eq-eqb _ _ (c .if1 .taken))

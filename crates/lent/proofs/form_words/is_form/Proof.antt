@@ -1,7 +1,7 @@
--- `capi::blocks::is_form` meets its contract. Assumes nothing.
+-- `lent::form_words::is_form` meets its contract. Assumes nothing.
 use borrow.Author.Tests.{eq-eqb, ne-eqb}
-use Rattle.capi.proofs.blocks.is_form.Statement.{statement}
-use Rattle.capi.proofs.blocks.is_form.Tie as tie
+use Rattle.lent.proofs.form_words.is_form.Statement.{statement}
+use Rattle.lent.proofs.form_words.is_form.Tie as tie
 
 returns : tie.Need-returns
 returns c = rw (eq-eqb _ _ (c .if1 .taken))
