@@ -436,6 +436,34 @@ int64_t flasknib_forms_block(uint64_t *forms, size_t words, uint8_t *part, size_
  * its size. */
 int64_t flasknib_forms_close(const uint64_t *forms, size_t words, const uint8_t *part, size_t part_length, uint8_t *out, size_t room);
 
+/* ---- a run of ecnstreams ---------------------------------------------------------------------------------------------------------
+ * What the program does with a trace whose arrivals blocks differ in SSRC: flasknib_write_head, flasknib_streams_start on block 0,
+ * flasknib_streams_block on each later block, and behind the last flasknib_streams_row for each line, from 0 on; or flasknib_write_refused for the
+ * first block that is refused, with its number, and no row.
+ *
+ * 3 words: the form of the trace, 1 or 2; the label's length; how many lines are held, at most 16. Those stand in 208 words or more that are lent
+ * with each call, one line for each SSRC, in rising order; they need not be set before the first call. A line has 13 words: the SSRC, the 10 words
+ * of the source's record, jumped and restarts. Another form, more lines and fewer words are malformed (9), and so is a line whose record is
+ * malformed or whose jumped or restarts are above 2^48, where a call needs that line.
+ */
+#define FLASKNIB_STREAMS_WORDS 3
+#define FLASKNIB_STREAMS_LINE_WORDS 208
+
+/* Takes block 0, which must be a label block of either form; its SSRC binds nothing. Gives 0 and 3 words at the front of `run`, for a run that holds
+ * no line, or refusal 1, 13 or 14 (14 for arrivals too), or 12 where `run` has fewer words. */
+uint8_t flasknib_streams_start(const uint8_t *zeroth, size_t length, uint64_t *run, size_t words);
+
+/* Takes a later block, which must hold arrivals of the label's form, and counts them in the line of their SSRC; a new SSRC gets a line. Gives 0, the
+ * next run and the lines, or refusal 9, 1, 13 or 14 for the block, 9 for the line of its SSRC, or 15 for a seventeenth SSRC. A refused call changes
+ * no word. */
+uint8_t flasknib_streams_block(uint64_t *run, size_t words, uint64_t *lines, size_t line_words, const uint8_t *block, size_t length);
+
+/* Writes the row of line i, at most FLASKNIB_ROW_MOST_BYTES. `zeroth` is block 0, from which the row has its label. Gives the row's length, or minus
+ * refusal 9, for a block 0 that is not the run's own and for a line with an SSRC of 2^32 or more too, 10 for no such line, or 12 with the row's
+ * size. */
+int64_t flasknib_streams_row(const uint64_t *run, size_t words, size_t i, const uint64_t *lines, size_t line_words, const uint8_t *zeroth,
+                             size_t zeroth_length, uint8_t *out, size_t room);
+
 #ifdef __cplusplus
 }
 #endif

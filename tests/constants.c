@@ -397,12 +397,13 @@ static void tables(void)
     CHECK(flasknib_table_write_compound(table, words, SSRC, bytes, 0) == -(256 * FLASKNIB_TABLE_COMPOUND_MOST_BYTES + FLASKNIB_ROOM));
 }
 
-/* The queries, the run and the converter of forms: how many words and bytes they need. */
+/* The queries, both runs and the converter of forms: how many words and bytes they need. */
 static void queries(void)
 {
     uint8_t block[FLASKNIB_BLOCK_BYTES], part[FLASKNIB_FORMS_PART_BYTES], out[1];
     uint64_t source[FLASKNIB_SOURCE_WORDS] = {0}, found[FLASKNIB_RUN_WORDS];
     uint64_t forms[FLASKNIB_FORMS_WORDS] = {1, SSRC, 0};
+    uint64_t streams[FLASKNIB_STREAMS_WORDS], lines[FLASKNIB_STREAMS_LINE_WORDS];
 
     CHECK(flasknib_lost(source, FLASKNIB_SOURCE_WORDS, found, FLASKNIB_LOST_WORDS - 1) == FLASKNIB_ROOM);
     CHECK(flasknib_lost(source, FLASKNIB_SOURCE_WORDS, found, FLASKNIB_LOST_WORDS) == 0);
@@ -416,6 +417,11 @@ static void queries(void)
     CHECK(flasknib_forms_close(forms, FLASKNIB_FORMS_WORDS, part, FLASKNIB_FORMS_PART_BYTES - 1, out, 0) == -FLASKNIB_MALFORMED);
     CHECK(flasknib_forms_close(forms, FLASKNIB_FORMS_WORDS - 1, part, FLASKNIB_FORMS_PART_BYTES, out, 0) == -FLASKNIB_MALFORMED);
     CHECK(flasknib_forms_close(forms, FLASKNIB_FORMS_WORDS, part, FLASKNIB_FORMS_PART_BYTES, out, 0) == 0);
+    CHECK(flasknib_streams_start(block, sizeof block, streams, FLASKNIB_STREAMS_WORDS - 1) == FLASKNIB_ROOM);
+    CHECK(flasknib_streams_start(block, sizeof block, streams, FLASKNIB_STREAMS_WORDS) == 0);
+    CHECK(arrivals_of(1, 1, block, sizeof block) == FLASKNIB_BLOCK_BYTES);
+    CHECK(flasknib_streams_block(streams, FLASKNIB_STREAMS_WORDS, lines, FLASKNIB_STREAMS_LINE_WORDS - 1, block, sizeof block) == FLASKNIB_MALFORMED);
+    CHECK(flasknib_streams_block(streams, FLASKNIB_STREAMS_WORDS, lines, FLASKNIB_STREAMS_LINE_WORDS, block, sizeof block) == 0);
 }
 
 int main(void)

@@ -33,6 +33,9 @@ pub trait Calls {
     fn forms_start(&self, zeroth: &[u8], forms: &mut [u64], out: &mut [u8]) -> i64;
     fn forms_block(&self, forms: &mut [u64], part: &mut [u8], block: &[u8], out: &mut [u8]) -> i64;
     fn forms_close(&self, forms: &[u64], part: &[u8], out: &mut [u8]) -> i64;
+    fn streams_start(&self, zeroth: &[u8], run: &mut [u64]) -> u8;
+    fn streams_block(&self, run: &mut [u64], lines: &mut [u64], block: &[u8]) -> u8;
+    fn streams_row(&self, run: &[u64], i: usize, lines: &[u64], zeroth: &[u8], out: &mut [u8]) -> i64;
 }
 
 #[derive(Clone, Copy, Debug)]
@@ -56,7 +59,7 @@ pub const REFUSED: u16 = 0x200;
 
 /// Every function with every answer it can give; a length counts as 0, a writer's 12 with any size as -12, of a difference its sign, and of a block's
 /// jumps and restarts whether there are any.
-pub const FUNCTIONS: [(&str, &[i64]); 32] = [
+pub const FUNCTIONS: [(&str, &[i64]); 35] = [
     ("flasknib_arrive", &[0, 7, 8, 9, 10, 128]),
     ("flasknib_count_block", &[0, 1, 256, 257, -9, -10]),
     ("flasknib_lost", &[0, 9, 12]),
@@ -89,4 +92,7 @@ pub const FUNCTIONS: [(&str, &[i64]); 32] = [
     ("flasknib_forms_start", &[0, -1, -9, -12, -13, -14]),
     ("flasknib_forms_block", &[0, -1, -9, -12, -13, -14, -17]),
     ("flasknib_forms_close", &[0, -9, -12]),
+    ("flasknib_streams_start", &[0, 1, 12, 13, 14]),
+    ("flasknib_streams_block", &[0, 1, 9, 13, 14, 15]),
+    ("flasknib_streams_row", &[0, -9, -10, -12]),
 ];

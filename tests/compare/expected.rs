@@ -9,7 +9,7 @@ use model::refusal::{put, require, Refusal, Written, JUMP, LIMITS, MALFORMED, RO
 use model::source::{count_block, Counted, Source};
 use model::streams::Table;
 use model::trace::{arrivals_block, label_block, Contents, Form, Record};
-use model::{compound, forms, report, table, trace};
+use model::{compound, forms, report, streams, table, trace};
 
 pub struct Expected;
 
@@ -256,5 +256,24 @@ impl Calls for Expected {
 
     fn forms_close(&self, words: &[u64], part: &[u8], out: &mut [u8]) -> i64 {
         length(put(Conversion::from_words(words, part).map(|conversion| conversion.last()), out))
+    }
+
+    fn streams_start(&self, zeroth: &[u8], words: &mut [u64]) -> u8 {
+        put_words(streams::Run::start(zeroth).map(|run| run.to_words()), words)
+    }
+
+    fn streams_block(&self, words: &mut [u64], lines: &mut [u64], block: &[u8]) -> u8 {
+        match streams::Run::from_words(words, lines).and_then(|mut next| next.take(block).map(|()| next)) {
+            Ok(next) => {
+                words.copy_from_slice(&next.to_words());
+                next.keep(lines);
+                0
+            }
+            Err(refusal) => refusal.number(),
+        }
+    }
+
+    fn streams_row(&self, words: &[u64], i: usize, lines: &[u64], zeroth: &[u8], out: &mut [u8]) -> i64 {
+        length(put(streams::Run::from_words(words, lines).and_then(|run| run.row(i, zeroth)), out))
     }
 }

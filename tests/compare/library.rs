@@ -43,6 +43,10 @@ extern "C" {
     fn flasknib_forms_block(forms: *mut u64, words: usize, part: *mut u8, part_length: usize, block: *const u8, block_length: usize,
                             out: *mut u8, room: usize) -> i64;
     fn flasknib_forms_close(forms: *const u64, words: usize, part: *const u8, part_length: usize, out: *mut u8, room: usize) -> i64;
+    fn flasknib_streams_start(zeroth: *const u8, length: usize, run: *mut u64, words: usize) -> u8;
+    fn flasknib_streams_block(run: *mut u64, words: usize, lines: *mut u64, line_words: usize, block: *const u8, length: usize) -> u8;
+    fn flasknib_streams_row(run: *const u64, words: usize, i: usize, lines: *const u64, line_words: usize, zeroth: *const u8,
+                            zeroth_length: usize, out: *mut u8, room: usize) -> i64;
 }
 
 pub struct Library;
@@ -189,5 +193,19 @@ impl Calls for Library {
     fn forms_close(&self, forms: &[u64], part: &[u8], out: &mut [u8]) -> i64 {
         let (at, room) = (out.as_mut_ptr(), out.len());
         unsafe { flasknib_forms_close(forms.as_ptr(), forms.len(), part.as_ptr(), part.len(), at, room) }
+    }
+
+    fn streams_start(&self, zeroth: &[u8], run: &mut [u64]) -> u8 {
+        unsafe { flasknib_streams_start(zeroth.as_ptr(), zeroth.len(), run.as_mut_ptr(), run.len()) }
+    }
+
+    fn streams_block(&self, run: &mut [u64], lines: &mut [u64], block: &[u8]) -> u8 {
+        let (run_at, lines_at) = (run.as_mut_ptr(), lines.as_mut_ptr());
+        unsafe { flasknib_streams_block(run_at, run.len(), lines_at, lines.len(), block.as_ptr(), block.len()) }
+    }
+
+    fn streams_row(&self, run: &[u64], i: usize, lines: &[u64], zeroth: &[u8], out: &mut [u8]) -> i64 {
+        let (lines_at, line_words, at, room) = (lines.as_ptr(), lines.len(), out.as_mut_ptr(), out.len());
+        unsafe { flasknib_streams_row(run.as_ptr(), run.len(), i, lines_at, line_words, zeroth.as_ptr(), zeroth.len(), at, room) }
     }
 }

@@ -22,6 +22,7 @@ mod reports;
 mod restarts;
 mod rows;
 mod runs;
+mod streams;
 mod tables;
 mod worked;
 
@@ -58,6 +59,7 @@ fn main() {
     queries::calls(compare, draw);
     runs::calls(compare, draw);
     conversions::calls(compare, draw);
+    streams::calls(compare, draw);
     let (lists, orders) = lists::lists(compare, draw);
     compare.close(table.as_deref());
     let (calls, functions) = (compare.calls(), compare.functions());

@@ -1,10 +1,11 @@
 //! Document 02, L1: several sources in one table, here a sorted map of their records, and the whole run of ecnstreams over a trace.
+use crate::bytes::u16_at;
 use crate::converter::Totals;
 use crate::refusal::*;
 use crate::report::feedback;
-use crate::source::{count_block, Counted, Source, WORDS};
+use crate::source::{count_block, Counted, Source, MOST_ARRIVALS, WORDS};
 use crate::table::HEAD;
-use crate::trace::{blocks, of_form, refused, zeroth};
+use crate::trace::{blocks, is_label, of_form, refused, zeroth, Form, Label, BLOCK, BODY};
 use std::collections::BTreeMap;
 
 /// A place in words: the SSRC and the record.
@@ -100,4 +101,80 @@ fn counted(trace: &[u8]) -> Result<(Vec<u8>, BTreeMap<u32, Totals>), (Refusal, u
         streams.entry(ssrc).or_default().take(&records);
     }
     Ok((label.text, streams))
+}
+
+// ---- a run as the library lends it: its words, and the lines with each call
+
+pub const RUN_WORDS: usize = 3;
+/// A line in words: the SSRC, the record, jumped and restarts.
+pub const LINE: usize = 3 + WORDS;
+pub const LINE_WORDS: usize = MOST_PLACES * LINE;
+
+/// A trace's form, the length of its label, and the lines as they stand in the lent words.
+pub struct Run {
+    form: Form,
+    length: u64,
+    lines: Vec<Vec<u64>>,
+}
+
+impl Run {
+    pub fn start(block: &[u8]) -> Result<Run, Refusal> {
+        let Label { form, text, .. } = zeroth(block)?;
+        Ok(Run { form, length: text.len() as u64, lines: Vec::new() })
+    }
+
+    /// 9 for another number of words, another form, too few words of lines, or more than 16 of these.
+    pub fn from_words(words: &[u64], lines: &[u64]) -> Result<Run, Refusal> {
+        let &[number, length, held] = words else { return Err(MALFORMED) };
+        let form = u8::try_from(number).ok().and_then(|number| Form::from_number(number).ok()).ok_or(MALFORMED)?;
+        require(lines.len() >= LINE_WORDS && held <= MOST_PLACES as u64, MALFORMED)?;
+        Ok(Run { form, length, lines: lines.chunks(LINE).take(held as usize).map(<[u64]>::to_vec).collect() })
+    }
+
+    pub fn to_words(&self) -> [u64; RUN_WORDS] {
+        [self.form as u64 + 1, self.length, self.lines.len() as u64]
+    }
+
+    /// Puts the lines at the front of the lent words.
+    pub fn keep(&self, lines: &mut [u64]) {
+        lines.chunks_mut(LINE).zip(&self.lines).for_each(|(place, line)| place.copy_from_slice(line));
+    }
+
+    /// The block's refusal, then 9 for the line of its SSRC, then 15.
+    pub fn take(&mut self, block: &[u8]) -> Result<(), Refusal> {
+        let (ssrc, records) = of_form(self.form, block)?;
+        if let Some(line) = self.lines.iter_mut().find(|line| line[0] == u64::from(ssrc)) {
+            let mut totals = totals(line)?;
+            totals.take(&records);
+            *line = in_words(ssrc, &totals);
+            return Ok(());
+        }
+        require(self.lines.len() < MOST_PLACES, PLACES)?;
+        let mut totals = Totals::default();
+        totals.take(&records);
+        let at = self.lines.iter().take_while(|line| line[0] < u64::from(ssrc)).count();
+        self.lines.insert(at, in_words(ssrc, &totals));
+        Ok(())
+    }
+
+    /// 9 for a block 0 that is not the run's own, then 10 for no such line, then 9 for a malformed one.
+    pub fn row(&self, index: usize, zeroth: &[u8]) -> Result<Vec<u8>, Refusal> {
+        require(zeroth.len() == BLOCK && u16_at(zeroth, 0) == self.form.kinds().0, MALFORMED)?;
+        require(u64::from(u16_at(zeroth, 2)) == self.length && self.length <= BODY as u64, MALFORMED)?;
+        let text = &zeroth[8..8 + self.length as usize];
+        require(is_label(text), MALFORMED)?;
+        let line = self.lines.get(index).ok_or(LIMITS)?;
+        let ssrc = u32::try_from(line[0]).map_err(|_| MALFORMED)?;
+        Ok(totals(line)?.row(text, ssrc))
+    }
+}
+
+fn totals(line: &[u64]) -> Result<Totals, Refusal> {
+    let (jumped, restarts) = (line[11], line[12]);
+    require(jumped.max(restarts) <= MOST_ARRIVALS, MALFORMED)?;
+    Ok(Totals { source: Source::from_words(&line[1..11])?, jumped, restarts })
+}
+
+fn in_words(ssrc: u32, totals: &Totals) -> Vec<u64> {
+    [&place(ssrc, &totals.source)[..], &[totals.jumped, totals.restarts]].concat()
 }

@@ -10,3 +10,5 @@ pub mod SomeChains
 pub mod TableCalls
 pub mod RunSteps
 pub mod FormsSteps
+pub mod StreamsLaws
+pub mod StreamsSteps

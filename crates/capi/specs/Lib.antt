@@ -8,3 +8,5 @@ pub mod Tables
 pub mod TableSteps
 pub mod RunCalls
 pub mod FormsCalls
+pub mod StreamsWords
+pub mod StreamsCalls

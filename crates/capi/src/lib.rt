@@ -11,4 +11,6 @@ pub mod losses;
 pub mod rows;
 pub mod runs;
 pub mod sources;
+pub mod streams_runs;
+mod streams_words;
 pub mod tables;
