@@ -374,6 +374,10 @@ int64_t flasknib_write_label(uint8_t form, const uint8_t *label, size_t length, 
 int64_t flasknib_write_arrivals(uint8_t form, const uint64_t *times, size_t n_times, const uint16_t *numbers, size_t n_numbers,
                                 const uint8_t *marks, size_t n_marks, uint32_t ssrc, uint8_t *out, size_t room);
 
+/* Writes the same block from the bytes of its records, each as a block has it. Gives its length, or minus refusal 10 for another form, a record that is
+ * not whole, none or too many of them, a mark above 3 or a last byte that is not 0, or 12 with its size. */
+int64_t flasknib_write_records(uint8_t form, const uint8_t *records, size_t length, uint32_t ssrc, uint8_t *out, size_t room);
+
 /* Writes the table's head line, 65 bytes. Gives its length, or minus refusal 12 with its size. */
 #define FLASKNIB_HEAD_BYTES 65
 int64_t flasknib_write_head(uint8_t *out, size_t room);

@@ -11,6 +11,7 @@ pub fn calls(compare: &Compare, draw: &Draw) {
     for _ in 0..40_000 {
         write_label(compare, draw);
         write_any_arrivals(compare, draw);
+        write_any_records(compare, draw);
     }
 }
 
@@ -73,6 +74,33 @@ fn write_any_arrivals(compare: &Compare, draw: &Draw) {
     for room in draw.rooms(BLOCK) {
         let (answer, out) = write_arrivals(compare, number, (&times, &numbers, &marks), ssrc, &vec![draw.u64() as u8; room]);
         read_written(compare, answer, &out);
+    }
+}
+
+/// The bytes of a block's records; now and then of the other form, cut, none or too many, or with a byte changed.
+fn write_any_records(compare: &Compare, draw: &Draw) {
+    let form = draw.of(&FORMS);
+    let count = draw.astray(1, form.most_records() as u64).min(70) as usize;
+    let mut bytes = Vec::new();
+    for _ in 0..count {
+        bytes.extend(draw.bytes(form.width() - 2));
+        bytes.extend([draw.below(4) as u8, 0]);
+    }
+    match draw.below(12) {
+        0 => bytes.truncate(draw.index(bytes.len() + 1)),
+        1 if count > 0 => {
+            let place = draw.index(bytes.len());
+            bytes[place] = draw.of(&[0, 1, 3, 4, 255]);
+        }
+        _ => {}
+    }
+    let (number, ssrc) = (number(draw, form), draw.u64() as u32);
+    for room in draw.rooms(BLOCK) {
+        let mut lent = (Lent::new(&bytes), Lent::new(&vec![draw.u64() as u8; room]));
+        let answer = compare.call("flasknib_write_records", &mut lent, |calls, (records, out)| {
+            calls.write_records(number, records.part(), ssrc, out.part_mut())
+        });
+        read_written(compare, answer, lent.1.part());
     }
 }
 

@@ -8,7 +8,7 @@ use model::forms::Conversion;
 use model::refusal::{put, require, Refusal, Written, JUMP, LIMITS, MALFORMED, ROOM};
 use model::source::{count_block, Counted, Source};
 use model::streams::Table;
-use model::trace::{arrivals_block, label_block, Contents, Form, Record};
+use model::trace::{arrivals_block, label_block, records_block, Contents, Form, Record};
 use model::{compound, forms, report, streams, table, trace};
 
 pub struct Expected;
@@ -206,6 +206,10 @@ impl Calls for Expected {
         let same_length = times.len() == numbers.len() && numbers.len() == marks.len();
         let form = require(same_length, LIMITS).and_then(|()| Form::from_number(form));
         length(put(form.and_then(|form| arrivals_block(form, &records, ssrc)), out))
+    }
+
+    fn write_records(&self, form: u8, records: &[u8], ssrc: u32, out: &mut [u8]) -> i64 {
+        length(put(Form::from_number(form).and_then(|form| records_block(form, records, ssrc)), out))
     }
 
     fn write_head(&self, out: &mut [u8]) -> i64 {

@@ -32,6 +32,7 @@ extern "C" {
     fn flasknib_write_label(form: u8, label: *const u8, length: usize, ssrc: u32, out: *mut u8, room: usize) -> i64;
     fn flasknib_write_arrivals(form: u8, times: *const u64, n_times: usize, numbers: *const u16, n_numbers: usize, marks: *const u8,
                                n_marks: usize, ssrc: u32, out: *mut u8, room: usize) -> i64;
+    fn flasknib_write_records(form: u8, records: *const u8, length: usize, ssrc: u32, out: *mut u8, room: usize) -> i64;
     fn flasknib_write_head(out: *mut u8, room: usize) -> i64;
     fn flasknib_write_row(label: *const u8, length: usize, ssrc: u32, source: *const u64, words: usize, jumped: u64,
                           restarts: u64, out: *mut u8, room: usize) -> i64;
@@ -156,6 +157,10 @@ impl Calls for Library {
         let (n_times, n_numbers, n_marks) = (times.len(), numbers.len(), marks.len());
         let (at, room) = (out.as_mut_ptr(), out.len());
         unsafe { flasknib_write_arrivals(form, times_at, n_times, numbers_at, n_numbers, marks_at, n_marks, ssrc, at, room) }
+    }
+
+    fn write_records(&self, form: u8, records: &[u8], ssrc: u32, out: &mut [u8]) -> i64 {
+        unsafe { flasknib_write_records(form, records.as_ptr(), records.len(), ssrc, out.as_mut_ptr(), out.len()) }
     }
 
     fn write_head(&self, out: &mut [u8]) -> i64 {

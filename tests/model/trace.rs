@@ -149,6 +149,15 @@ pub fn arrivals_block(form: Form, records: &[Record], ssrc: u32) -> Result<Vec<u
     Ok(block(form.kinds().1, records.len(), ssrc, &body))
 }
 
+/// The block of the records that these bytes hold, as a body has them.
+pub fn records_block(form: Form, bytes: &[u8], ssrc: u32) -> Result<Vec<u8>, Refusal> {
+    require(bytes.len() % form.width() == 0, LIMITS)?;
+    match read_arrivals(form, bytes, bytes.len() / form.width()) {
+        Some(Contents::Arrivals(records)) => arrivals_block(form, &records, ssrc),
+        _ => Err(LIMITS),
+    }
+}
+
 /// A block with these contents, whether they keep to the rules or not, and its check.
 pub fn block(kind: u16, count: usize, ssrc: u32, body: &[u8]) -> Vec<u8> {
     let mut block = Vec::new();

@@ -12,10 +12,10 @@ use Rattle.format.specs.Forms.{Shape, shapeOf, width}
 use Rattle.format.specs.declared.Form.{Form}
 use Rattle.format.proofs.Fits.{fits, records-fit}
 use Rattle.trace.specs.Contents.{labelOk}
-use Rattle.trace.specs.Layout.{labelBlock, arrivalsBlock}
-use Rattle.trace.specs.Writing.{labelFault, recordsOf, arrivalsOk, arrivalsFault}
-use Rattle.trace.proofs.Decisions.{label-short, lists-taken}
-use Rattle.trace.proofs.Layouts.{length-labelBlock, length-arrivalsBlock, length-recordsOf}
+use Rattle.trace.specs.Layout.{labelBlock, arrivalsBlock, recordsBlock}
+use Rattle.trace.specs.Writing.{labelFault, recordsOf, arrivalsOk, arrivalsFault, bodyOk, bodyFault}
+use Rattle.trace.proofs.Decisions.{label-short, lists-taken, body-taken}
+use Rattle.trace.proofs.Layouts.{length-labelBlock, length-arrivalsBlock, length-recordsBlock, length-recordsOf}
 
 -- values that are not refused with 10 have passed the test
 passed : (t : Bool) → cond t none (some Limits) ≡ none → t ≡ true
@@ -33,3 +33,9 @@ arrivals-length form times numbers marks ssrc e =
     let t = lists-taken (shapeOf form) times numbers marks (passed (arrivalsOk (shapeOf form) times numbers marks) e) in
     let many : length (recordsOf times numbers marks) ≡ length times = length-recordsOf times numbers marks (t .numbers-long) (t .marks-long) in
     length-arrivalsBlock (shapeOf form) (recordsOf times numbers marks) ssrc (rw many (records-fit (fits form) (t .most)))
+
+pub records-length : (form : Form) (s : List ℕ) (ssrc : ℕ) → bodyFault (shapeOf form) s ≡ none → length (recordsBlock (shapeOf form) s ssrc) ≡ 512
+unfolding bodyFault
+records-length form s ssrc e =
+    let t = body-taken (shapeOf form) s (passed (bodyOk (shapeOf form) s) e) in
+    length-recordsBlock (shapeOf form) s ssrc (omega (arith, t .whole, records-fit (fits form) (t .most)))

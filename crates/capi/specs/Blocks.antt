@@ -10,11 +10,11 @@ use Rattle.format.specs.Forms.{shapeOf}
 use Rattle.source.specs.declared.Totals.{Totals}
 use Rattle.trace.specs.declared.Block.{Block}
 use Rattle.trace.specs.declared.Block.the-variants.{Label, Arrivals, Refused}
-use Rattle.trace.specs.Layout.{labelBlock, arrivalsBlock}
+use Rattle.trace.specs.Layout.{labelBlock, arrivalsBlock, recordsBlock}
 use Rattle.trace.specs.declared.Found.{Found}
 use Rattle.trace.specs.declared.Found.the-variants.{Is, Refused as Missing}
 use Rattle.trace.specs.Reading.{blockOf, foundAt}
-use Rattle.trace.specs.Writing.{labelFault, recordsOf, arrivalsFault}
+use Rattle.trace.specs.Writing.{labelFault, recordsOf, arrivalsFault, bodyFault}
 use Rattle.table.specs.Lines.{headBytes, rowFault, rowBytes, refusedLine}
 use Rattle.lent.specs.FormWords.{isForm, formOf}
 use Rattle.lent.specs.SourceWords.{sourceOf}
@@ -62,7 +62,7 @@ FindsRecord block i old r found =
     (recordWords (foundAt block i))
     old r found
 
--- ---- flasknib_write_label, flasknib_write_arrivals
+-- ---- flasknib_write_label, flasknib_write_arrivals, flasknib_write_records
 
 -- 10 for another form than 1 or 2
 abbrev pub formFault : ℕ → Option Refusal → Option Refusal
@@ -82,6 +82,14 @@ WritesArrivals form times numbers marks ssrc old r out =
     Gives lengthCode
     (formFault form (arrivalsFault (shapeOf (formOf form)) times numbers marks))
     (arrivalsBlock (shapeOf (formOf form)) (recordsOf times numbers marks) ssrc)
+    old r out
+
+-- the same block from the bytes of its records: 10, 12; or its 512 bytes
+abbrev pub WritesRecords : ℕ → List ℕ → ℕ → List ℕ → ℤ → List ℕ → Type 0
+WritesRecords form records ssrc old r out =
+    Gives lengthCode
+    (formFault form (bodyFault (shapeOf (formOf form)) records))
+    (recordsBlock (shapeOf (formOf form)) records ssrc)
     old r out
 
 -- ---- flasknib_write_head, flasknib_write_row, flasknib_write_refused

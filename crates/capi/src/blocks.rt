@@ -11,10 +11,11 @@ use trace::read::read_block;
 use trace::read::record_at;
 use trace::write::write_arrivals;
 use trace::write::write_label;
+use trace::write::write_records;
 ghost use mathlib.Core.List.{[], _∷_};
 ghost use mathlib.Core.Option.{none};
 ghost use Rattle.capi.specs.Codes.{refusalCode, Gives};
-ghost use Rattle.capi.specs.Blocks.{ReadsBlock, FindsRecord, WritesLabel, WritesArrivals};
+ghost use Rattle.capi.specs.Blocks.{ReadsBlock, FindsRecord, WritesLabel, WritesArrivals, WritesRecords};
 
 // Stores three words at the front of found. Gives 0, or refusal 12.
 fn put_found(x: u64, y: u64, z: u64, found: &mut [u64]) -> u8
@@ -86,4 +87,15 @@ pub extern "C" fn flasknib_write_arrivals(
         return codes::length(Written::Refused(Refusal::Limits));
     }
     codes::length(write_arrivals(form_of(form as u64), times, numbers, marks, ssrc, out))
+}
+
+// Writes an arrivals block from the bytes of its records. Gives its length, or minus refusal 10, or 12 with its size.
+#[no_mangle]
+pub extern "C" fn flasknib_write_records(form: u8, records: &[u8], ssrc: u32, out: &mut [u8]) -> i64
+    ensures { λ r. ⌜ WritesRecords form (now (records .entry)) ssrc (now (out .entry)) r (now (out .exit)) ⌝ }
+{
+    if !is_form(form as u64) {
+        return codes::length(Written::Refused(Refusal::Limits));
+    }
+    codes::length(write_records(form_of(form as u64), records, ssrc, out))
 }
