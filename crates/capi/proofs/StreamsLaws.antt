@@ -13,7 +13,7 @@ use Rattle.mixed.specs.declared.Run.{Run}
 use Rattle.lent.specs.FormWords.{isForm}
 use Rattle.lent.proofs.SourceLaws.{elements, elements-are}
 use Rattle.lent.proofs.RunLaws.{form-fits, form-back, form-word}
-use Rattle.capi.specs.StreamsWords.{runOf, isRun, loaded, runWords, RunBack, RunWordsBack}
+use Rattle.capi.specs.StreamsWords.{runOf, isRun, loaded, runWords, StreamsBack, StreamsWordsBack}
 use Rattle.capi.specs.declared.streams_words.Loaded.the-variants.{Held, Malformed}
 
 -- the words that are a run's are 3
@@ -34,13 +34,13 @@ other words e = go (isRun words) e
     go true e = let z : _≡_ {A = ℕ} 0 1 = cc in absurd (omega arith)
     go false e = refl
 
-pub run-back : RunBack
+pub streams-back : StreamsBack
 unfolding loaded
-run-back run = rw (form-fits (run .form)) (ap Held (λ i. record { form = form-back (run .form) i; length = run .length; held = run .held }))
+streams-back run = rw (form-fits (run .form)) (ap Held (λ i. record { form = form-back (run .form) i; length = run .length; held = run .held }))
 
-pub run-words-back : RunWordsBack
+pub streams-words-back : StreamsWordsBack
 unfolding elements
-run-words-back words run e =
+streams-words-back words run e =
     let h = held words e in
     let form = form-word (getD words 0 0) (and-right (eqb (length words) 3) (isForm (getD words 0 0)) (h .1)) in
     ap runWords (h .2) ∙ ap (λ (n : ℕ). n ∷ getD words 1 0 ∷ getD words 2 0 ∷ []) form ∙ sym (elements-are words 0 3 (omega (arith, h .0))) ∙ take-all 3 words (omega (arith, h .0))

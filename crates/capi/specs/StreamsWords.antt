@@ -28,9 +28,9 @@ runWords run = formNumber (run .form) ∷ run .length ∷ run .held ∷ []
 -- ---- both are inverse
 
 -- a run reads back
-abbrev pub RunBack : Type 0
-RunBack = (run : Run) → loaded (runWords run) ≡ Held run
+abbrev pub StreamsBack : Type 0
+StreamsBack = (run : Run) → loaded (runWords run) ≡ Held run
 
 -- words that are a run's are the words of that run
-abbrev pub RunWordsBack : Type 0
-RunWordsBack = (words : List ℕ) (run : Run) → loaded words ≡ Held run → runWords run ≡ words
+abbrev pub StreamsWordsBack : Type 0
+StreamsWordsBack = (words : List ℕ) (run : Run) → loaded words ≡ Held run → runWords run ≡ words
