@@ -19,7 +19,7 @@ static void print_words(const char *name, const uint8_t *bytes, int64_t answer)
     printf("%s:", name);
     if (FLASKNIB_WRITE_REFUSAL(answer) != 0)
         printf(" refused %d", FLASKNIB_WRITE_REFUSAL(answer));
-    if (FLASKNIB_WRITE_REFUSAL(answer) == FLASKNIB_ROOM)
+    if (FLASKNIB_WRITE_REFUSAL(answer) == FLASKNIB_REFUSAL_ROOM)
         printf(", %zu bytes", FLASKNIB_WRITE_SIZE(answer));
     for (int64_t i = 0; i < answer; i++)
         printf("%s%02X", i % 4 == 0 ? " " : "", bytes[i]);
@@ -45,7 +45,7 @@ int main(void)
 
     for (size_t i = 0; i < sizeof marks; i++) {
         uint8_t answer = flasknib_arrive(source, FLASKNIB_SOURCE_WORDS, wires[i], marks[i]);
-        if (answer == FLASKNIB_JUMP)
+        if (answer == FLASKNIB_REFUSAL_JUMP)
             jumped++;
         else if (answer == FLASKNIB_RESTARTED)
             restarts++;
@@ -67,7 +67,7 @@ int main(void)
     uint8_t none[1];
     int64_t asked = write_row(source, jumped, restarts, none, 0);
     print_words("row in 0 bytes", none, asked);
-    if (FLASKNIB_WRITE_REFUSAL(asked) != FLASKNIB_ROOM)
+    if (FLASKNIB_WRITE_REFUSAL(asked) != FLASKNIB_REFUSAL_ROOM)
         return FLASKNIB_WRITE_REFUSAL(asked);
 
     /* Asked again with just that much room, it writes. */

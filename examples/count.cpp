@@ -70,9 +70,9 @@ static bool count(Totals &totals)
 
     for (const auto &[wire, mark] : arrivals) {
         const std::uint8_t answer = flasknib_arrive(totals.source.data(), totals.source.size(), wire, mark);
-        totals.jumped += answer == FLASKNIB_JUMP;
+        totals.jumped += answer == FLASKNIB_REFUSAL_JUMP;
         totals.restarts += answer == FLASKNIB_RESTARTED;
-        if (answer != 0 && answer != FLASKNIB_JUMP && answer != FLASKNIB_RESTARTED)
+        if (answer != 0 && answer != FLASKNIB_REFUSAL_JUMP && answer != FLASKNIB_RESTARTED)
             return false;
     }
     return true;

@@ -2,7 +2,7 @@
  *
  * Every function returns on every input. Records are lent as arrays of 64-bit words in the layouts below; a signed number is stored as its
  * two's complement. A refusal is its number below, and a refused call changes no word and no byte of what it
- * was lent, with one exception: refusal 7 of flasknib_arrive and flasknib_table_arrive changes the remembered number of the record. A record in
+ * was lent, with one exception: refusal 7 of flasknib_arrive and flasknib_sources_arrive changes the remembered number of the record. A record in
  * another number of words than its layout has is refused with 9, as malformed, and so is a table with 16. A function that writes bytes says
  * with refusal 12 how many it needs.
  */
@@ -35,24 +35,24 @@ extern "C" {
 
 /* Refusals. */
 enum {
-    FLASKNIB_INCOMPLETE = 1,    /* empty input, a header cut off, not one whole block */
-    FLASKNIB_RTP_VERSION = 2,   /* the version in an RTCP header is not 2 */
-    FLASKNIB_FIRST_PACKET = 3,  /* the first packet is no SR or RR */
-    FLASKNIB_PACKET_SIZE = 4,   /* a packet passes the end, or does not have its body's size */
-    FLASKNIB_PADDING = 5,       /* the padding is wrong, or not in the last packet */
-    FLASKNIB_BLOCK_SIZE = 6,    /* an XR block passes its packet */
-    FLASKNIB_JUMP = 7,          /* the sequence number jumps; the record remembers the number that would follow it */
-    FLASKNIB_FULL = 8,          /* 2^48 arrivals are counted */
-    FLASKNIB_MALFORMED = 9,     /* a record is malformed */
-    FLASKNIB_LIMITS = 10,       /* a number, a label, records or a compound's size outside the limits */
-    FLASKNIB_TIME = 11,         /* a report not later than the last report or start, or earlier than a heard packet; a tick or a heard
+    FLASKNIB_REFUSAL_INCOMPLETE = 1,    /* empty input, a header cut off, not one whole block */
+    FLASKNIB_REFUSAL_VERSION = 2,   /* the version in an RTCP header is not 2 */
+    FLASKNIB_REFUSAL_FIRST_PACKET = 3,  /* the first packet is no SR or RR */
+    FLASKNIB_REFUSAL_PACKET_SIZE = 4,   /* a packet passes the end, or does not have its body's size */
+    FLASKNIB_REFUSAL_PADDING = 5,       /* the padding is wrong, or not in the last packet */
+    FLASKNIB_REFUSAL_BLOCK_SIZE = 6,    /* an XR block passes its packet */
+    FLASKNIB_REFUSAL_JUMP = 7,          /* the sequence number jumps; the record remembers the number that would follow it */
+    FLASKNIB_REFUSAL_FULL = 8,          /* 2^48 arrivals are counted */
+    FLASKNIB_REFUSAL_MALFORMED = 9,     /* a record is malformed */
+    FLASKNIB_REFUSAL_LIMITS = 10,       /* a number, a label, records or a compound's size outside the limits */
+    FLASKNIB_REFUSAL_TIME = 11,         /* a report not later than the last report or start, or earlier than a heard packet; a tick or a heard
                                  * packet earlier than these */
-    FLASKNIB_ROOM = 12,         /* the output is too small; where bytes are written, the answer has their number, the size */
-    FLASKNIB_CHECKSUM = 13,     /* a block's checksum */
-    FLASKNIB_CONTENTS = 14,     /* a block's contents */
-    FLASKNIB_PLACES = 15,       /* a new SSRC, and every place of the table is held */
-    FLASKNIB_RULES = 16,        /* a table against its rules */
-    FLASKNIB_FORM_TWO = 17      /* a time needs form 2: given by the converter of forms alone */
+    FLASKNIB_REFUSAL_ROOM = 12,         /* the output is too small; where bytes are written, the answer has their number, the size */
+    FLASKNIB_REFUSAL_CHECKSUM = 13,     /* a block's checksum */
+    FLASKNIB_REFUSAL_CONTENTS = 14,     /* a block's contents */
+    FLASKNIB_REFUSAL_PLACES = 15,       /* a new SSRC, and every place of the table is held */
+    FLASKNIB_REFUSAL_RULES = 16,        /* a table against its rules */
+    FLASKNIB_REFUSAL_FORM_TWO = 17      /* a time needs form 2: given by the converter of forms alone */
 };
 
 /* ---- what a writer answers -------------------------------------------------------------------------------------------------------
@@ -99,7 +99,7 @@ enum {
 /* The marks, as the two bits of the IP header have them (RFC 3168): ECT(1) is 1, ECT(0) is 2. Another mark is refused with 10. */
 enum { FLASKNIB_MARK_NOT_ECT = 0, FLASKNIB_MARK_ECT1 = 1, FLASKNIB_MARK_ECT0 = 2, FLASKNIB_MARK_CE = 3 };
 
-/* What flasknib_arrive and flasknib_table_arrive answer for a restart. It is no refusal: the arrival is counted. */
+/* What flasknib_arrive and flasknib_sources_arrive answer for a restart. It is no refusal: the arrival is counted. */
 enum { FLASKNIB_RESTARTED = 128 };
 
 /* Counts one arrival. Gives 0 or FLASKNIB_RESTARTED and the next record, or refusal 9, 10, 8 or 7. Refusal 7 stores the next record too: only
@@ -111,7 +111,7 @@ uint8_t flasknib_arrive(uint64_t *source, size_t words, uint16_t wire, uint8_t m
  * 9 or 10. The first packet of the pair that makes a restart is a jump, the second is counted as a restart alone. */
 int64_t flasknib_count_block(uint64_t *source, size_t words, const uint8_t *records, size_t length, size_t width);
 
-/* The jumps and the restarts in an answer of flasknib_count_block or flasknib_table_count_block that is not negative: a uint64_t each. */
+/* The jumps and the restarts in an answer of flasknib_count_block or flasknib_sources_count_block that is not negative: a uint64_t each. */
 #define FLASKNIB_BLOCK_JUMPS(answer) ((uint64_t)(answer) % 256)
 #define FLASKNIB_BLOCK_RESTARTS(answer) ((uint64_t)(answer) / 256)
 
@@ -138,24 +138,24 @@ int64_t flasknib_write_summary(const uint64_t *source, size_t words, uint32_t me
  * for a table without places; `table` must not be null, even then.
  */
 #define FLASKNIB_PLACE_WORDS 11
-#define FLASKNIB_TABLE_MOST_PLACES 16
+#define FLASKNIB_SOURCES_MOST_PLACES 16
 
 /* Counts one arrival of the source `ssrc`, as flasknib_arrive does. Gives 0 or FLASKNIB_RESTARTED and the next table, or refusal 16, 9, 10, 15, 8
  * or 7. Refusal 7 stores the next table too: only the remembered number of that source's place differs. */
-uint8_t flasknib_table_arrive(uint64_t *table, size_t words, uint32_t ssrc, uint16_t wire, uint8_t mark);
+uint8_t flasknib_sources_arrive(uint64_t *table, size_t words, uint32_t ssrc, uint16_t wire, uint8_t mark);
 
 /* Counts the records of one arrivals block of the source `ssrc`, as flasknib_count_block does. Gives 256 * restarts + jumps and the next table, or
  * minus refusal 16, 9, 10 or 15. */
-int64_t flasknib_table_count_block(uint64_t *table, size_t words, uint32_t ssrc, const uint8_t *records, size_t length, size_t width);
+int64_t flasknib_sources_count_block(uint64_t *table, size_t words, uint32_t ssrc, const uint8_t *records, size_t length, size_t width);
 
 /* Writes a compound from the SSRC `sender`: an RR without report blocks (RFC 3550) and one ECN feedback packet for each held place, in order;
  * 8 bytes and 32 for each. Gives its length, or minus refusal 16 or 9, or 12 with its size. */
-#define FLASKNIB_TABLE_COMPOUND_MOST_BYTES 520
-int64_t flasknib_table_write_compound(const uint64_t *table, size_t words, uint32_t sender, uint8_t *out, size_t room);
+#define FLASKNIB_SOURCES_COMPOUND_MOST_BYTES 520
+int64_t flasknib_sources_write_compound(const uint64_t *table, size_t words, uint32_t sender, uint8_t *out, size_t room);
 
 /* The words of one held place, counted from 0. Gives 0 and 11 words at the front of `found`, or refusal 16, 9, 10 for a place that is not held, or
  * 12 where `found` has fewer words. */
-uint8_t flasknib_table_place(const uint64_t *table, size_t words, size_t place, uint64_t *found, size_t found_words);
+uint8_t flasknib_sources_place(const uint64_t *table, size_t words, size_t place, uint64_t *found, size_t found_words);
 
 /* ---- compound RTCP ---------------------------------------------------------------------------------------------------------------
  * 24 words, the first of each kind of report about `media`, and a last one:
@@ -198,10 +198,10 @@ enum {
 /* The bytes of the longest compound; a longer one is refused with 10. */
 #define FLASKNIB_COMPOUND_MOST_BYTES 65507
 
-/* Which compounds are taken. FLASKNIB_COMPOUND: those that begin with an SR or an RR (RFC 3550, section 6.1); any other is refused with 3.
- * FLASKNIB_REDUCED_SIZE: reduced-size ones too (RFC 5506), which need not have an SR or an RR; 3 is not given. What the first takes has the same
- * words under the second. A packet without an SR or an RR (word 23 is 0) must not enter the congestion rule (RFC 8083, section 5). */
-enum { FLASKNIB_COMPOUND = 0, FLASKNIB_REDUCED_SIZE = 1 };
+/* Which compounds are taken. FLASKNIB_PROFILE_COMPOUND: those that begin with an SR or an RR (RFC 3550, section 6.1); any other is refused with 3.
+ * FLASKNIB_PROFILE_REDUCED_SIZE: reduced-size ones too (RFC 5506), which need not have an SR or an RR; 3 is not given. What the first takes has
+ * the same words under the second. A packet without an SR or an RR (word 23 is 0) must not enter the congestion rule (RFC 8083, section 5). */
+enum { FLASKNIB_PROFILE_COMPOUND = 0, FLASKNIB_PROFILE_REDUCED_SIZE = 1 };
 
 /* Reads a compound. Gives 0 and 24 words at the front of `found`, or refusal 10 for another profile than the two, 1 to 6 or 10, or 12 where
  * `found` has fewer words. */
@@ -339,7 +339,7 @@ uint16_t flasknib_breaker_heard(uint64_t *breaker, size_t words, uint64_t time);
 enum { FLASKNIB_BLOCK_KIND = 0, FLASKNIB_BLOCK_COUNT = 1, FLASKNIB_BLOCK_SSRC = 2 };
 
 /* The kinds of a block. Those of form 1 are 1 and 2, those of form 2 are 3 and 4. */
-enum { FLASKNIB_LABEL_ONE = 1, FLASKNIB_ARRIVALS_ONE = 2, FLASKNIB_LABEL_TWO = 3, FLASKNIB_ARRIVALS_TWO = 4 };
+enum { FLASKNIB_KIND_LABEL_ONE = 1, FLASKNIB_KIND_ARRIVALS_ONE = 2, FLASKNIB_KIND_LABEL_TWO = 3, FLASKNIB_KIND_ARRIVALS_TWO = 4 };
 
 /* The bytes of every block. */
 #define FLASKNIB_BLOCK_BYTES 512
@@ -351,7 +351,7 @@ enum { FLASKNIB_LABEL_ONE = 1, FLASKNIB_ARRIVALS_ONE = 2, FLASKNIB_LABEL_TWO = 3
 #define FLASKNIB_RECORD_TWO_BYTES 10
 #define FLASKNIB_ARRIVALS_ONE_MOST 62
 #define FLASKNIB_ARRIVALS_TWO_MOST 50
-#define FLASKNIB_BLOCK_BODY 8
+#define FLASKNIB_BLOCK_BODY_AT 8
 
 /* Reads a block of 512 bytes, of either form. Gives 0 and 3 words at the front of `found`, or refusal 1, 13 or 14, or 12 where `found` has fewer
  * words. */

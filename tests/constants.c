@@ -34,8 +34,8 @@ static void sources(void)
 {
     uint64_t source[FLASKNIB_SOURCE_WORDS + 1] = {0};
 
-    CHECK(flasknib_arrive(source, FLASKNIB_SOURCE_WORDS - 1, 1, 0) == FLASKNIB_MALFORMED);
-    CHECK(flasknib_arrive(source, FLASKNIB_SOURCE_WORDS + 1, 1, 0) == FLASKNIB_MALFORMED);
+    CHECK(flasknib_arrive(source, FLASKNIB_SOURCE_WORDS - 1, 1, 0) == FLASKNIB_REFUSAL_MALFORMED);
+    CHECK(flasknib_arrive(source, FLASKNIB_SOURCE_WORDS + 1, 1, 0) == FLASKNIB_REFUSAL_MALFORMED);
     counted(source);
     CHECK(source[FLASKNIB_SOURCE_BASE] == 10);
     CHECK(source[FLASKNIB_SOURCE_HIGHEST] == 19);
@@ -47,8 +47,8 @@ static void sources(void)
     CHECK(source[FLASKNIB_SOURCE_HISTORY] == 0x3fd);
     CHECK(source[FLASKNIB_SOURCE_HISTORY + 1] == 0);
     CHECK(source[FLASKNIB_SOURCE_REMEMBERED] == 0);
-    CHECK(flasknib_arrive(source, FLASKNIB_SOURCE_WORDS, 20, FLASKNIB_MARK_CE + 1) == FLASKNIB_LIMITS);
-    CHECK(flasknib_arrive(source, FLASKNIB_SOURCE_WORDS, 30000, 0) == FLASKNIB_JUMP);
+    CHECK(flasknib_arrive(source, FLASKNIB_SOURCE_WORDS, 20, FLASKNIB_MARK_CE + 1) == FLASKNIB_REFUSAL_LIMITS);
+    CHECK(flasknib_arrive(source, FLASKNIB_SOURCE_WORDS, 30000, 0) == FLASKNIB_REFUSAL_JUMP);
     CHECK(source[FLASKNIB_SOURCE_REMEMBERED] == 30001 + 1);
     CHECK(flasknib_arrive(source, FLASKNIB_SOURCE_WORDS, 30001, 0) == FLASKNIB_RESTARTED);
 }
@@ -75,9 +75,9 @@ static void full_source(void)
     source[FLASKNIB_SOURCE_ECT0] = UINT64_C(1) << 48;
     source[FLASKNIB_SOURCE_DUPLICATES] = (UINT64_C(1) << 48) - 1;
     source[FLASKNIB_SOURCE_HISTORY] = 1;
-    CHECK(flasknib_arrive(source, FLASKNIB_SOURCE_WORDS, 6, 0) == FLASKNIB_FULL);
+    CHECK(flasknib_arrive(source, FLASKNIB_SOURCE_WORDS, 6, 0) == FLASKNIB_REFUSAL_FULL);
     source[FLASKNIB_SOURCE_HISTORY] = 0;
-    CHECK(flasknib_arrive(source, FLASKNIB_SOURCE_WORDS, 6, 0) == FLASKNIB_MALFORMED);
+    CHECK(flasknib_arrive(source, FLASKNIB_SOURCE_WORDS, 6, 0) == FLASKNIB_REFUSAL_MALFORMED);
 }
 
 static void big_endian(uint8_t *at, uint32_t number)
@@ -113,8 +113,8 @@ static void compound_words(void)
     uint64_t found[FLASKNIB_COMPOUND_WORDS];
 
     compound(bytes);
-    CHECK(flasknib_read_compound(bytes, COMPOUND, SSRC, FLASKNIB_COMPOUND, found, FLASKNIB_COMPOUND_WORDS - 1) == FLASKNIB_ROOM);
-    CHECK(flasknib_read_compound(bytes, COMPOUND, SSRC, FLASKNIB_COMPOUND, found, FLASKNIB_COMPOUND_WORDS) == 0);
+    CHECK(flasknib_read_compound(bytes, COMPOUND, SSRC, FLASKNIB_PROFILE_COMPOUND, found, FLASKNIB_COMPOUND_WORDS - 1) == FLASKNIB_REFUSAL_ROOM);
+    CHECK(flasknib_read_compound(bytes, COMPOUND, SSRC, FLASKNIB_PROFILE_COMPOUND, found, FLASKNIB_COMPOUND_WORDS) == 0);
     CHECK(found[FLASKNIB_COMPOUND_REPORT] == 1);
     CHECK(found[FLASKNIB_COMPOUND_REPORT_FRACTION] == 0x51);
     CHECK(found[FLASKNIB_COMPOUND_REPORT_LOST] == minus_two);
@@ -149,7 +149,7 @@ static uint8_t changed(size_t at, uint8_t byte)
 
     compound(bytes);
     bytes[at] = byte;
-    return flasknib_read_compound(bytes, COMPOUND, SSRC, FLASKNIB_COMPOUND, found, FLASKNIB_COMPOUND_WORDS);
+    return flasknib_read_compound(bytes, COMPOUND, SSRC, FLASKNIB_PROFILE_COMPOUND, found, FLASKNIB_COMPOUND_WORDS);
 }
 
 static void compound_refusals(void)
@@ -157,25 +157,25 @@ static void compound_refusals(void)
     static uint8_t longest[FLASKNIB_COMPOUND_MOST_BYTES + 1];
     uint64_t found[FLASKNIB_COMPOUND_WORDS];
 
-    CHECK(flasknib_read_compound(longest, 0, SSRC, FLASKNIB_COMPOUND, found, FLASKNIB_COMPOUND_WORDS) == FLASKNIB_INCOMPLETE);
-    CHECK(flasknib_read_compound(longest, sizeof longest - 1, SSRC, FLASKNIB_COMPOUND, found, FLASKNIB_COMPOUND_WORDS) == FLASKNIB_RTP_VERSION);
-    CHECK(flasknib_read_compound(longest, sizeof longest, SSRC, FLASKNIB_COMPOUND, found, FLASKNIB_COMPOUND_WORDS) == FLASKNIB_LIMITS);
-    CHECK(changed(0, 0x41) == FLASKNIB_RTP_VERSION);
-    CHECK(changed(1, 0xcf) == FLASKNIB_FIRST_PACKET);
-    CHECK(changed(3, 0xff) == FLASKNIB_PACKET_SIZE);
-    CHECK(changed(0, 0xa1) == FLASKNIB_PADDING);
-    CHECK(changed(XR_AT + 8 + 3, 6) == FLASKNIB_BLOCK_SIZE);
-    CHECK(flasknib_read_compound(longest, 4, SSRC, FLASKNIB_REDUCED_SIZE + 1, found, FLASKNIB_COMPOUND_WORDS) == FLASKNIB_LIMITS);
+    CHECK(flasknib_read_compound(longest, 0, SSRC, FLASKNIB_PROFILE_COMPOUND, found, FLASKNIB_COMPOUND_WORDS) == FLASKNIB_REFUSAL_INCOMPLETE);
+    CHECK(flasknib_read_compound(longest, sizeof longest - 1, SSRC, FLASKNIB_PROFILE_COMPOUND, found, FLASKNIB_COMPOUND_WORDS) == FLASKNIB_REFUSAL_VERSION);
+    CHECK(flasknib_read_compound(longest, sizeof longest, SSRC, FLASKNIB_PROFILE_COMPOUND, found, FLASKNIB_COMPOUND_WORDS) == FLASKNIB_REFUSAL_LIMITS);
+    CHECK(changed(0, 0x41) == FLASKNIB_REFUSAL_VERSION);
+    CHECK(changed(1, 0xcf) == FLASKNIB_REFUSAL_FIRST_PACKET);
+    CHECK(changed(3, 0xff) == FLASKNIB_REFUSAL_PACKET_SIZE);
+    CHECK(changed(0, 0xa1) == FLASKNIB_REFUSAL_PADDING);
+    CHECK(changed(XR_AT + 8 + 3, 6) == FLASKNIB_REFUSAL_BLOCK_SIZE);
+    CHECK(flasknib_read_compound(longest, 4, SSRC, FLASKNIB_PROFILE_REDUCED_SIZE + 1, found, FLASKNIB_COMPOUND_WORDS) == FLASKNIB_REFUSAL_LIMITS);
     longest[0] = 0x80;
-    CHECK(flasknib_read_compound(longest, 4, SSRC, FLASKNIB_COMPOUND, found, FLASKNIB_COMPOUND_WORDS) == FLASKNIB_FIRST_PACKET);
-    CHECK(flasknib_read_compound(longest, 4, SSRC, FLASKNIB_REDUCED_SIZE, found, FLASKNIB_COMPOUND_WORDS) == 0);
+    CHECK(flasknib_read_compound(longest, 4, SSRC, FLASKNIB_PROFILE_COMPOUND, found, FLASKNIB_COMPOUND_WORDS) == FLASKNIB_REFUSAL_FIRST_PACKET);
+    CHECK(flasknib_read_compound(longest, 4, SSRC, FLASKNIB_PROFILE_REDUCED_SIZE, found, FLASKNIB_COMPOUND_WORDS) == 0);
 }
 
 static void ecn_counts(void)
 {
     uint64_t counts[FLASKNIB_ECN_WORDS];
 
-    CHECK(flasknib_ecn_between(5, 6, 7, 8, 8, 8, counts, FLASKNIB_ECN_WORDS - 1) == FLASKNIB_ROOM);
+    CHECK(flasknib_ecn_between(5, 6, 7, 8, 8, 8, counts, FLASKNIB_ECN_WORDS - 1) == FLASKNIB_REFUSAL_ROOM);
     CHECK(flasknib_ecn_between(5, 6, 7, 8, 8, 8, counts, FLASKNIB_ECN_WORDS) == 0);
     CHECK(counts[FLASKNIB_ECN_LOST] == 1);
     CHECK(counts[FLASKNIB_ECN_MARKED] == 2);
@@ -188,7 +188,7 @@ static uint16_t started(uint64_t k, uint64_t m, uint64_t timeout, uint8_t reduce
     return flasknib_breaker_start(k, m, timeout, reduce, full, time, breaker, FLASKNIB_BREAKER_WORDS);
 }
 
-enum { REFUSED = FLASKNIB_REFUSED + FLASKNIB_LIMITS };
+enum { REFUSED = FLASKNIB_REFUSED + FLASKNIB_REFUSAL_LIMITS };
 
 static void start_limits(void)
 {
@@ -245,11 +245,11 @@ static void breaker_words(void)
 {
     uint64_t breaker[FLASKNIB_BREAKER_WORDS + 1];
 
-    CHECK(flasknib_breaker_start(5, 6, 7000, 1, 0, 10, breaker, FLASKNIB_BREAKER_WORDS - 1) == FLASKNIB_REFUSED + FLASKNIB_ROOM);
+    CHECK(flasknib_breaker_start(5, 6, 7000, 1, 0, 10, breaker, FLASKNIB_BREAKER_WORDS - 1) == FLASKNIB_REFUSED + FLASKNIB_REFUSAL_ROOM);
     CHECK(flasknib_breaker_start(5, 6, 7000, 1, 0, 10, breaker, FLASKNIB_BREAKER_WORDS) == FLASKNIB_GO);
-    CHECK(flasknib_breaker_tick(breaker, FLASKNIB_BREAKER_WORDS - 1, 10) == FLASKNIB_REFUSED + FLASKNIB_MALFORMED);
+    CHECK(flasknib_breaker_tick(breaker, FLASKNIB_BREAKER_WORDS - 1, 10) == FLASKNIB_REFUSED + FLASKNIB_REFUSAL_MALFORMED);
     breaker[FLASKNIB_BREAKER_WORDS] = 0;
-    CHECK(flasknib_breaker_tick(breaker, FLASKNIB_BREAKER_WORDS + 1, 10) == FLASKNIB_REFUSED + FLASKNIB_MALFORMED);
+    CHECK(flasknib_breaker_tick(breaker, FLASKNIB_BREAKER_WORDS + 1, 10) == FLASKNIB_REFUSED + FLASKNIB_REFUSAL_MALFORMED);
     CHECK(flasknib_breaker_report(breaker, FLASKNIB_BREAKER_WORDS, 1000, 77, 0, 1, 1000, 1) == FLASKNIB_GO);
     CHECK(flasknib_breaker_report(breaker, FLASKNIB_BREAKER_WORDS, 1500, 77, 33, 1, 1000, 1) == FLASKNIB_GO);
     CHECK(flasknib_breaker_heard(breaker, FLASKNIB_BREAKER_WORDS, 1600) == FLASKNIB_GO);
@@ -268,7 +268,7 @@ static void breaker_words(void)
     CHECK(breaker[FLASKNIB_BREAKER_USED] == 1);
     CHECK(breaker[FLASKNIB_BREAKER_INTERVALS] == 500);
     CHECK(breaker[FLASKNIB_BREAKER_INTERVALS + 1] == 33);
-    CHECK(flasknib_breaker_report(breaker, FLASKNIB_BREAKER_WORDS, 1599, 78, 0, 1, 1, 1) == FLASKNIB_REFUSED + FLASKNIB_TIME);
+    CHECK(flasknib_breaker_report(breaker, FLASKNIB_BREAKER_WORDS, 1599, 78, 0, 1, 1, 1) == FLASKNIB_REFUSED + FLASKNIB_REFUSAL_TIME);
 }
 
 /* Two reports behind a start with k = 1, m = 1 and a timeout of 1,000 ms; the second, with all but one packet in 256 lost, at `time` with `highest`. */
@@ -318,21 +318,21 @@ static void form_limits(uint8_t form, uint64_t label, uint64_t arrivals, size_t 
     uint8_t block[FLASKNIB_BLOCK_BYTES];
     uint64_t found[FLASKNIB_BLOCK_WORDS], source[FLASKNIB_SOURCE_WORDS] = {0};
 
-    CHECK(label_of(form, FLASKNIB_LABEL_MOST_BYTES + 1, block, sizeof block) == -FLASKNIB_LIMITS);
+    CHECK(label_of(form, FLASKNIB_LABEL_MOST_BYTES + 1, block, sizeof block) == -FLASKNIB_REFUSAL_LIMITS);
     CHECK(label_of(form, FLASKNIB_LABEL_MOST_BYTES, block, sizeof block) == FLASKNIB_BLOCK_BYTES);
     CHECK(flasknib_read_block(block, sizeof block, found, FLASKNIB_BLOCK_WORDS) == 0);
     CHECK(found[FLASKNIB_BLOCK_KIND] == label);
     CHECK(found[FLASKNIB_BLOCK_COUNT] == FLASKNIB_LABEL_MOST_BYTES);
     CHECK(found[FLASKNIB_BLOCK_SSRC] == SSRC);
-    CHECK(block[FLASKNIB_BLOCK_BODY - 1] != 'x' && block[FLASKNIB_BLOCK_BODY] == 'x');
+    CHECK(block[FLASKNIB_BLOCK_BODY_AT - 1] != 'x' && block[FLASKNIB_BLOCK_BODY_AT] == 'x');
 
-    CHECK(arrivals_of(form, most + 1, block, sizeof block) == -FLASKNIB_LIMITS);
+    CHECK(arrivals_of(form, most + 1, block, sizeof block) == -FLASKNIB_REFUSAL_LIMITS);
     CHECK(arrivals_of(form, most, block, sizeof block) == FLASKNIB_BLOCK_BYTES);
-    CHECK(flasknib_read_block(block, sizeof block, found, FLASKNIB_BLOCK_WORDS - 1) == FLASKNIB_ROOM);
+    CHECK(flasknib_read_block(block, sizeof block, found, FLASKNIB_BLOCK_WORDS - 1) == FLASKNIB_REFUSAL_ROOM);
     CHECK(flasknib_read_block(block, sizeof block, found, FLASKNIB_BLOCK_WORDS) == 0);
     CHECK(found[FLASKNIB_BLOCK_KIND] == arrivals);
     CHECK(found[FLASKNIB_BLOCK_COUNT] == most);
-    CHECK(flasknib_count_block(source, FLASKNIB_SOURCE_WORDS, block + FLASKNIB_BLOCK_BODY, most * width, width) == 0);
+    CHECK(flasknib_count_block(source, FLASKNIB_SOURCE_WORDS, block + FLASKNIB_BLOCK_BODY_AT, most * width, width) == 0);
     CHECK(source[FLASKNIB_SOURCE_HIGHEST] == most - 1);
     CHECK(source[FLASKNIB_SOURCE_NOT_ECT] == most);
 }
@@ -342,22 +342,22 @@ static void blocks(void)
     uint8_t block[FLASKNIB_BLOCK_BYTES];
     uint64_t found[FLASKNIB_BLOCK_WORDS];
 
-    form_limits(1, FLASKNIB_LABEL_ONE, FLASKNIB_ARRIVALS_ONE, FLASKNIB_ARRIVALS_ONE_MOST, FLASKNIB_RECORD_ONE_BYTES);
-    form_limits(2, FLASKNIB_LABEL_TWO, FLASKNIB_ARRIVALS_TWO, FLASKNIB_ARRIVALS_TWO_MOST, FLASKNIB_RECORD_TWO_BYTES);
+    form_limits(1, FLASKNIB_KIND_LABEL_ONE, FLASKNIB_KIND_ARRIVALS_ONE, FLASKNIB_ARRIVALS_ONE_MOST, FLASKNIB_RECORD_ONE_BYTES);
+    form_limits(2, FLASKNIB_KIND_LABEL_TWO, FLASKNIB_KIND_ARRIVALS_TWO, FLASKNIB_ARRIVALS_TWO_MOST, FLASKNIB_RECORD_TWO_BYTES);
     CHECK(label_of(1, 3, block, sizeof block) == FLASKNIB_BLOCK_BYTES);
-    CHECK(flasknib_read_block(block, sizeof block - 1, found, FLASKNIB_BLOCK_WORDS) == FLASKNIB_INCOMPLETE);
+    CHECK(flasknib_read_block(block, sizeof block - 1, found, FLASKNIB_BLOCK_WORDS) == FLASKNIB_REFUSAL_INCOMPLETE);
     block[9] = 'y';
-    CHECK(flasknib_read_block(block, sizeof block, found, FLASKNIB_BLOCK_WORDS) == FLASKNIB_CHECKSUM);
+    CHECK(flasknib_read_block(block, sizeof block, found, FLASKNIB_BLOCK_WORDS) == FLASKNIB_REFUSAL_CHECKSUM);
     block[9] = 'x';
     block[1] = 9; /* a kind that no form has, and the checksum with it */
     block[511] = (uint8_t)(block[511] - 8);
-    CHECK(flasknib_read_block(block, sizeof block, found, FLASKNIB_BLOCK_WORDS) == FLASKNIB_CONTENTS);
+    CHECK(flasknib_read_block(block, sizeof block, found, FLASKNIB_BLOCK_WORDS) == FLASKNIB_REFUSAL_CONTENTS);
 }
 
 /* Whether a writer asked with room 0 answers this size. */
 static int asks(int64_t answer, size_t size)
 {
-    return FLASKNIB_WRITE_REFUSAL(answer) == FLASKNIB_ROOM && FLASKNIB_WRITE_SIZE(answer) == size;
+    return FLASKNIB_WRITE_REFUSAL(answer) == FLASKNIB_REFUSAL_ROOM && FLASKNIB_WRITE_SIZE(answer) == size;
 }
 
 static void sizes(void)
@@ -373,28 +373,28 @@ static void sizes(void)
     CHECK(asks(arrivals_of(2, 1, out, 0), FLASKNIB_BLOCK_BYTES));
     memset(label, '"', sizeof label);
     row = flasknib_write_row(label, sizeof label, SSRC, source, FLASKNIB_SOURCE_WORDS, 0, 0, out, 0);
-    CHECK(FLASKNIB_WRITE_REFUSAL(row) == FLASKNIB_ROOM);
+    CHECK(FLASKNIB_WRITE_REFUSAL(row) == FLASKNIB_REFUSAL_ROOM);
     CHECK(FLASKNIB_WRITE_SIZE(row) > 2 * FLASKNIB_LABEL_MOST_BYTES && FLASKNIB_WRITE_SIZE(row) <= FLASKNIB_ROW_MOST_BYTES);
 }
 
 static void tables(void)
 {
-    static uint64_t table[(FLASKNIB_TABLE_MOST_PLACES + 1) * FLASKNIB_PLACE_WORDS];
+    static uint64_t table[(FLASKNIB_SOURCES_MOST_PLACES + 1) * FLASKNIB_PLACE_WORDS];
     uint64_t found[FLASKNIB_PLACE_WORDS];
     uint8_t bytes[1];
-    size_t words = FLASKNIB_TABLE_MOST_PLACES * FLASKNIB_PLACE_WORDS;
+    size_t words = FLASKNIB_SOURCES_MOST_PLACES * FLASKNIB_PLACE_WORDS;
 
-    CHECK(flasknib_table_arrive(table, words - 1, SSRC, 1, 0) == FLASKNIB_RULES);
-    CHECK(flasknib_table_arrive(table, words + FLASKNIB_PLACE_WORDS, SSRC, 1, 0) == FLASKNIB_RULES);
-    for (uint32_t i = 0; i < FLASKNIB_TABLE_MOST_PLACES; i++)
-        CHECK(flasknib_table_arrive(table, words, SSRC + i, 1, FLASKNIB_MARK_CE) == 0);
-    CHECK(flasknib_table_arrive(table, words, SSRC + FLASKNIB_TABLE_MOST_PLACES, 1, 0) == FLASKNIB_PLACES);
+    CHECK(flasknib_sources_arrive(table, words - 1, SSRC, 1, 0) == FLASKNIB_REFUSAL_RULES);
+    CHECK(flasknib_sources_arrive(table, words + FLASKNIB_PLACE_WORDS, SSRC, 1, 0) == FLASKNIB_REFUSAL_RULES);
+    for (uint32_t i = 0; i < FLASKNIB_SOURCES_MOST_PLACES; i++)
+        CHECK(flasknib_sources_arrive(table, words, SSRC + i, 1, FLASKNIB_MARK_CE) == 0);
+    CHECK(flasknib_sources_arrive(table, words, SSRC + FLASKNIB_SOURCES_MOST_PLACES, 1, 0) == FLASKNIB_REFUSAL_PLACES);
     CHECK(table[FLASKNIB_PLACE_WORDS] == SSRC + 1);
     CHECK(table[FLASKNIB_PLACE_WORDS + 1 + FLASKNIB_SOURCE_CE] == 1);
-    CHECK(flasknib_table_place(table, words, 1, found, FLASKNIB_PLACE_WORDS - 1) == FLASKNIB_ROOM);
-    CHECK(flasknib_table_place(table, words, 1, found, FLASKNIB_PLACE_WORDS) == 0);
+    CHECK(flasknib_sources_place(table, words, 1, found, FLASKNIB_PLACE_WORDS - 1) == FLASKNIB_REFUSAL_ROOM);
+    CHECK(flasknib_sources_place(table, words, 1, found, FLASKNIB_PLACE_WORDS) == 0);
     CHECK(found[0] == SSRC + 1);
-    CHECK(flasknib_table_write_compound(table, words, SSRC, bytes, 0) == -(256 * FLASKNIB_TABLE_COMPOUND_MOST_BYTES + FLASKNIB_ROOM));
+    CHECK(flasknib_sources_write_compound(table, words, SSRC, bytes, 0) == -(256 * FLASKNIB_SOURCES_COMPOUND_MOST_BYTES + FLASKNIB_REFUSAL_ROOM));
 }
 
 /* The queries, both runs and the converter of forms: how many words and bytes they need. */
@@ -405,22 +405,22 @@ static void queries(void)
     uint64_t forms[FLASKNIB_FORMS_WORDS] = {1, SSRC, 0};
     uint64_t streams[FLASKNIB_STREAMS_WORDS], lines[FLASKNIB_STREAMS_LINE_WORDS];
 
-    CHECK(flasknib_lost(source, FLASKNIB_SOURCE_WORDS, found, FLASKNIB_LOST_WORDS - 1) == FLASKNIB_ROOM);
+    CHECK(flasknib_lost(source, FLASKNIB_SOURCE_WORDS, found, FLASKNIB_LOST_WORDS - 1) == FLASKNIB_REFUSAL_ROOM);
     CHECK(flasknib_lost(source, FLASKNIB_SOURCE_WORDS, found, FLASKNIB_LOST_WORDS) == 0);
     CHECK(arrivals_of(1, 1, block, sizeof block) == FLASKNIB_BLOCK_BYTES);
-    CHECK(flasknib_record_at(block, sizeof block, 0, found, FLASKNIB_RECORD_WORDS - 1) == FLASKNIB_ROOM);
+    CHECK(flasknib_record_at(block, sizeof block, 0, found, FLASKNIB_RECORD_WORDS - 1) == FLASKNIB_REFUSAL_ROOM);
     CHECK(flasknib_record_at(block, sizeof block, 0, found, FLASKNIB_RECORD_WORDS) == 0);
     CHECK(asks(flasknib_write_refused(255, UINT64_MAX, out, 0), FLASKNIB_REFUSED_MOST_BYTES));
     CHECK(label_of(1, 3, block, sizeof block) == FLASKNIB_BLOCK_BYTES);
-    CHECK(flasknib_run_start(block, sizeof block, found, FLASKNIB_RUN_WORDS - 1) == FLASKNIB_ROOM);
+    CHECK(flasknib_run_start(block, sizeof block, found, FLASKNIB_RUN_WORDS - 1) == FLASKNIB_REFUSAL_ROOM);
     CHECK(flasknib_run_start(block, sizeof block, found, FLASKNIB_RUN_WORDS) == 0);
-    CHECK(flasknib_forms_close(forms, FLASKNIB_FORMS_WORDS, part, FLASKNIB_FORMS_PART_BYTES - 1, out, 0) == -FLASKNIB_MALFORMED);
-    CHECK(flasknib_forms_close(forms, FLASKNIB_FORMS_WORDS - 1, part, FLASKNIB_FORMS_PART_BYTES, out, 0) == -FLASKNIB_MALFORMED);
+    CHECK(flasknib_forms_close(forms, FLASKNIB_FORMS_WORDS, part, FLASKNIB_FORMS_PART_BYTES - 1, out, 0) == -FLASKNIB_REFUSAL_MALFORMED);
+    CHECK(flasknib_forms_close(forms, FLASKNIB_FORMS_WORDS - 1, part, FLASKNIB_FORMS_PART_BYTES, out, 0) == -FLASKNIB_REFUSAL_MALFORMED);
     CHECK(flasknib_forms_close(forms, FLASKNIB_FORMS_WORDS, part, FLASKNIB_FORMS_PART_BYTES, out, 0) == 0);
-    CHECK(flasknib_streams_start(block, sizeof block, streams, FLASKNIB_STREAMS_WORDS - 1) == FLASKNIB_ROOM);
+    CHECK(flasknib_streams_start(block, sizeof block, streams, FLASKNIB_STREAMS_WORDS - 1) == FLASKNIB_REFUSAL_ROOM);
     CHECK(flasknib_streams_start(block, sizeof block, streams, FLASKNIB_STREAMS_WORDS) == 0);
     CHECK(arrivals_of(1, 1, block, sizeof block) == FLASKNIB_BLOCK_BYTES);
-    CHECK(flasknib_streams_block(streams, FLASKNIB_STREAMS_WORDS, lines, FLASKNIB_STREAMS_LINE_WORDS - 1, block, sizeof block) == FLASKNIB_MALFORMED);
+    CHECK(flasknib_streams_block(streams, FLASKNIB_STREAMS_WORDS, lines, FLASKNIB_STREAMS_LINE_WORDS - 1, block, sizeof block) == FLASKNIB_REFUSAL_MALFORMED);
     CHECK(flasknib_streams_block(streams, FLASKNIB_STREAMS_WORDS, lines, FLASKNIB_STREAMS_LINE_WORDS, block, sizeof block) == 0);
 }
 

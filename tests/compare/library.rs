@@ -8,10 +8,10 @@ extern "C" {
     fn flasknib_arrive(source: *mut u64, words: usize, wire: u16, mark: u8) -> u8;
     fn flasknib_count_block(source: *mut u64, words: usize, records: *const u8, length: usize, width: usize) -> i64;
     fn flasknib_lost(source: *const u64, words: usize, found: *mut u64, found_words: usize) -> u8;
-    fn flasknib_table_arrive(table: *mut u64, words: usize, ssrc: u32, wire: u16, mark: u8) -> u8;
-    fn flasknib_table_count_block(table: *mut u64, words: usize, ssrc: u32, records: *const u8, length: usize, width: usize) -> i64;
-    fn flasknib_table_write_compound(table: *const u64, words: usize, sender: u32, out: *mut u8, room: usize) -> i64;
-    fn flasknib_table_place(table: *const u64, words: usize, place: usize, found: *mut u64, found_words: usize) -> u8;
+    fn flasknib_sources_arrive(table: *mut u64, words: usize, ssrc: u32, wire: u16, mark: u8) -> u8;
+    fn flasknib_sources_count_block(table: *mut u64, words: usize, ssrc: u32, records: *const u8, length: usize, width: usize) -> i64;
+    fn flasknib_sources_write_compound(table: *const u64, words: usize, sender: u32, out: *mut u8, room: usize) -> i64;
+    fn flasknib_sources_place(table: *const u64, words: usize, place: usize, found: *mut u64, found_words: usize) -> u8;
     fn flasknib_write_feedback(source: *const u64, words: usize, sender: u32, media: u32, out: *mut u8, room: usize) -> i64;
     fn flasknib_write_summary(source: *const u64, words: usize, media: u32, out: *mut u8, room: usize) -> i64;
     fn flasknib_read_compound(bytes: *const u8, length: usize, media: u32, profile: u8, found: *mut u64, words: usize) -> u8;
@@ -67,19 +67,19 @@ impl Calls for Library {
     }
 
     fn table_arrive(&self, table: &mut [u64], ssrc: u32, wire: u16, mark: u8) -> u8 {
-        unsafe { flasknib_table_arrive(table.as_mut_ptr(), table.len(), ssrc, wire, mark) }
+        unsafe { flasknib_sources_arrive(table.as_mut_ptr(), table.len(), ssrc, wire, mark) }
     }
 
     fn table_count_block(&self, table: &mut [u64], ssrc: u32, records: &[u8], width: usize) -> i64 {
-        unsafe { flasknib_table_count_block(table.as_mut_ptr(), table.len(), ssrc, records.as_ptr(), records.len(), width) }
+        unsafe { flasknib_sources_count_block(table.as_mut_ptr(), table.len(), ssrc, records.as_ptr(), records.len(), width) }
     }
 
     fn table_write_compound(&self, table: &[u64], sender: u32, out: &mut [u8]) -> i64 {
-        unsafe { flasknib_table_write_compound(table.as_ptr(), table.len(), sender, out.as_mut_ptr(), out.len()) }
+        unsafe { flasknib_sources_write_compound(table.as_ptr(), table.len(), sender, out.as_mut_ptr(), out.len()) }
     }
 
     fn table_place(&self, table: &[u64], place: usize, found: &mut [u64]) -> u8 {
-        unsafe { flasknib_table_place(table.as_ptr(), table.len(), place, found.as_mut_ptr(), found.len()) }
+        unsafe { flasknib_sources_place(table.as_ptr(), table.len(), place, found.as_mut_ptr(), found.len()) }
     }
 
     fn write_feedback(&self, source: &[u64], sender: u32, media: u32, out: &mut [u8]) -> i64 {

@@ -42,7 +42,7 @@ fn any_call(compare: &Compare, draw: &Draw, table: &mut Lent<u64>) {
 
 pub fn arrive(compare: &Compare, table: &mut Lent<u64>, ssrc: u32, wire: u16, mark: u8) -> u8 {
     let call = |calls: &dyn Calls, table: &mut Lent<u64>| i64::from(calls.table_arrive(table.part_mut(), ssrc, wire, mark));
-    compare.call("flasknib_table_arrive", table, call) as u8
+    compare.call("flasknib_sources_arrive", table, call) as u8
 }
 
 /// Records of four bytes, now and then none or too many, with a mark above 3, or of another width.
@@ -55,7 +55,7 @@ fn count_any_block(compare: &Compare, draw: &Draw, table: &mut Lent<u64>, ssrc: 
     }
     let width = if draw.one_in(20) { draw.of(&[0, 3, 8, 62]) } else { 4 };
     let mut lent = (table.clone(), Lent::new(&records));
-    compare.call("flasknib_table_count_block", &mut lent, |calls, (table, records)| {
+    compare.call("flasknib_sources_count_block", &mut lent, |calls, (table, records)| {
         calls.table_count_block(table.part_mut(), ssrc, records.part(), width)
     });
     *table = lent.0;
@@ -67,7 +67,7 @@ fn write_compound(compare: &Compare, draw: &Draw, table: &Lent<u64>, media: u32)
     let need = 8 + 32 * table.part().chunks(PLACE).count();
     let room = if draw.one_in(3) { draw.room(need) } else { need };
     let mut lent = (table.clone(), Lent::new(&vec![draw.u64() as u8; room]));
-    let answer = compare.call("flasknib_table_write_compound", &mut lent, |calls, (table, out)| {
+    let answer = compare.call("flasknib_sources_write_compound", &mut lent, |calls, (table, out)| {
         calls.table_write_compound(table.part(), sender, out.part_mut())
     });
     if answer > 0 {
@@ -91,7 +91,7 @@ fn read_back(compare: &Compare, draw: &Draw, compound: &[u8], sender: u32, place
 fn read_place(compare: &Compare, draw: &Draw, table: &Lent<u64>) {
     let place = if draw.one_in(10) { draw.any_size() as usize } else { draw.index(18) };
     let mut lent = (table.clone(), Lent::new(&vec![draw.u64(); draw.room(PLACE)]));
-    compare.call("flasknib_table_place", &mut lent, |calls, (table, found)| {
+    compare.call("flasknib_sources_place", &mut lent, |calls, (table, found)| {
         i64::from(calls.table_place(table.part(), place, found.part_mut()))
     });
 }

@@ -20,7 +20,7 @@ use Rattle.streams.specs.Compounds.{compoundBytes}
 use Rattle.lent.specs.TableWords.{placeWords, tableWords, placesIn, wordsFault}
 use Rattle.capi.specs.Codes.{lengthCode, refusalCode, Gives, Leaves}
 
--- ---- flasknib_table_arrive
+-- ---- flasknib_sources_arrive
 
 -- the refusals of the words come before the table's own
 abbrev pub arrivedUnless : Option Refusal → Arrived → Arrived
@@ -50,7 +50,7 @@ CountsTableArrival words ssrc wire mark r out =
     (arrivedWords words (tableWords (arrivePlaces (placesIn words) ssrc (record { 0 = wire }) mark)) (tableArrived words ssrc wire mark))
     r out
 
--- ---- flasknib_table_count_block
+-- ---- flasknib_sources_count_block
 
 abbrev pub countedUnless : Option Refusal → Counted → Counted
 countedUnless (some refusal) answer = NotCounted refusal
@@ -77,7 +77,7 @@ CountsTableBlock words ssrc width records r out =
     (countedWords words (tableWords (countPlaces (placesIn words) ssrc width records)) (tableCounted words ssrc width records))
     r out
 
--- ---- flasknib_table_write_compound
+-- ---- flasknib_sources_write_compound
 
 -- document 02, L1: 16, 9, 12; or the bytes of the RR and of the held places' feedback
 abbrev pub WritesTableCompound : List ℕ → ℕ → List ℕ → ℤ → List ℕ → Type 0
@@ -87,7 +87,7 @@ WritesTableCompound words sender old r out =
     (compoundBytes sender (placesIn words))
     old r out
 
--- ---- flasknib_table_place
+-- ---- flasknib_sources_place
 
 -- 10 for a place that is not one of the held ones in front
 abbrev pub unheld : List Place → ℕ → Option Refusal

@@ -51,7 +51,7 @@ fn put_arrived(given: TableArrived, words: &mut [u64]) -> u8
 
 // Counts one arrival of an SSRC. Gives 0 or 128, for a restart, and the next table; or refusal 16, 9, 10, 15, 8 or 7. A jump (7) leaves its table too.
 #[no_mangle]
-pub extern "C" fn flasknib_table_arrive(words: &mut [u64], ssrc: u32, wire: u16, mark: u8) -> u8
+pub extern "C" fn flasknib_sources_arrive(words: &mut [u64], ssrc: u32, wire: u16, mark: u8) -> u8
     ensures { λ r. ⌜ CountsTableArrival (now (words .entry)) ssrc wire mark r (now (words .exit)) ⌝ }
 {
     let loaded = load(words);
@@ -84,7 +84,7 @@ fn put_counted(given: TableCounted, words: &mut [u64]) -> i64
 
 // Counts the records of one arrivals block of an SSRC. Gives 256 * restarts + jumps and the next table, or minus refusal 16, 9, 10 or 15.
 #[no_mangle]
-pub extern "C" fn flasknib_table_count_block(
+pub extern "C" fn flasknib_sources_count_block(
     words: &mut [u64],
     ssrc: u32,
     records: &[u8],
@@ -106,7 +106,7 @@ pub extern "C" fn flasknib_table_count_block(
 
 // Writes the compound: an RR and the feedback of the held places. Gives its length, or minus refusal 16, 9 or 12.
 #[no_mangle]
-pub extern "C" fn flasknib_table_write_compound(words: &[u64], sender: u32, out: &mut [u8]) -> i64
+pub extern "C" fn flasknib_sources_write_compound(words: &[u64], sender: u32, out: &mut [u8]) -> i64
     ensures { λ r. ⌜ WritesTableCompound (now (words .entry)) sender (now (out .entry)) r (now (out .exit)) ⌝ }
 {
     let loaded = load(words);
@@ -142,7 +142,7 @@ fn put_held(t: Table, place: usize, found: &mut [u64]) -> u8
 
 // The words of a held place, counted from 0. Gives 0 and 11 words at the front of found, or refusal 16, 9, 10 or 12.
 #[no_mangle]
-pub extern "C" fn flasknib_table_place(words: &[u64], place: usize, found: &mut [u64]) -> u8
+pub extern "C" fn flasknib_sources_place(words: &[u64], place: usize, found: &mut [u64]) -> u8
     ensures { λ r. ⌜ GivesPlace (now (words .entry)) place (now (found .entry)) r (now (found .exit)) ⌝ }
 {
     let loaded = load(words);

@@ -1,11 +1,11 @@
--- `capi::tables::flasknib_table_place` meets its contract. Assumes nothing.
+-- `capi::tables::flasknib_sources_place` meets its contract. Assumes nothing.
 use borrow.Author.Needs.{needs}
 use mathlib.Core.Path.{sym, ap, _∙_}
 use denote.Ref.{now}
 use Rattle.lent.specs.declared.table_words.Loaded.{Loaded}
 use Rattle.capi.proofs.TableCalls.{place-refused, place-taken}
-use Rattle.capi.proofs.tables.flasknib_table_place.Statement.{statement}
-use Rattle.capi.proofs.tables.flasknib_table_place.Tie as tie
+use Rattle.capi.proofs.tables.flasknib_sources_place.Statement.{statement}
+use Rattle.capi.proofs.tables.flasknib_sources_place.Tie as tie
 
 returns : tie.Need-returns
 returns c =
@@ -21,8 +21,8 @@ returns-2 c =
     let told = sym (ap (λ (l : Loaded). l .answer) loads) ∙ c .before .before .before .before .before .enum-told .given .1 in
     place-taken (now (a .words)) (a .place) (now (a .found)) told (ap (λ (l : Loaded). l .table) loads) (c .before .before .put-held .ensures)
 
-pub flasknib-table-place-spec : {M : Type 1} → statement M
-flasknib-table-place-spec =
+pub flasknib-sources-place-spec : {M : Type 1} → statement M
+flasknib-sources-place-spec =
     tie.close
     (tie.spec
     (λ c κs. search needs)

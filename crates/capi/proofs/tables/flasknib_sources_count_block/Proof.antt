@@ -1,12 +1,12 @@
--- `capi::tables::flasknib_table_count_block` meets its contract. Assumes nothing.
+-- `capi::tables::flasknib_sources_count_block` meets its contract. Assumes nothing.
 use borrow.Author.Needs.{needs}
 use mathlib.Core.Path.{sym, ap, _∙_}
 use denote.Ref.{now}
 use Rattle.numbers.proofs.Signed.{seen-is}
 use Rattle.lent.specs.declared.table_words.Loaded.{Loaded}
 use Rattle.capi.proofs.TableCalls.{counts-refused, few-counted, counts-taken}
-use Rattle.capi.proofs.tables.flasknib_table_count_block.Statement.{statement}
-use Rattle.capi.proofs.tables.flasknib_table_count_block.Tie as tie
+use Rattle.capi.proofs.tables.flasknib_sources_count_block.Statement.{statement}
+use Rattle.capi.proofs.tables.flasknib_sources_count_block.Tie as tie
 
 put-counted-requires : tie.Need-put-counted-requires
 put-counted-requires c κs =
@@ -30,8 +30,8 @@ returns-2 c =
     let w = counts-taken (now (a .words)) (a .ssrc) (a .width) (now (a .records)) told (ap (λ (l : Loaded). l .table) loads) (c .before .before .before .before .count-block .ensures) (c .before .before .put-counted .ensures) in
     record { answers = seen-is (c .before .before .put-counted .result) (search needs) ∙ w .answers; stores = w .stores }
 
-pub flasknib-table-count-block-spec : {M : Type 1} → statement M
-flasknib-table-count-block-spec =
+pub flasknib-sources-count-block-spec : {M : Type 1} → statement M
+flasknib-sources-count-block-spec =
     tie.close
     (tie.spec
     (λ c κs. search needs)

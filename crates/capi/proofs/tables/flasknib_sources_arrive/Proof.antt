@@ -1,11 +1,11 @@
--- `capi::tables::flasknib_table_arrive` meets its contract. Assumes nothing.
+-- `capi::tables::flasknib_sources_arrive` meets its contract. Assumes nothing.
 use borrow.Author.Needs.{needs}
 use mathlib.Core.Path.{sym, ap, _∙_}
 use denote.Ref.{now}
 use Rattle.lent.specs.declared.table_words.Loaded.{Loaded}
 use Rattle.capi.proofs.TableCalls.{arrives-refused, arrives-taken}
-use Rattle.capi.proofs.tables.flasknib_table_arrive.Statement.{statement}
-use Rattle.capi.proofs.tables.flasknib_table_arrive.Tie as tie
+use Rattle.capi.proofs.tables.flasknib_sources_arrive.Statement.{statement}
+use Rattle.capi.proofs.tables.flasknib_sources_arrive.Tie as tie
 
 returns : tie.Need-returns
 returns c =
@@ -21,8 +21,8 @@ returns-2 c =
     let told = sym (ap (λ (l : Loaded). l .answer) loads) ∙ c .before .before .before .before .before .before .enum-told .given .1 in
     arrives-taken (now (a .words)) (a .ssrc) (a .wire) (a .mark) told (ap (λ (l : Loaded). l .table) loads) (c .before .before .before .before .arrive .ensures) (c .before .before .put-arrived .ensures)
 
-pub flasknib-table-arrive-spec : {M : Type 1} → statement M
-flasknib-table-arrive-spec =
+pub flasknib-sources-arrive-spec : {M : Type 1} → statement M
+flasknib-sources-arrive-spec =
     tie.close
     (tie.spec
     (λ c κs. search needs)

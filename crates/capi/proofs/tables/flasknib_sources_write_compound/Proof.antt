@@ -1,4 +1,4 @@
--- `capi::tables::flasknib_table_write_compound` meets its contract. Assumes nothing.
+-- `capi::tables::flasknib_sources_write_compound` meets its contract. Assumes nothing.
 use borrow.Author.Needs.{needs}
 use mathlib.Core.Path.{sym, ap, _∙_}
 use native.Mathlib.Omega.{arith}
@@ -6,8 +6,8 @@ use denote.Ref.{now}
 use Rattle.lent.specs.declared.table_words.Loaded.{Loaded}
 use Rattle.capi.proofs.Answers.{coded}
 use Rattle.capi.proofs.TableCalls.{compound-refused, compound-wrote, compound-size}
-use Rattle.capi.proofs.tables.flasknib_table_write_compound.Statement.{statement}
-use Rattle.capi.proofs.tables.flasknib_table_write_compound.Tie as tie
+use Rattle.capi.proofs.tables.flasknib_sources_write_compound.Statement.{statement}
+use Rattle.capi.proofs.tables.flasknib_sources_write_compound.Tie as tie
 
 length-requires : tie.Need-length-requires
 length-requires c κs =
@@ -30,8 +30,8 @@ returns-2 c =
     coded (search needs) (c .length .ensures)
     (compound-wrote (now (a .words)) (a .sender) (now (a .out)) told (ap (λ (l : Loaded). l .table) loads) (c .before .before .before .write-compound .ensures))
 
-pub flasknib-table-write-compound-spec : {M : Type 1} → statement M
-flasknib-table-write-compound-spec =
+pub flasknib-sources-write-compound-spec : {M : Type 1} → statement M
+flasknib-sources-write-compound-spec =
     tie.close
     (tie.spec
     (λ c κs. search needs)
