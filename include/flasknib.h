@@ -18,9 +18,9 @@ extern "C" {
 
 /* The library's version. While the first number is 0, another second number may change or remove what is declared here. */
 #define FLASKNIB_VERSION_MAJOR 0
-#define FLASKNIB_VERSION_MINOR 1
+#define FLASKNIB_VERSION_MINOR 2
 #define FLASKNIB_VERSION_PATCH 0
-#define FLASKNIB_VERSION_STRING "0.1.0"
+#define FLASKNIB_VERSION_STRING "0.2.0"
 
 /* ---- what a caller owes ----------------------------------------------------------------------------------------------------------
  * A pointer and the count behind it (words, length, room, n_...) describe memory that the caller lends for the call. What is promised holds where
@@ -35,24 +35,24 @@ extern "C" {
 
 /* Refusals. */
 enum {
-    FLASKNIB_REFUSAL_INCOMPLETE = 1,    /* empty input, a header cut off, not one whole block */
-    FLASKNIB_REFUSAL_VERSION = 2,   /* the version in an RTCP header is not 2 */
-    FLASKNIB_REFUSAL_FIRST_PACKET = 3,  /* the first packet is no SR or RR */
-    FLASKNIB_REFUSAL_PACKET_SIZE = 4,   /* a packet passes the end, or does not have its body's size */
-    FLASKNIB_REFUSAL_PADDING = 5,       /* the padding is wrong, or not in the last packet */
-    FLASKNIB_REFUSAL_BLOCK_SIZE = 6,    /* an XR block passes its packet */
-    FLASKNIB_REFUSAL_JUMP = 7,          /* the sequence number jumps; the record remembers the number that would follow it */
-    FLASKNIB_REFUSAL_FULL = 8,          /* 2^48 arrivals are counted */
-    FLASKNIB_REFUSAL_MALFORMED = 9,     /* a record is malformed */
-    FLASKNIB_REFUSAL_LIMITS = 10,       /* a number, a label, records or a compound's size outside the limits */
-    FLASKNIB_REFUSAL_TIME = 11,         /* a report not later than the last report or start, or earlier than a heard packet; a tick or a heard
-                                 * packet earlier than these */
-    FLASKNIB_REFUSAL_ROOM = 12,         /* the output is too small; where bytes are written, the answer has their number, the size */
-    FLASKNIB_REFUSAL_CHECKSUM = 13,     /* a block's checksum */
-    FLASKNIB_REFUSAL_CONTENTS = 14,     /* a block's contents */
-    FLASKNIB_REFUSAL_PLACES = 15,       /* a new SSRC, and every place of the table is held */
-    FLASKNIB_REFUSAL_RULES = 16,        /* a table against its rules */
-    FLASKNIB_REFUSAL_FORM_TWO = 17      /* a time needs form 2: given by the converter of forms alone */
+    FLASKNIB_REFUSAL_INCOMPLETE = 1,   /* empty input, a header cut off, not one whole block */
+    FLASKNIB_REFUSAL_VERSION = 2,      /* the version in an RTCP header is not 2 */
+    FLASKNIB_REFUSAL_FIRST_PACKET = 3, /* the first packet is no SR or RR */
+    FLASKNIB_REFUSAL_PACKET_SIZE = 4,  /* a packet passes the end, or does not have its body's size */
+    FLASKNIB_REFUSAL_PADDING = 5,      /* the padding is wrong, or not in the last packet */
+    FLASKNIB_REFUSAL_BLOCK_SIZE = 6,   /* an XR block passes its packet */
+    FLASKNIB_REFUSAL_JUMP = 7,         /* the sequence number jumps; the record remembers the number that would follow it */
+    FLASKNIB_REFUSAL_FULL = 8,         /* 2^48 arrivals are counted */
+    FLASKNIB_REFUSAL_MALFORMED = 9,    /* a record is malformed */
+    FLASKNIB_REFUSAL_LIMITS = 10,      /* a number, a label, records or a compound's size outside the limits */
+    FLASKNIB_REFUSAL_TIME = 11,        /* a report not later than the last report or start, or earlier than a heard packet; a tick or a heard
+                                        * packet earlier than these */
+    FLASKNIB_REFUSAL_ROOM = 12,        /* the output is too small; where bytes are written, the answer has their number, the size */
+    FLASKNIB_REFUSAL_CHECKSUM = 13,    /* a block's checksum */
+    FLASKNIB_REFUSAL_CONTENTS = 14,    /* a block's contents */
+    FLASKNIB_REFUSAL_PLACES = 15,      /* a new SSRC, and every place of the table is held */
+    FLASKNIB_REFUSAL_RULES = 16,       /* a table against its rules */
+    FLASKNIB_REFUSAL_FORM_TWO = 17     /* a time needs form 2: given by the converter of forms alone */
 };
 
 /* ---- what a writer answers -------------------------------------------------------------------------------------------------------
@@ -135,27 +135,32 @@ int64_t flasknib_write_summary(const uint64_t *source, size_t words, uint32_t me
  *
  * Refusal 16 comes first of all: a number of words that is no multiple of 11, over 16 places, an SSRC word of 2^32 or more in any place, or a
  * table against the rules above. Then comes 9: the record of a held place is malformed, a remembered number above 65,536 among it. `words` is 0
- * for a table without places; `table` must not be null, even then.
+ * for a table without places; `sources` must not be null, even then.
  */
 #define FLASKNIB_PLACE_WORDS 11
 #define FLASKNIB_SOURCES_MOST_PLACES 16
 
+/* Where the words of a place stand in it. The source's record is 10 words from SOURCE on, so its CE counter is at FLASKNIB_PLACE_SOURCE +
+ * FLASKNIB_SOURCE_CE. (No enum: C++20 does not add two.) */
+#define FLASKNIB_PLACE_SSRC 0
+#define FLASKNIB_PLACE_SOURCE 1
+
 /* Counts one arrival of the source `ssrc`, as flasknib_arrive does. Gives 0 or FLASKNIB_RESTARTED and the next table, or refusal 16, 9, 10, 15, 8
  * or 7. Refusal 7 stores the next table too: only the remembered number of that source's place differs. */
-uint8_t flasknib_sources_arrive(uint64_t *table, size_t words, uint32_t ssrc, uint16_t wire, uint8_t mark);
+uint8_t flasknib_sources_arrive(uint64_t *sources, size_t words, uint32_t ssrc, uint16_t wire, uint8_t mark);
 
 /* Counts the records of one arrivals block of the source `ssrc`, as flasknib_count_block does. Gives 256 * restarts + jumps and the next table, or
  * minus refusal 16, 9, 10 or 15. */
-int64_t flasknib_sources_count_block(uint64_t *table, size_t words, uint32_t ssrc, const uint8_t *records, size_t length, size_t width);
+int64_t flasknib_sources_count_block(uint64_t *sources, size_t words, uint32_t ssrc, const uint8_t *records, size_t length, size_t width);
 
 /* Writes a compound from the SSRC `sender`: an RR without report blocks (RFC 3550) and one ECN feedback packet for each held place, in order;
  * 8 bytes and 32 for each. Gives its length, or minus refusal 16 or 9, or 12 with its size. */
 #define FLASKNIB_SOURCES_COMPOUND_MOST_BYTES 520
-int64_t flasknib_sources_write_compound(const uint64_t *table, size_t words, uint32_t sender, uint8_t *out, size_t room);
+int64_t flasknib_sources_write_compound(const uint64_t *sources, size_t words, uint32_t sender, uint8_t *out, size_t room);
 
 /* The words of one held place, counted from 0. Gives 0 and 11 words at the front of `found`, or refusal 16, 9, 10 for a place that is not held, or
  * 12 where `found` has fewer words. */
-uint8_t flasknib_sources_place(const uint64_t *table, size_t words, size_t place, uint64_t *found, size_t found_words);
+uint8_t flasknib_sources_place(const uint64_t *sources, size_t words, size_t place, uint64_t *found, size_t found_words);
 
 /* ---- compound RTCP ---------------------------------------------------------------------------------------------------------------
  * 24 words, the first of each kind of report about `media`, and a last one:
@@ -243,7 +248,7 @@ int16_t flasknib_lost_since(uint16_t later, uint16_t earlier);
  */
 #define FLASKNIB_BREAKER_WORDS 77
 
-/* The places of the words. Interval i, 0 for the newest, has its length at INTERVALS + 2 * i and its fraction lost behind that. */
+/* The places of the words. Interval i, 0 for the newest, has its length at NEWEST + 2 * i and its fraction lost behind that. */
 enum {
     FLASKNIB_BREAKER_K = 0,
     FLASKNIB_BREAKER_M = 1,
@@ -258,7 +263,7 @@ enum {
     FLASKNIB_BREAKER_RUN = 10,
     FLASKNIB_BREAKER_TRIAL = 11,
     FLASKNIB_BREAKER_USED = 12,
-    FLASKNIB_BREAKER_INTERVALS = 13
+    FLASKNIB_BREAKER_NEWEST = 13
 };
 
 /* The greatest value of each argument; the next one is refused with 10. The least is 1 for k, m, timeout and size, and 0 for the others.
@@ -331,12 +336,13 @@ uint16_t flasknib_breaker_heard(uint64_t *breaker, size_t words, uint64_t time);
  * A trace has one of two forms, and each of its blocks says which. Form 1: 1 to 62 arrivals to a block, with times below 2^32 ms (49 days). Form
  * 2: 1 to 50, with times below 2^48 ms. A record is the time, of 4 or 6 bytes, then the wire number (2), the mark and a zero.
  */
+enum { FLASKNIB_FORM_ONE = 1, FLASKNIB_FORM_TWO = 2 };
 
 /* 3 words of a block: its kind; the label's length or the number of records; the SSRC. */
 #define FLASKNIB_BLOCK_WORDS 3
 
 /* The places of the words. */
-enum { FLASKNIB_BLOCK_KIND = 0, FLASKNIB_BLOCK_COUNT = 1, FLASKNIB_BLOCK_SSRC = 2 };
+enum { FLASKNIB_BLOCK_KIND = 0, FLASKNIB_BLOCK_HELD = 1, FLASKNIB_BLOCK_SSRC = 2 };
 
 /* The kinds of a block. Those of form 1 are 1 and 2, those of form 2 are 3 and 4. */
 enum { FLASKNIB_KIND_LABEL_ONE = 1, FLASKNIB_KIND_ARRIVALS_ONE = 2, FLASKNIB_KIND_LABEL_TWO = 3, FLASKNIB_KIND_ARRIVALS_TWO = 4 };
@@ -359,6 +365,9 @@ uint8_t flasknib_read_block(const uint8_t *block, size_t length, uint64_t *found
 
 /* 3 words of a record: its time (ms), its wire number, its mark. */
 #define FLASKNIB_RECORD_WORDS 3
+
+/* The places of the words. */
+enum { FLASKNIB_RECORD_TIME = 0, FLASKNIB_RECORD_WIRE = 1, FLASKNIB_RECORD_MARK = 2 };
 
 /* The record `i`, counted from 0, of an arrivals block of either form. Gives 0 and 3 words at the front of `found`, or refusal 1 for another length
  * than 512, 14 for a kind that is not arrivals or a count outside its form's limits, 10 for an `i` not below the count, or 12 where `found` has
@@ -402,6 +411,14 @@ int64_t flasknib_write_refused(uint8_t number, uint64_t block, uint8_t *out, siz
  */
 #define FLASKNIB_RUN_WORDS 15
 
+/* The places of the words. The source's record is 10 words from SOURCE on. */
+#define FLASKNIB_RUN_FORM 0
+#define FLASKNIB_RUN_LABEL_LENGTH 1
+#define FLASKNIB_RUN_SSRC 2
+#define FLASKNIB_RUN_SOURCE 3
+#define FLASKNIB_RUN_JUMPED 13
+#define FLASKNIB_RUN_RESTARTS 14
+
 /* Takes block 0, which must be a label block of either form. Gives 0 and 15 words at the front of `run`, or refusal 1, 13 or 14 (14 for arrivals
  * too), or 12 where `run` has fewer words. */
 uint8_t flasknib_run_start(const uint8_t *zeroth, size_t length, uint64_t *run, size_t words);
@@ -425,6 +442,9 @@ int64_t flasknib_run_block(uint64_t *run, size_t words, const uint8_t *zeroth, s
 #define FLASKNIB_FORMS_WORDS 3
 #define FLASKNIB_FORMS_PART_BYTES 502
 
+/* The places of the words. */
+enum { FLASKNIB_FORMS_FORM = 0, FLASKNIB_FORMS_SSRC = 1, FLASKNIB_FORMS_HELD = 2 };
+
 /* Takes block 0, which must be a label block of either form, and writes it in the other form, 512 bytes. Gives its length and the 3 words of a
  * conversion that holds no record, or minus refusal 9 for another number of words, 1, 13 or 14 for the block (14 for arrivals too), or 12 with its
  * size. */
@@ -445,13 +465,23 @@ int64_t flasknib_forms_close(const uint64_t *forms, size_t words, const uint8_t 
  * flasknib_streams_block on each later block, and behind the last flasknib_streams_row for each line, from 0 on; or flasknib_write_refused for the
  * first block that is refused, with its number, and no row.
  *
- * 3 words: the form of the trace, 1 or 2; the label's length; how many lines are held, at most 16. Those stand in 208 words or more that are lent
- * with each call, one line for each SSRC, in rising order; they need not be set before the first call. A line has 13 words: the SSRC, the 10 words
- * of the source's record, jumped and restarts. Another form, more lines and fewer words are malformed (9), and so is a line whose record is
+ * 3 words: the form of the trace, 1 or 2; the label's length; how many lines are held, at most 16. A line has 13 words: the SSRC, the 10 words of
+ * the source's record, jumped and restarts. The lines, one for each SSRC, in rising order, stand in FLASKNIB_STREAMS_MOST_LINES * FLASKNIB_LINE_WORDS
+ * words (208) or more that are lent with each call; they need not be set before the first call. Another form, more lines and fewer words are malformed (9), and so is a line whose record is
  * malformed or whose jumped or restarts are above 2^48, where a call needs that line.
  */
 #define FLASKNIB_STREAMS_WORDS 3
-#define FLASKNIB_STREAMS_LINE_WORDS 208
+#define FLASKNIB_LINE_WORDS 13
+#define FLASKNIB_STREAMS_MOST_LINES 16
+
+/* The places of the words of the run. */
+enum { FLASKNIB_STREAMS_FORM = 0, FLASKNIB_STREAMS_LABEL_LENGTH = 1, FLASKNIB_STREAMS_HELD = 2 };
+
+/* The places of the words in one line. The source's record is 10 words from SOURCE on. */
+#define FLASKNIB_LINE_SSRC 0
+#define FLASKNIB_LINE_SOURCE 1
+#define FLASKNIB_LINE_JUMPED 11
+#define FLASKNIB_LINE_RESTARTS 12
 
 /* Takes block 0, which must be a label block of either form; its SSRC binds nothing. Gives 0 and 3 words at the front of `run`, for a run that holds
  * no line, or refusal 1, 13 or 14 (14 for arrivals too), or 12 where `run` has fewer words. */

@@ -152,23 +152,29 @@ static uint8_t changed(size_t at, uint8_t byte)
     return flasknib_read_compound(bytes, COMPOUND, SSRC, FLASKNIB_PROFILE_COMPOUND, found, FLASKNIB_COMPOUND_WORDS);
 }
 
+/* The answer about the first bytes of a buffer. */
+static uint8_t read_front(const uint8_t *bytes, size_t length, uint8_t profile)
+{
+    uint64_t found[FLASKNIB_COMPOUND_WORDS];
+    return flasknib_read_compound(bytes, length, SSRC, profile, found, FLASKNIB_COMPOUND_WORDS);
+}
+
 static void compound_refusals(void)
 {
     static uint8_t longest[FLASKNIB_COMPOUND_MOST_BYTES + 1];
-    uint64_t found[FLASKNIB_COMPOUND_WORDS];
 
-    CHECK(flasknib_read_compound(longest, 0, SSRC, FLASKNIB_PROFILE_COMPOUND, found, FLASKNIB_COMPOUND_WORDS) == FLASKNIB_REFUSAL_INCOMPLETE);
-    CHECK(flasknib_read_compound(longest, sizeof longest - 1, SSRC, FLASKNIB_PROFILE_COMPOUND, found, FLASKNIB_COMPOUND_WORDS) == FLASKNIB_REFUSAL_VERSION);
-    CHECK(flasknib_read_compound(longest, sizeof longest, SSRC, FLASKNIB_PROFILE_COMPOUND, found, FLASKNIB_COMPOUND_WORDS) == FLASKNIB_REFUSAL_LIMITS);
+    CHECK(read_front(longest, 0, FLASKNIB_PROFILE_COMPOUND) == FLASKNIB_REFUSAL_INCOMPLETE);
+    CHECK(read_front(longest, sizeof longest - 1, FLASKNIB_PROFILE_COMPOUND) == FLASKNIB_REFUSAL_VERSION);
+    CHECK(read_front(longest, sizeof longest, FLASKNIB_PROFILE_COMPOUND) == FLASKNIB_REFUSAL_LIMITS);
     CHECK(changed(0, 0x41) == FLASKNIB_REFUSAL_VERSION);
     CHECK(changed(1, 0xcf) == FLASKNIB_REFUSAL_FIRST_PACKET);
     CHECK(changed(3, 0xff) == FLASKNIB_REFUSAL_PACKET_SIZE);
     CHECK(changed(0, 0xa1) == FLASKNIB_REFUSAL_PADDING);
     CHECK(changed(XR_AT + 8 + 3, 6) == FLASKNIB_REFUSAL_BLOCK_SIZE);
-    CHECK(flasknib_read_compound(longest, 4, SSRC, FLASKNIB_PROFILE_REDUCED_SIZE + 1, found, FLASKNIB_COMPOUND_WORDS) == FLASKNIB_REFUSAL_LIMITS);
+    CHECK(read_front(longest, 4, FLASKNIB_PROFILE_REDUCED_SIZE + 1) == FLASKNIB_REFUSAL_LIMITS);
     longest[0] = 0x80;
-    CHECK(flasknib_read_compound(longest, 4, SSRC, FLASKNIB_PROFILE_COMPOUND, found, FLASKNIB_COMPOUND_WORDS) == FLASKNIB_REFUSAL_FIRST_PACKET);
-    CHECK(flasknib_read_compound(longest, 4, SSRC, FLASKNIB_PROFILE_REDUCED_SIZE, found, FLASKNIB_COMPOUND_WORDS) == 0);
+    CHECK(read_front(longest, 4, FLASKNIB_PROFILE_COMPOUND) == FLASKNIB_REFUSAL_FIRST_PACKET);
+    CHECK(read_front(longest, 4, FLASKNIB_PROFILE_REDUCED_SIZE) == 0);
 }
 
 static void ecn_counts(void)
@@ -266,12 +272,13 @@ static void breaker_words(void)
     CHECK(breaker[FLASKNIB_BREAKER_RUN] == 1);
     CHECK(breaker[FLASKNIB_BREAKER_TRIAL] == 0);
     CHECK(breaker[FLASKNIB_BREAKER_USED] == 1);
-    CHECK(breaker[FLASKNIB_BREAKER_INTERVALS] == 500);
-    CHECK(breaker[FLASKNIB_BREAKER_INTERVALS + 1] == 33);
+    CHECK(breaker[FLASKNIB_BREAKER_NEWEST] == 500);
+    CHECK(breaker[FLASKNIB_BREAKER_NEWEST + 1] == 33);
     CHECK(flasknib_breaker_report(breaker, FLASKNIB_BREAKER_WORDS, 1599, 78, 0, 1, 1, 1) == FLASKNIB_REFUSED + FLASKNIB_REFUSAL_TIME);
 }
 
-/* Two reports behind a start with k = 1, m = 1 and a timeout of 1,000 ms; the second, with all but one packet in 256 lost, at `time` with `highest`. */
+/* Two reports behind a start with k = 1, m = 1 and a timeout of 1,000 ms; the second, with all but one packet in 256 lost, at `time` with
+ * `highest`. */
 static uint16_t second_report(uint8_t reduce, uint64_t time, uint32_t highest, uint64_t *breaker)
 {
     CHECK(flasknib_breaker_start(1, 1, 1000, reduce, 0, 0, breaker, FLASKNIB_BREAKER_WORDS) == FLASKNIB_GO);
@@ -322,7 +329,7 @@ static void form_limits(uint8_t form, uint64_t label, uint64_t arrivals, size_t 
     CHECK(label_of(form, FLASKNIB_LABEL_MOST_BYTES, block, sizeof block) == FLASKNIB_BLOCK_BYTES);
     CHECK(flasknib_read_block(block, sizeof block, found, FLASKNIB_BLOCK_WORDS) == 0);
     CHECK(found[FLASKNIB_BLOCK_KIND] == label);
-    CHECK(found[FLASKNIB_BLOCK_COUNT] == FLASKNIB_LABEL_MOST_BYTES);
+    CHECK(found[FLASKNIB_BLOCK_HELD] == FLASKNIB_LABEL_MOST_BYTES);
     CHECK(found[FLASKNIB_BLOCK_SSRC] == SSRC);
     CHECK(block[FLASKNIB_BLOCK_BODY_AT - 1] != 'x' && block[FLASKNIB_BLOCK_BODY_AT] == 'x');
 
@@ -331,7 +338,7 @@ static void form_limits(uint8_t form, uint64_t label, uint64_t arrivals, size_t 
     CHECK(flasknib_read_block(block, sizeof block, found, FLASKNIB_BLOCK_WORDS - 1) == FLASKNIB_REFUSAL_ROOM);
     CHECK(flasknib_read_block(block, sizeof block, found, FLASKNIB_BLOCK_WORDS) == 0);
     CHECK(found[FLASKNIB_BLOCK_KIND] == arrivals);
-    CHECK(found[FLASKNIB_BLOCK_COUNT] == most);
+    CHECK(found[FLASKNIB_BLOCK_HELD] == most);
     CHECK(flasknib_count_block(source, FLASKNIB_SOURCE_WORDS, block + FLASKNIB_BLOCK_BODY_AT, most * width, width) == 0);
     CHECK(source[FLASKNIB_SOURCE_HIGHEST] == most - 1);
     CHECK(source[FLASKNIB_SOURCE_NOT_ECT] == most);
@@ -342,10 +349,12 @@ static void blocks(void)
     uint8_t block[FLASKNIB_BLOCK_BYTES];
     uint64_t found[FLASKNIB_BLOCK_WORDS];
 
-    form_limits(1, FLASKNIB_KIND_LABEL_ONE, FLASKNIB_KIND_ARRIVALS_ONE, FLASKNIB_ARRIVALS_ONE_MOST, FLASKNIB_RECORD_ONE_BYTES);
-    form_limits(2, FLASKNIB_KIND_LABEL_TWO, FLASKNIB_KIND_ARRIVALS_TWO, FLASKNIB_ARRIVALS_TWO_MOST, FLASKNIB_RECORD_TWO_BYTES);
-    CHECK(label_of(1, 3, block, sizeof block) == FLASKNIB_BLOCK_BYTES);
+    form_limits(FLASKNIB_FORM_ONE, FLASKNIB_KIND_LABEL_ONE, FLASKNIB_KIND_ARRIVALS_ONE, FLASKNIB_ARRIVALS_ONE_MOST, FLASKNIB_RECORD_ONE_BYTES);
+    form_limits(FLASKNIB_FORM_TWO, FLASKNIB_KIND_LABEL_TWO, FLASKNIB_KIND_ARRIVALS_TWO, FLASKNIB_ARRIVALS_TWO_MOST, FLASKNIB_RECORD_TWO_BYTES);
+    CHECK(label_of(FLASKNIB_FORM_ONE, 3, block, sizeof block) == FLASKNIB_BLOCK_BYTES);
     CHECK(flasknib_read_block(block, sizeof block - 1, found, FLASKNIB_BLOCK_WORDS) == FLASKNIB_REFUSAL_INCOMPLETE);
+    CHECK(label_of(FLASKNIB_FORM_ONE - 1, 3, block, sizeof block) == -FLASKNIB_REFUSAL_LIMITS);
+    CHECK(label_of(FLASKNIB_FORM_TWO + 1, 3, block, sizeof block) == -FLASKNIB_REFUSAL_LIMITS);
     block[9] = 'y';
     CHECK(flasknib_read_block(block, sizeof block, found, FLASKNIB_BLOCK_WORDS) == FLASKNIB_REFUSAL_CHECKSUM);
     block[9] = 'x';
@@ -369,8 +378,9 @@ static void sizes(void)
     CHECK(asks(flasknib_write_feedback(source, FLASKNIB_SOURCE_WORDS, SENDER, SSRC, out, 0), FLASKNIB_FEEDBACK_BYTES));
     CHECK(asks(flasknib_write_summary(source, FLASKNIB_SOURCE_WORDS, SSRC, out, 0), FLASKNIB_SUMMARY_BYTES));
     CHECK(asks(flasknib_write_head(out, 0), FLASKNIB_HEAD_BYTES));
-    CHECK(asks(label_of(1, 0, out, 0), FLASKNIB_BLOCK_BYTES));
-    CHECK(asks(arrivals_of(2, 1, out, 0), FLASKNIB_BLOCK_BYTES));
+    CHECK(asks(label_of(FLASKNIB_FORM_ONE, 0, out, 0), FLASKNIB_BLOCK_BYTES));
+    CHECK(asks(arrivals_of(FLASKNIB_FORM_TWO, 1, out, 0), FLASKNIB_BLOCK_BYTES));
+    CHECK(asks(flasknib_write_refused(255, UINT64_MAX, out, 0), FLASKNIB_REFUSED_MOST_BYTES));
     memset(label, '"', sizeof label);
     row = flasknib_write_row(label, sizeof label, SSRC, source, FLASKNIB_SOURCE_WORDS, 0, 0, out, 0);
     CHECK(FLASKNIB_WRITE_REFUSAL(row) == FLASKNIB_REFUSAL_ROOM);
@@ -380,6 +390,7 @@ static void sizes(void)
 static void tables(void)
 {
     static uint64_t table[(FLASKNIB_SOURCES_MOST_PLACES + 1) * FLASKNIB_PLACE_WORDS];
+    const uint64_t *second = table + FLASKNIB_PLACE_WORDS;
     uint64_t found[FLASKNIB_PLACE_WORDS];
     uint8_t bytes[1];
     size_t words = FLASKNIB_SOURCES_MOST_PLACES * FLASKNIB_PLACE_WORDS;
@@ -389,39 +400,115 @@ static void tables(void)
     for (uint32_t i = 0; i < FLASKNIB_SOURCES_MOST_PLACES; i++)
         CHECK(flasknib_sources_arrive(table, words, SSRC + i, 1, FLASKNIB_MARK_CE) == 0);
     CHECK(flasknib_sources_arrive(table, words, SSRC + FLASKNIB_SOURCES_MOST_PLACES, 1, 0) == FLASKNIB_REFUSAL_PLACES);
-    CHECK(table[FLASKNIB_PLACE_WORDS] == SSRC + 1);
-    CHECK(table[FLASKNIB_PLACE_WORDS + 1 + FLASKNIB_SOURCE_CE] == 1);
+    CHECK(second[FLASKNIB_PLACE_SSRC] == SSRC + 1);
+    CHECK(second[FLASKNIB_PLACE_SOURCE + FLASKNIB_SOURCE_CE] == 1);
     CHECK(flasknib_sources_place(table, words, 1, found, FLASKNIB_PLACE_WORDS - 1) == FLASKNIB_REFUSAL_ROOM);
     CHECK(flasknib_sources_place(table, words, 1, found, FLASKNIB_PLACE_WORDS) == 0);
-    CHECK(found[0] == SSRC + 1);
-    CHECK(flasknib_sources_write_compound(table, words, SSRC, bytes, 0) == -(256 * FLASKNIB_SOURCES_COMPOUND_MOST_BYTES + FLASKNIB_REFUSAL_ROOM));
+    CHECK(memcmp(found, second, sizeof found) == 0);
+    CHECK(asks(flasknib_sources_write_compound(table, words, SSRC, bytes, 0), FLASKNIB_SOURCES_COMPOUND_MOST_BYTES));
 }
 
-/* The queries, both runs and the converter of forms: how many words and bytes they need. */
-static void queries(void)
+static void lost_words(void)
 {
-    uint8_t block[FLASKNIB_BLOCK_BYTES], part[FLASKNIB_FORMS_PART_BYTES], out[1];
-    uint64_t source[FLASKNIB_SOURCE_WORDS] = {0}, found[FLASKNIB_RUN_WORDS];
-    uint64_t forms[FLASKNIB_FORMS_WORDS] = {1, SSRC, 0};
-    uint64_t streams[FLASKNIB_STREAMS_WORDS], lines[FLASKNIB_STREAMS_LINE_WORDS];
+    uint64_t source[FLASKNIB_SOURCE_WORDS], found[FLASKNIB_LOST_WORDS];
 
+    counted(source);
     CHECK(flasknib_lost(source, FLASKNIB_SOURCE_WORDS, found, FLASKNIB_LOST_WORDS - 1) == FLASKNIB_REFUSAL_ROOM);
     CHECK(flasknib_lost(source, FLASKNIB_SOURCE_WORDS, found, FLASKNIB_LOST_WORDS) == 0);
-    CHECK(arrivals_of(1, 1, block, sizeof block) == FLASKNIB_BLOCK_BYTES);
-    CHECK(flasknib_record_at(block, sizeof block, 0, found, FLASKNIB_RECORD_WORDS - 1) == FLASKNIB_REFUSAL_ROOM);
-    CHECK(flasknib_record_at(block, sizeof block, 0, found, FLASKNIB_RECORD_WORDS) == 0);
-    CHECK(asks(flasknib_write_refused(255, UINT64_MAX, out, 0), FLASKNIB_REFUSED_MOST_BYTES));
-    CHECK(label_of(1, 3, block, sizeof block) == FLASKNIB_BLOCK_BYTES);
-    CHECK(flasknib_run_start(block, sizeof block, found, FLASKNIB_RUN_WORDS - 1) == FLASKNIB_REFUSAL_ROOM);
-    CHECK(flasknib_run_start(block, sizeof block, found, FLASKNIB_RUN_WORDS) == 0);
-    CHECK(flasknib_forms_close(forms, FLASKNIB_FORMS_WORDS, part, FLASKNIB_FORMS_PART_BYTES - 1, out, 0) == -FLASKNIB_REFUSAL_MALFORMED);
-    CHECK(flasknib_forms_close(forms, FLASKNIB_FORMS_WORDS - 1, part, FLASKNIB_FORMS_PART_BYTES, out, 0) == -FLASKNIB_REFUSAL_MALFORMED);
-    CHECK(flasknib_forms_close(forms, FLASKNIB_FORMS_WORDS, part, FLASKNIB_FORMS_PART_BYTES, out, 0) == 0);
-    CHECK(flasknib_streams_start(block, sizeof block, streams, FLASKNIB_STREAMS_WORDS - 1) == FLASKNIB_REFUSAL_ROOM);
-    CHECK(flasknib_streams_start(block, sizeof block, streams, FLASKNIB_STREAMS_WORDS) == 0);
-    CHECK(arrivals_of(1, 1, block, sizeof block) == FLASKNIB_BLOCK_BYTES);
-    CHECK(flasknib_streams_block(streams, FLASKNIB_STREAMS_WORDS, lines, FLASKNIB_STREAMS_LINE_WORDS - 1, block, sizeof block) == FLASKNIB_REFUSAL_MALFORMED);
-    CHECK(flasknib_streams_block(streams, FLASKNIB_STREAMS_WORDS, lines, FLASKNIB_STREAMS_LINE_WORDS, block, sizeof block) == 0);
+    CHECK(found[0] == 1);
+}
+
+/* A block of four records at one time: a first arrival, a jump, the restart behind it, marked with CE, and a jump. */
+static void restarting(uint8_t form, uint32_t ssrc, uint64_t time, uint8_t *block)
+{
+    static const uint16_t numbers[] = {10, 30000, 30001, 50000};
+    static const uint8_t marks[] = {FLASKNIB_MARK_NOT_ECT, FLASKNIB_MARK_NOT_ECT, FLASKNIB_MARK_CE, FLASKNIB_MARK_NOT_ECT};
+    const uint64_t times[] = {time, time, time, time};
+
+    CHECK(flasknib_write_arrivals(form, times, 4, numbers, 4, marks, 4, ssrc, block, FLASKNIB_BLOCK_BYTES) == FLASKNIB_BLOCK_BYTES);
+}
+
+static void record_words(void)
+{
+    uint8_t block[FLASKNIB_BLOCK_BYTES];
+    uint64_t found[FLASKNIB_RECORD_WORDS];
+
+    restarting(FLASKNIB_FORM_TWO, SSRC, FLASKNIB_BREAKER_MOST_TIME, block);
+    CHECK(flasknib_record_at(block, sizeof block, 2, found, FLASKNIB_RECORD_WORDS - 1) == FLASKNIB_REFUSAL_ROOM);
+    CHECK(flasknib_record_at(block, sizeof block, 2, found, FLASKNIB_RECORD_WORDS) == 0);
+    CHECK(found[FLASKNIB_RECORD_TIME] == FLASKNIB_BREAKER_MOST_TIME);
+    CHECK(found[FLASKNIB_RECORD_WIRE] == 30001);
+    CHECK(found[FLASKNIB_RECORD_MARK] == FLASKNIB_MARK_CE);
+}
+
+/* A run of ecntable. */
+static void run_words(void)
+{
+    uint8_t zeroth[FLASKNIB_BLOCK_BYTES], block[FLASKNIB_BLOCK_BYTES], row[FLASKNIB_ROW_MOST_BYTES];
+    uint64_t run[FLASKNIB_RUN_WORDS];
+
+    CHECK(label_of(FLASKNIB_FORM_TWO, 3, zeroth, sizeof zeroth) == FLASKNIB_BLOCK_BYTES);
+    CHECK(flasknib_run_start(zeroth, sizeof zeroth, run, FLASKNIB_RUN_WORDS - 1) == FLASKNIB_REFUSAL_ROOM);
+    CHECK(flasknib_run_start(zeroth, sizeof zeroth, run, FLASKNIB_RUN_WORDS) == 0);
+    restarting(FLASKNIB_FORM_TWO, SSRC, 0, block);
+    CHECK(flasknib_run_block(run, FLASKNIB_RUN_WORDS, zeroth, sizeof zeroth, block, sizeof block, row, sizeof row) > 0);
+    CHECK(run[FLASKNIB_RUN_FORM] == FLASKNIB_FORM_TWO);
+    CHECK(run[FLASKNIB_RUN_LABEL_LENGTH] == 3);
+    CHECK(run[FLASKNIB_RUN_SSRC] == SSRC);
+    CHECK(run[FLASKNIB_RUN_SOURCE + FLASKNIB_SOURCE_BASE] == 30001);
+    CHECK(run[FLASKNIB_RUN_SOURCE + FLASKNIB_SOURCE_REMEMBERED] == 50001 + 1);
+    CHECK(run[FLASKNIB_RUN_JUMPED] == 2);
+    CHECK(run[FLASKNIB_RUN_RESTARTS] == 1);
+}
+
+/* The converter of forms: its words, the part that it is lent, and the one call that answers refusal 17. */
+static void forms_words(void)
+{
+    uint8_t block[FLASKNIB_BLOCK_BYTES], part[FLASKNIB_FORMS_PART_BYTES], out[FLASKNIB_BLOCK_BYTES];
+    uint64_t forms[FLASKNIB_FORMS_WORDS];
+    size_t words = FLASKNIB_FORMS_WORDS;
+
+    CHECK(label_of(FLASKNIB_FORM_TWO, 3, block, sizeof block) == FLASKNIB_BLOCK_BYTES);
+    CHECK(flasknib_forms_start(block, sizeof block, forms, words - 1, out, sizeof out) == -FLASKNIB_REFUSAL_MALFORMED);
+    CHECK(flasknib_forms_start(block, sizeof block, forms, words, out, sizeof out) == FLASKNIB_BLOCK_BYTES);
+    restarting(FLASKNIB_FORM_TWO, SSRC, UINT32_MAX, block);
+    CHECK(flasknib_forms_block(forms, words, part, sizeof part - 1, block, sizeof block, out, sizeof out) == -FLASKNIB_REFUSAL_MALFORMED);
+    CHECK(flasknib_forms_block(forms, words, part, sizeof part, block, sizeof block, out, sizeof out) == 0);
+    CHECK(forms[FLASKNIB_FORMS_FORM] == FLASKNIB_FORM_TWO);
+    CHECK(forms[FLASKNIB_FORMS_SSRC] == SSRC);
+    CHECK(forms[FLASKNIB_FORMS_HELD] == 4);
+    restarting(FLASKNIB_FORM_TWO, SSRC, UINT32_MAX + UINT64_C(1), block);
+    CHECK(flasknib_forms_block(forms, words, part, sizeof part, block, sizeof block, out, sizeof out) == -FLASKNIB_REFUSAL_FORM_TWO);
+    CHECK(flasknib_forms_close(forms, words, part, sizeof part, out, sizeof out) == FLASKNIB_BLOCK_BYTES);
+}
+
+/* A run of ecnstreams with as many sources as it takes, and one more. */
+static void streams_words(void)
+{
+    uint8_t block[FLASKNIB_BLOCK_BYTES];
+    uint64_t run[FLASKNIB_STREAMS_WORDS], lines[FLASKNIB_STREAMS_MOST_LINES * FLASKNIB_LINE_WORDS];
+    const uint64_t *second = lines + FLASKNIB_LINE_WORDS;
+    size_t words = FLASKNIB_STREAMS_WORDS, line_words = FLASKNIB_STREAMS_MOST_LINES * FLASKNIB_LINE_WORDS;
+
+    CHECK(label_of(FLASKNIB_FORM_TWO, 3, block, sizeof block) == FLASKNIB_BLOCK_BYTES);
+    CHECK(flasknib_streams_start(block, sizeof block, run, words - 1) == FLASKNIB_REFUSAL_ROOM);
+    CHECK(flasknib_streams_start(block, sizeof block, run, words) == 0);
+    restarting(FLASKNIB_FORM_TWO, SSRC, 0, block);
+    CHECK(flasknib_streams_block(run, words, lines, line_words - 1, block, sizeof block) == FLASKNIB_REFUSAL_MALFORMED);
+    for (uint32_t i = 0; i < FLASKNIB_STREAMS_MOST_LINES; i++) {
+        restarting(FLASKNIB_FORM_TWO, SSRC + i, 0, block);
+        CHECK(flasknib_streams_block(run, words, lines, line_words, block, sizeof block) == 0);
+    }
+    CHECK(run[FLASKNIB_STREAMS_FORM] == FLASKNIB_FORM_TWO);
+    CHECK(run[FLASKNIB_STREAMS_LABEL_LENGTH] == 3);
+    CHECK(run[FLASKNIB_STREAMS_HELD] == FLASKNIB_STREAMS_MOST_LINES);
+    CHECK(second[FLASKNIB_LINE_SSRC] == SSRC + 1);
+    CHECK(second[FLASKNIB_LINE_SOURCE + FLASKNIB_SOURCE_BASE] == 30001);
+    CHECK(second[FLASKNIB_LINE_SOURCE + FLASKNIB_SOURCE_REMEMBERED] == 50001 + 1);
+    CHECK(second[FLASKNIB_LINE_JUMPED] == 2);
+    CHECK(second[FLASKNIB_LINE_RESTARTS] == 1);
+    restarting(FLASKNIB_FORM_TWO, SSRC + FLASKNIB_STREAMS_MOST_LINES, 0, block);
+    CHECK(flasknib_streams_block(run, words, lines, line_words, block, sizeof block) == FLASKNIB_REFUSAL_PLACES);
 }
 
 int main(void)
@@ -429,7 +516,6 @@ int main(void)
     sources();
     jumps();
     full_source();
-    tables();
     compound_words();
     compound_refusals();
     ecn_counts();
@@ -439,7 +525,12 @@ int main(void)
     stops();
     blocks();
     sizes();
-    queries();
+    tables();
+    lost_words();
+    record_words();
+    run_words();
+    forms_words();
+    streams_words();
     printf("%d checks of the header's numbers, %d fail\n", checks, failures);
     return failures != 0;
 }

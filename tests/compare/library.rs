@@ -8,10 +8,10 @@ extern "C" {
     fn flasknib_arrive(source: *mut u64, words: usize, wire: u16, mark: u8) -> u8;
     fn flasknib_count_block(source: *mut u64, words: usize, records: *const u8, length: usize, width: usize) -> i64;
     fn flasknib_lost(source: *const u64, words: usize, found: *mut u64, found_words: usize) -> u8;
-    fn flasknib_sources_arrive(table: *mut u64, words: usize, ssrc: u32, wire: u16, mark: u8) -> u8;
-    fn flasknib_sources_count_block(table: *mut u64, words: usize, ssrc: u32, records: *const u8, length: usize, width: usize) -> i64;
-    fn flasknib_sources_write_compound(table: *const u64, words: usize, sender: u32, out: *mut u8, room: usize) -> i64;
-    fn flasknib_sources_place(table: *const u64, words: usize, place: usize, found: *mut u64, found_words: usize) -> u8;
+    fn flasknib_sources_arrive(sources: *mut u64, words: usize, ssrc: u32, wire: u16, mark: u8) -> u8;
+    fn flasknib_sources_count_block(sources: *mut u64, words: usize, ssrc: u32, records: *const u8, length: usize, width: usize) -> i64;
+    fn flasknib_sources_write_compound(sources: *const u64, words: usize, sender: u32, out: *mut u8, room: usize) -> i64;
+    fn flasknib_sources_place(sources: *const u64, words: usize, place: usize, found: *mut u64, found_words: usize) -> u8;
     fn flasknib_write_feedback(source: *const u64, words: usize, sender: u32, media: u32, out: *mut u8, room: usize) -> i64;
     fn flasknib_write_summary(source: *const u64, words: usize, media: u32, out: *mut u8, room: usize) -> i64;
     fn flasknib_read_compound(bytes: *const u8, length: usize, media: u32, profile: u8, found: *mut u64, words: usize) -> u8;
