@@ -1,0 +1,239 @@
+#!/usr/bin/env python3
+"""tests/prototypes.py: every function of the C library is declared as its source has it, wherever it is declared.
+
+The source is each `pub extern "C" fn` of crates/capi. Declarations stand in include/flasknib.h and, by hand, in the comparison, the benchmarks and the
+examples in Rust and Python. Result, order, types, constness and names of the parameters are compared; a slice is a pointer, to const unless it is `&mut`,
+and the count behind it. Two rules on names: what the source calls `words` is called by its record elsewhere (`source`, `sources`, `forms`); and the count
+behind a pointer is `words` or `NAME_words`, of bytes `length` or `NAME_length`, of the lists of an arrivals block `n_NAME`, of `out` always `room`.
+The manual page has each function once under RETURN VALUE, beside others with its result. Copies are then broken in several ways, and each must be found.
+"""
+import ctypes
+import glob
+import os
+import re
+import sys
+
+TOP = os.path.dirname(os.path.dirname(os.path.abspath(__file__)))
+HEADER, MANUAL, CALLER = "include/flasknib.h", "man/flasknib.3", "examples/count.c"
+COMPARED, EXAMPLE, TIMED, SCRIPT = "tests/compare/library.rs", "examples/rust/flasknib.rs", "bench/library.rs", "examples/count.py"
+
+C_TYPES = {f"{sign}int{bits}_t": f"{'u' if sign else 'i'}{bits}" for sign in ("u", "") for bits in (8, 16, 32, 64)} | {"size_t": "usize"}
+LISTS = {"times", "numbers", "marks"}
+
+PROTOTYPE = re.compile(r"^(?P<result>\w+) (?P<name>flasknib_\w+)\((?P<parameters>[^)]*)\);", re.M)
+RUST = re.compile(r"^ *(?:pub )?fn (?P<name>flasknib_\w+)\((?P<parameters>[^)]*)\) -> (?P<result>\w+);", re.M)
+RATTLE = re.compile(r'^pub extern "C" fn (?P<name>flasknib_\w+)\((?P<parameters>[^)]*)\) -> (?P<result>\w+)', re.M)
+
+
+def texts():
+    """The files that are compared, by their names."""
+    names = [os.path.relpath(path, TOP) for path in glob.glob(os.path.join(TOP, "crates/capi/src/*.rt"))]
+    found = {}
+    for name in [*names, HEADER, MANUAL, CALLER, COMPARED, EXAMPLE, TIMED, SCRIPT]:
+        with open(os.path.join(TOP, name), encoding="utf-8") as file:
+            found[name] = file.read()
+    return found
+
+
+# ---- a declaration is (result, [(type, name)]), with the types of Rust
+
+
+def split(parameters):
+    return [part for part in re.split(r",\s*", parameters.strip()) if part]
+
+
+def c_parameter(text):
+    const, kind, pointer, name = re.fullmatch(r"(const )?(\w+) (\*?)(\w+)", text).groups()
+    kind = C_TYPES.get(kind, kind)
+    return (f"*{'const' if const else 'mut'} {kind}" if pointer else kind), name
+
+
+def in_c(text):
+    text = re.sub(r"/\*.*?\*/", "", text, flags=re.S)
+    return {d["name"]: (C_TYPES.get(d["result"]), [c_parameter(p) for p in split(d["parameters"])]) for d in PROTOTYPE.finditer(text)}
+
+
+def in_rust(text):
+    return {d["name"]: (d["result"], [tuple(p.split(": ")[::-1]) for p in split(d["parameters"])]) for d in RUST.finditer(text)}
+
+
+# ---- what the source asks for: a name is a set of those that are right
+
+
+def record(function):
+    """The name of a record that the source calls `words`."""
+    return next((name for name in ("sources", "forms") if function.startswith(f"flasknib_{name}_")), "source")
+
+
+def counts(kind, name):
+    if name == "out":
+        return {"room"}
+    if name in LISTS:
+        return {f"n_{name}"}
+    plain = "words" if kind == "u64" else "length"
+    return {plain, f"{name}_{plain}", f"{name.rstrip('s')}_{plain}"}
+
+
+def in_source(declaration):
+    """The parameters of a function of the source, as C has them."""
+    for parameter in split(declaration["parameters"]):
+        name, kind = parameter.split(": ")
+        slice_ = re.fullmatch(r"&(mut )?\[(\w+)\]", kind)
+        if not slice_:
+            yield kind, {name}
+            continue
+        name = record(declaration["name"]) if name == "words" else name
+        yield f"*{'mut' if slice_[1] else 'const'} {slice_[2]}", {name}
+        yield "usize", counts(slice_[2], name)
+
+
+def sources(files):
+    return {d["name"]: (d["result"], list(in_source(d))) for name in files if name.endswith(".rt") for d in RATTLE.finditer(files[name])}
+
+
+def shown(declaration):
+    """A declaration for a reader; of a name that the source leaves open, all that are right."""
+    result, parameters = declaration
+    return f"{result} ({', '.join(kind + ' ' + (name if isinstance(name, str) else '|'.join(sorted(name))) for kind, name in parameters)})"
+
+
+def fits(declared, source):
+    """Whether a declaration is one that the source asks for."""
+    types, wanted = [kind for kind, _ in declared[1]], [kind for kind, _ in source[1]]
+    return declared[0] == source[0] and types == wanted and all(name in right for (_, name), (_, right) in zip(declared[1], source[1]))
+
+
+# ---- the example in Python has types alone
+
+
+def ctype(kind):
+    """A type for ctypes, which has const for bytes alone."""
+    if kind == "*const u8":
+        return ctypes.c_char_p
+    if kind.startswith("*"):
+        return ctypes.POINTER(ctype(kind.split(" ")[1]))
+    return ctypes.c_size_t if kind == "usize" else getattr(ctypes, {"u": "c_uint", "i": "c_int"}[kind[0]] + kind[1:])
+
+
+def in_python(text):
+    """The result and the types of each function that the example calls: what it has under FUNCTIONS."""
+    names = {"__name__": "count"}
+    exec(text, names)
+    return {f"flasknib_{name}": types for name, types in names["FUNCTIONS"].items()}
+
+
+# ---- what is wrong
+
+
+def undeclared(files, header):
+    """Functions that a file lacks, or has too many."""
+    called = set(re.findall(r"\bflasknib_\w+(?=\()", files[CALLER]))
+    wanted = {COMPARED: set(header), EXAMPLE: called, TIMED: set(in_rust(files[TIMED])) & set(header), SCRIPT: called}
+    for file, names in wanted.items():
+        there = set(in_python(files[file]) if file == SCRIPT else in_rust(files[file]))
+        if names != there:
+            yield f"{file} has not the functions that it must: {', '.join(sorted(names ^ there))}"
+
+
+def different(files, header):
+    """Declarations that are not the header's."""
+    for file in (COMPARED, EXAMPLE, TIMED):
+        for name, declared in in_rust(files[file]).items():
+            if name in header and declared != header[name]:
+                yield f"{file}: {name} is {shown(declared)}, and in the header {shown(header[name])}"
+    for name, types in in_python(files[SCRIPT]).items():
+        if name in header and types != tuple(ctype(kind) for kind in (header[name][0], *(kind for kind, _ in header[name][1]))):
+            yield f"{SCRIPT}: {name} has other types than in the header"
+
+
+def unreturned(files, header):
+    """Functions that RETURN VALUE of the manual page has not once, or beside one with another result."""
+    page = files[MANUAL].partition(".SH RETURN VALUE\n")[2].partition("\n.SH ")[0]
+    seen = []
+    for line in page.replace("\\\n", "").splitlines():
+        listed = re.findall(r"flasknib_\w+(?:\s*\"?\.\.\.)?", line) if re.match(r"\.BR? flasknib_", line) else []
+        stands = [name for name in header for text in listed if name == text or text.endswith("...") and name.startswith(text.rstrip('." '))]
+        if len({header[name][0] for name in stands}) > 1:
+            yield f"{MANUAL}: functions of several results stand together: {', '.join(stands)}"
+        seen += stands
+    for name in header:
+        if seen.count(name) != 1:
+            yield f"{MANUAL}: RETURN VALUE has {name} {seen.count(name)} times"
+
+
+def faults(files):
+    """(what is wrong, the functions of the source)."""
+    source, header = sources(files), in_c(files[HEADER])
+    wrong = [f"{name} is not in both crates/capi and {HEADER}" for name in sorted(set(source) ^ set(header))]
+    for name in sorted(set(source) & set(header)):
+        if not fits(header[name], source[name]):
+            wrong.append(f"{HEADER}: {name} is {shown(header[name])}, and in crates/capi {shown(source[name])}")
+    return wrong + [*undeclared(files, header), *different(files, header), *unreturned(files, header)], len(source)
+
+
+# ---- broken copies: in each file one declaration is changed, in these ways (a pattern, and what takes its place)
+
+FUNCTION = "flasknib_write_row"
+EVERYWHERE = {"parameters exchanged": (r"jumped(.*)restarts", r"restarts\1jumped"), "a function gone": (FUNCTION, "other")}
+IN_C = EVERYWHERE | {
+    "a width changed": (r"uint32_t ssrc", "uint16_t ssrc"),
+    "a sign changed": (r"uint64_t jumped", "int64_t jumped"),
+    "const dropped": (r"const uint64_t \*source", "uint64_t *source"),
+    "const added": (r"uint8_t \*out", "const uint8_t *out"),
+    "another result": (r"^int64_t", "int32_t"),
+    "counts exchanged": (r"length(.*)words", r"words\1length"),
+    "a pointer without its count": (r"size_t words, ", ""),
+}
+IN_RATTLE = EVERYWHERE | {
+    "a width changed": (r"ssrc: u32", "ssrc: u16"),
+    "a sign changed": (r"jumped: u64", "jumped: i64"),
+    "const dropped": (r"words: &\[", "words: &mut ["),
+    "const added": (r"out: &mut \[", "out: &["),
+    "another result": (r"-> i64", "-> i32"),
+}
+IN_RUST = IN_RATTLE | {
+    "const dropped": (r"source: \*const", "source: *mut"),
+    "const added": (r"out: \*mut", "out: *const"),
+    "counts exchanged": (r"length(.*)words", r"words\1length"),
+    "a pointer without its count": (r"words: usize,\s+", ""),
+}
+IN_PYTHON = {
+    "a width changed": (r"BYTES, c_size_t, c_uint32", "BYTES, c_size_t, c_uint16"),
+    "another result": (r'"write_row": \(c_int64', '"write_row": (c_uint64'),
+    "a function gone": (r'"write_row": .*', ""),
+}
+IN_MANUAL = {"a function gone": (r"flasknib_lost\b", "flasknib_loss"), "a function twice": (r"flasknib_lost\b", "flasknib_arrive")}
+PATTERNS = {".h": PROTOTYPE, ".rs": RUST, ".rt": RATTLE}
+
+
+def broken(files, file, change):
+    """A copy in which a declaration of a file is changed; where it has none of that kind, its text."""
+    text, pattern = files[file], PATTERNS.get(os.path.splitext(file)[1])
+    first, last = next(d.span() for d in pattern.finditer(text) if d["name"] == FUNCTION) if pattern else (0, len(text))
+    return {**files, file: text[:first] + re.sub(*change, text[first:last], count=1, flags=re.S if pattern else 0) + text[last:]}
+
+
+def copies(files):
+    """(name, broken copy) of each way of breaking one. Of the benchmarks none is gone: they declare what they time."""
+    source = next(name for name in files if name.endswith(".rt") and FUNCTION in files[name])
+    ways = {HEADER: IN_C, source: IN_RATTLE, COMPARED: IN_RUST, EXAMPLE: IN_RUST, TIMED: IN_RUST, SCRIPT: IN_PYTHON, MANUAL: IN_MANUAL}
+    for file, changes in ways.items():
+        for what, change in changes.items():
+            if (file, what) != (TIMED, "a function gone"):
+                yield f"{file}, {what}", broken(files, file, change)
+
+
+def main():
+    files = texts()
+    wrong, seen = faults(files)
+    tried = [] if wrong else list(copies(files))
+    wrong += [f"a broken copy is not found: {name}" for name, copy in tried if copy == files or not faults(copy)[0]]
+    for line in wrong:
+        print("prototypes: FAILED,", line)
+    if not wrong:
+        print(f"prototypes: {seen} functions, declared everywhere as in the source; {len(tried)} broken copies are found")
+    return 1 if wrong else 0
+
+
+if __name__ == "__main__":
+    sys.exit(main())
