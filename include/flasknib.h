@@ -1,10 +1,15 @@
-/* Flasknib: ECN counting of one source and of several, reports, the compound RTCP reader, the circuit breaker, trace blocks and table rows.
+/* Flasknib: ECN counting of one RTP source and of several, ECN reports (RFC 6679), a compound RTCP reader, a sender's circuit breaker (RFC 8083),
+ * the blocks of a trace, the rows of a table, and what the programs ecntable, ecnforms and ecnstreams do with a trace, block by block.
  *
- * Every function returns on every input. Records are lent as arrays of 64-bit words in the layouts below; a signed number is stored as its
- * two's complement. A refusal is its number below, and a refused call changes no word and no byte of what it
- * was lent, with one exception: refusal 7 of flasknib_arrive and flasknib_sources_arrive changes the remembered number of the record. A record in
- * another number of words than its layout has is refused with 9, as malformed, and so is a table with 16. A function that writes bytes says
- * with refusal 12 how many it needs.
+ * Every function returns on every input. A record is lent as an array of 64-bit words in one of the layouts below; a signed number is stored as its
+ * two's complement, so (int64_t)word is the number. A refusal is its number below, and a refused call changes no word and no byte of what it was
+ * lent, with one exception: refusal 7 of flasknib_arrive and flasknib_sources_arrive changes the remembered number of the record. A record in
+ * another number of words than its layout has is refused with 9, as malformed, and so is a table with 16. What a call only fills may be longer: it
+ * fills the front, and leaves the rest as it was. A function that writes bytes says with refusal 12 how many it needs.
+ *
+ * Byte order. Words, arguments and answers are numbers of the machine: give the sequence number of a packet as ntohs gives it. Bytes are those of
+ * the network and of the trace file, and every number in them is big-endian, the highest byte first, also in records that the caller makes: the
+ * wire number n is the bytes n >> 8 and n & 255. A uint16_t copied there by memcpy is accepted, and counted as another number.
  */
 #ifndef FLASKNIB_H
 #define FLASKNIB_H
@@ -22,8 +27,18 @@ extern "C" {
 #define FLASKNIB_VERSION_PATCH 0
 #define FLASKNIB_VERSION_STRING "0.2.0"
 
+/* ---- how the names are made ------------------------------------------------------------------------------------------------------
+ * .._WORDS and .._BYTES are sizes of what is lent, and MOST is the greatest of something. FLASKNIB_REFUSAL_.. are the refusals, FLASKNIB_MARK_..,
+ * _PROFILE_.., _FORM_.., _KIND_.. and _REASON_.. the values of an argument or a word. Any other name of a record and a field, as
+ * FLASKNIB_SOURCE_CE, is the place of that word in the record, counted from 0, and no size: FLASKNIB_RUN_LABEL_LENGTH is 1, and
+ * run[FLASKNIB_RUN_LABEL_LENGTH] is the length.
+ */
+
 /* ---- what a caller owes ----------------------------------------------------------------------------------------------------------
- * A pointer and the count behind it (words, length, room, n_...) describe memory that the caller lends for the call. What is promised holds where
+ * The library is made for x86-64 Linux and for nothing else: size_t has 64 bits.
+ *
+ * A pointer and the count behind it (words, length, room, n_...; of elements, so of 8 bytes each for words) describe memory that the caller lends
+ * for the call. What is promised holds if
  *   - no pointer is null, not even where its count is 0: lend any address then (in C++, data() of an empty vector may be null);
  *   - all of that memory can be read, and written where the pointer is not to const;
  *   - each pointer is aligned for its type: 8 bytes for words and times, 2 for numbers;
@@ -43,22 +58,22 @@ enum {
     FLASKNIB_REFUSAL_BLOCK_SIZE = 6,   /* an XR block passes its packet */
     FLASKNIB_REFUSAL_JUMP = 7,         /* the sequence number jumps; the record remembers the number that would follow it */
     FLASKNIB_REFUSAL_FULL = 8,         /* 2^48 arrivals are counted */
-    FLASKNIB_REFUSAL_MALFORMED = 9,    /* a record is malformed */
-    FLASKNIB_REFUSAL_LIMITS = 10,      /* a number, a label, records or a compound's size outside the limits */
+    FLASKNIB_REFUSAL_MALFORMED = 9,    /* a record is malformed: what that is stands with its layout */
+    FLASKNIB_REFUSAL_LIMITS = 10,      /* an argument outside its limits: a number, a label, records, a compound's size */
     FLASKNIB_REFUSAL_TIME = 11,        /* a report not later than the last report or start, or earlier than a heard packet; a tick or a heard
                                         * packet earlier than these */
     FLASKNIB_REFUSAL_ROOM = 12,        /* the output is too small; where bytes are written, the answer has their number, the size */
     FLASKNIB_REFUSAL_CHECKSUM = 13,    /* a block's checksum */
-    FLASKNIB_REFUSAL_CONTENTS = 14,    /* a block's contents */
+    FLASKNIB_REFUSAL_CONTENTS = 14,    /* a block's contents, or a block of another kind, form or SSRC than its place wants */
     FLASKNIB_REFUSAL_PLACES = 15,      /* a new SSRC, and every place of the table is held */
     FLASKNIB_REFUSAL_RULES = 16,       /* a table against its rules */
     FLASKNIB_REFUSAL_FORM_TWO = 17     /* a time needs form 2: given by the converter of forms alone */
 };
 
 /* ---- what a writer answers -------------------------------------------------------------------------------------------------------
- * The functions that write bytes give the length, the number of bytes that they wrote, or minus a refusal's number. Refusal 12 comes with
- * its size, the number of bytes that the call would write: the answer is minus (256 * size + 12). With a room of exactly that many bytes the
- * same call succeeds, with one byte fewer it does not. The size can be asked with a room of 0; `out` must not be null, even then. The other
+ * The functions that write bytes (those with `out`) give the length, the number of bytes that they wrote, or minus a refusal's number. Refusal 12
+ * comes with its size, the number of bytes that the call would write: the answer is minus (256 * size + 12). With a room of exactly that many bytes
+ * the same call succeeds, with one byte fewer it does not. The size can be asked with a room of 0; `out` must not be null, even then. The other
  * refusals have no size. The functions that fill words answer a plain 12: how many words they need is fixed, and stands below.
  *
  * The two macros take a writer's answer, an int64_t, apart. They evaluate it twice: give them a variable, not a call.
@@ -72,14 +87,26 @@ enum {
 
 /* ---- one RTP source --------------------------------------------------------------------------------------------------------------
  * 10 words: base (signed), highest (signed), not-ECT, ECT(1), ECT(0), CE, duplicates, places 0 to 63 of the history, places 64 to 99, the
- * remembered number. Place k stands for the number highest - k; it is bit k of the first of its two words or bit k - 64 of the second, counted
- * from the lowest. The remembered number is 0 for none, and otherwise a wire number plus 1; above 65,536 it is malformed (9), and so is any
- * but 0 where nothing is counted. The fresh record is all zero.
+ * remembered number. The fresh record, before the first arrival, is all zero. Base is the first sequence number, and highest the highest one, with
+ * its wraps counted. An arrival that is accepted raises exactly one of the four counters of marks by one, and duplicates too if its number has
+ * arrived before. Place k of the history stands for the number highest - k, and is set if that has arrived; it is bit k of the first of its two
+ * words or bit k - 64 of the second, counted from the lowest. The remembered number is 0 for none, and otherwise a wire number plus 1.
  *
- * A sender that begins again with other numbers (RFC 3550, appendix A.1): a jump is refused, and the wire number that would follow it,
- * modulo 65,536, is remembered in place of any before. A later arrival that is a jump too and has that number restarts the record: base,
- * highest, history and all counters become those of a first arrival, this one, and no number is remembered. An arrival that is accepted
- * forgets the remembered number; one that is refused with 9, 10 or 8 does not.
+ * A wire number is the 16-bit sequence number of an RTP packet. The first arrival sets base and highest to it. Later, with d the wire number minus
+ * highest, modulo 65,536: d from 1 to 2,999 is the new highest; d = 0, and d from 65,437 on, is the number 0 to 99 below highest; any other d is a
+ * jump, refused with 7.
+ *
+ * A sender that begins again with other numbers (RFC 3550, appendix A.1): at a jump the wire number that would follow it, modulo 65,536, is
+ * remembered in place of any before. A later arrival that is a jump too and has that number restarts the record: base, highest, history and all
+ * counters become those of a first arrival, this one, and no number is remembered. An arrival that is accepted forgets the remembered number; one
+ * that is refused with 9, 10 or 8 does not.
+ *
+ * A record that a call left is never malformed. Malformed (9) is one that is not fresh and breaks any of these rules:
+ *   - base is from 0 to 65,535, and highest is at least base;
+ *   - the four counters of marks sum to 1 to 2^48, and duplicates are below that sum; the sum less the duplicates is D, the different numbers;
+ *   - place 0 is set, no bit of the second word beyond place 99 is, and at most D places are set;
+ *   - highest - base is at most 2,999 * (D - 1);
+ *   - the word of the remembered number is at most 65,536.
  */
 #define FLASKNIB_SOURCE_WORDS 10
 
@@ -102,13 +129,15 @@ enum { FLASKNIB_MARK_NOT_ECT = 0, FLASKNIB_MARK_ECT1 = 1, FLASKNIB_MARK_ECT0 = 2
 /* What flasknib_arrive and flasknib_sources_arrive answer for a restart. It is no refusal: the arrival is counted. */
 enum { FLASKNIB_RESTARTED = 128 };
 
-/* Counts one arrival. Gives 0 or FLASKNIB_RESTARTED and the next record, or refusal 9, 10, 8 or 7. Refusal 7 stores the next record too: only
- * the remembered number, word 9 counted from 0, differs. */
+/* Counts one arrival. Gives 0 or FLASKNIB_RESTARTED and the next record, or refusal 9, 10 for a mark above 3, 8 or 7. Refusal 7 stores the next
+ * record too: only the remembered number differs. */
 uint8_t flasknib_arrive(uint64_t *source, size_t words, uint16_t wire, uint8_t mark);
 
-/* Counts the 1 to 62 records of one arrivals block in order, going on after a jump and when full; each record has `width` bytes, the last four
- * of them the wire number (2), the mark and a byte that is not judged here. Gives 256 * restarts + jumps and the next record, or minus refusal
- * 9 or 10. The first packet of the pair that makes a restart is a jump, the second is counted as a restart alone. */
+/* Counts the 1 to 62 records of one arrivals block in order. Each has `width` bytes: a time, which is not looked at, and then the wire number (2,
+ * big-endian), the mark and a byte that is not judged here; so a width of FLASKNIB_RECORD_ONE_BYTES or FLASKNIB_RECORD_TWO_BYTES, or 4 without a
+ * time, or any other from 4 on. A record that is a jump, or that comes when 2^48 are counted, is left out, and the next one is taken. Gives 256 *
+ * restarts + jumps and the next record, or minus refusal 9, or 10 for a width below 4, a length that is no multiple of it, no record, more than 62
+ * or a mark above 3 in any of them. The first packet of the pair that makes a restart is a jump, the second is counted as a restart alone. */
 int64_t flasknib_count_block(uint64_t *source, size_t words, const uint8_t *records, size_t length, size_t width);
 
 /* The jumps and the restarts in an answer of flasknib_count_block or flasknib_sources_count_block that is not negative: a uint64_t each. */
@@ -120,28 +149,30 @@ int64_t flasknib_count_block(uint64_t *source, size_t words, const uint8_t *reco
 #define FLASKNIB_LOST_WORDS 1
 uint8_t flasknib_lost(const uint64_t *source, size_t words, uint64_t *found, size_t found_words);
 
-/* Writes the ECN feedback packet of RFC 6679, 32 bytes. Gives its length, or minus refusal 9, or 12 with its size. */
+/* Writes the ECN feedback packet of RFC 6679, 32 bytes, from the SSRC `sender` about the SSRC `media`. It has highest, ECT(0) and ECT(1) modulo
+ * 2^32, and CE, not-ECT, lost and duplicates modulo 65,536. Gives its length, or minus refusal 9, or 12 with its size. */
 #define FLASKNIB_FEEDBACK_BYTES 32
 int64_t flasknib_write_feedback(const uint64_t *source, size_t words, uint32_t sender, uint32_t media, uint8_t *out, size_t room);
 
-/* Writes the XR ECN summary block with one entry, 24 bytes. Gives its length, or minus refusal 9, or 12 with its size. */
+/* Writes the XR ECN summary block of RFC 6679 with one entry, 24 bytes, about the SSRC `media`: the same counters, without highest. The caller puts
+ * it into an XR packet. Gives its length, or minus refusal 9, or 12 with its size. */
 #define FLASKNIB_SUMMARY_BYTES 24
 int64_t flasknib_write_summary(const uint64_t *source, size_t words, uint32_t media, uint8_t *out, size_t room);
 
 /* ---- several RTP sources in one table --------------------------------------------------------------------------------------------
  * 0 to 16 places of 11 words each: the SSRC, then the 10 words of its source's record. A place is held where at least one arrival is counted in it.
  * The held places come first, in rising order of SSRC with no SSRC twice; the others are unused, and all zero. So a table of n places without a
- * source is 11 * n words 0. An arrival of a new SSRC takes its place in that order, and the places from there on move up by one.
+ * source is n * FLASKNIB_PLACE_WORDS words 0. An arrival of a new SSRC takes its place in that order, and the places from there on move up by one.
  *
- * Refusal 16 comes first of all: a number of words that is no multiple of 11, over 16 places, an SSRC word of 2^32 or more in any place, or a
- * table against the rules above. Then comes 9: the record of a held place is malformed, a remembered number above 65,536 among it. `words` is 0
- * for a table without places; `sources` must not be null, even then.
+ * Refusal 16 comes first of all: a number of words that is no multiple of 11, over 16 places, an SSRC word of 2^32 or more in any place, or a table
+ * against the rules above. Then comes 9: the record of a held place is malformed, a remembered number above 65,536 among it. `words` is 0 for a
+ * table without places; `sources` must not be null, even then.
  */
 #define FLASKNIB_PLACE_WORDS 11
 #define FLASKNIB_SOURCES_MOST_PLACES 16
 
-/* Where the words of a place stand in it. The source's record is 10 words from SOURCE on, so its CE counter is at FLASKNIB_PLACE_SOURCE +
- * FLASKNIB_SOURCE_CE. (No enum: C++20 does not add two.) */
+/* The places of these words. The source's record is 10 words from SOURCE on, so its CE counter is at FLASKNIB_PLACE_SOURCE + FLASKNIB_SOURCE_CE.
+ * (No enum: C++20 does not add two.) */
 #define FLASKNIB_PLACE_SSRC 0
 #define FLASKNIB_PLACE_SOURCE 1
 
@@ -150,7 +181,7 @@ int64_t flasknib_write_summary(const uint64_t *source, size_t words, uint32_t me
 uint8_t flasknib_sources_arrive(uint64_t *sources, size_t words, uint32_t ssrc, uint16_t wire, uint8_t mark);
 
 /* Counts the records of one arrivals block of the source `ssrc`, as flasknib_count_block does. Gives 256 * restarts + jumps and the next table, or
- * minus refusal 16, 9, 10 or 15. */
+ * minus refusal 16, 9, 10 (as there) or 15. */
 int64_t flasknib_sources_count_block(uint64_t *sources, size_t words, uint32_t ssrc, const uint8_t *records, size_t length, size_t width);
 
 /* Writes a compound from the SSRC `sender`: an RR without report blocks (RFC 3550) and one ECN feedback packet for each held place, in order;
@@ -208,8 +239,9 @@ enum {
  * the same words under the second. A packet without an SR or an RR (word 23 is 0) must not enter the congestion rule (RFC 8083, section 5). */
 enum { FLASKNIB_PROFILE_COMPOUND = 0, FLASKNIB_PROFILE_REDUCED_SIZE = 1 };
 
-/* Reads a compound. Gives 0 and 24 words at the front of `found`, or refusal 10 for another profile than the two, 1 to 6 or 10, or 12 where
- * `found` has fewer words. */
+/* Reads a compound, the payload of one UDP packet, for what it reports about the SSRC `media`. Gives 0 and 24 words at the front of `found`, or
+ * refusal 10 for another profile than the two, 1 to 6, or 10 for too many bytes, or 12 where `found` has fewer words. A fault anywhere in the
+ * compound refuses all of it. */
 uint8_t flasknib_read_compound(const uint8_t *bytes, size_t length, uint32_t media, uint8_t profile, uint64_t *found, size_t words);
 
 /* 3 words of what came between two ECN reports: packets lost (signed), packets marked with CE, packets expected. */
@@ -236,11 +268,16 @@ uint32_t flasknib_since32(uint32_t later, uint32_t earlier);
 int16_t flasknib_lost_since(uint16_t later, uint16_t earlier);
 
 /* ---- the circuit breaker ---------------------------------------------------------------------------------------------------------
- * 77 words: k, m, timeout (ms), whether reductions are allowed, whether the full throughput equation is taken in place of the simplified one;
- * state (0 running, else the reason of the stop); time of the last report or start, time of the last report, heard packet or start, from which
- * the timeout is measured; whether there was a report, its highest number, media run, whether a trial is under way, intervals in the window;
- * then 32 intervals, newest first, of length (ms, 1 to 10,000,000; a longer interval is stored as that) and fraction lost each. Other values of
- * a yes-or-no word than 0 and 1, another state than 0 to 3, and a highest number of 2^32 or more are malformed (9).
+ * 77 words: k, m, timeout (ms), whether reductions are allowed, whether the full throughput equation is taken in place of the simplified one; state
+ * (0 running, else the reason of the stop); time of the last report or start, time of the last report, heard packet or start, from which the
+ * timeout is measured; whether there was a report, its highest number, media run, whether a trial is under way, intervals in the window; then 32
+ * intervals, newest first, of length (ms, 1 to 10,000,000; a longer interval is stored as that) and fraction lost each.
+ *
+ * A record that a call left is never malformed. Malformed (9) is one that breaks any of these rules:
+ *   - k, m and timeout are within their limits, below; each of the four words that say whether (REDUCE, FULL, REPORTED, TRIAL) is 0 or 1;
+ *   - the state is 0 to 3; in state 0 the media run is below m (a stopped breaker's is not judged);
+ *   - both times are below 2^48; the highest number is below 2^32, and 0 where there was no report;
+ *   - at most k intervals are in the window, each with a length of 1 to 10,000,000 and a fraction of 0 to 255; the words of all others are 0.
  *
  * Which call is for which packet: one with an SR or an RR and a report block about us (words 23 and 0 of the compound are 1) is a report, any
  * other is heard. A packet without an SR or an RR never enters the congestion rule, nor may its ECN feedback feed the counts of
@@ -297,8 +334,10 @@ enum {
  * equation. */
 enum { FLASKNIB_REASON_TIMEOUT = 1, FLASKNIB_REASON_MEDIA = 2, FLASKNIB_REASON_CONGESTION = 3 };
 
-/* What a breaker call answers: FLASKNIB_GO, FLASKNIB_REDUCE, FLASKNIB_STOP + reason (1 timeout, 2 media, 3 congestion), or
- * FLASKNIB_REFUSED + refusal. (No enum: C++20 does not add two.) */
+/* What a breaker call answers: FLASKNIB_GO, go on sending; FLASKNIB_REDUCE, send at a tenth of the rate or less (RFC 8083, section 4.3; given only
+ * if reductions are allowed); FLASKNIB_STOP + reason (1 timeout, 2 media, 3 congestion), stop sending; or FLASKNIB_REFUSED + refusal. A stopped
+ * breaker stays so: every later call answers the first stop and changes nothing, whatever its arguments are; only 9 comes before that. (No enum:
+ * C++20 does not add two.) */
 #define FLASKNIB_GO 0
 #define FLASKNIB_REDUCE 1
 #define FLASKNIB_STOP 0x100
@@ -314,7 +353,8 @@ uint16_t flasknib_breaker_start(uint64_t k, uint64_t m, uint64_t timeout, uint8_
  * 2^48 ms or more. */
 uint16_t flasknib_breaker_start_preset(uint64_t time, uint64_t *breaker, size_t words);
 
-/* A report with the fraction lost in 256ths, 0 to 255: refusals 9, 10, 11. A stopped breaker answers its stop. */
+/* A report that came at `time`: its extended highest sequence number and its fraction lost, in 256ths, 0 to 255. Refusals 9, 10, 11. A stopped
+ * breaker answers its stop. */
 uint16_t flasknib_breaker_report(uint64_t *breaker, size_t words, uint64_t time, uint32_t highest, uint64_t fraction, uint64_t rtt,
                                  uint64_t size, uint64_t rate);
 
@@ -325,7 +365,7 @@ uint16_t flasknib_breaker_report(uint64_t *breaker, size_t words, uint64_t time,
 uint16_t flasknib_breaker_report_ecn(uint64_t *breaker, size_t words, uint64_t time, uint32_t highest, int64_t lost, uint64_t marked,
                                      uint64_t expected, uint64_t rtt, uint64_t size, uint64_t rate);
 
-/* A tick: refusals 9, 10, 11. A stopped breaker answers its stop. */
+/* A tick, as from a timer: only whether the timeout has passed at `time`. Refusals 9, 10, 11. A stopped breaker answers its stop. */
 uint16_t flasknib_breaker_tick(uint64_t *breaker, size_t words, uint64_t time);
 
 /* A packet that is no report was heard: a Go moves the time from which the timeout is measured to `time`, and nothing else. Refusals 9, 10, 11. A
@@ -333,12 +373,18 @@ uint16_t flasknib_breaker_tick(uint64_t *breaker, size_t words, uint64_t time);
 uint16_t flasknib_breaker_heard(uint64_t *breaker, size_t words, uint64_t time);
 
 /* ---- trace blocks and table rows -------------------------------------------------------------------------------------------------
- * A trace has one of two forms, and each of its blocks says which. Form 1: 1 to 62 arrivals to a block, with times below 2^32 ms (49 days). Form
- * 2: 1 to 50, with times below 2^48 ms. A record is the time, of 4 or 6 bytes, then the wire number (2), the mark and a zero.
+ * A trace is a row of blocks of 512 bytes: kind (2), count (2), SSRC (4), body (502) and a checksum (2), big-endian. Block 0 has the trace's label,
+ * the others its arrivals, and the count is the bytes of the label or the number of records. The bytes of the body behind those are zero.
+ *
+ * A trace has one of two forms, and each of its blocks says which. FLASKNIB_FORM_ONE: 1 to 62 arrivals to a block, with times below 2^32 ms (49
+ * days). FLASKNIB_FORM_TWO: 1 to 50, with times below 2^48 ms. A record is the time, of 4 or 6 bytes, then the wire number (2), the mark, 0 to 3,
+ * and a zero.
+ *
+ * A label has 0 to 502 bytes, each from 32 to 126 (printable ASCII), 10 (LF) or 13 (CR). It has no zero at its end, and its length counts none.
  */
 enum { FLASKNIB_FORM_ONE = 1, FLASKNIB_FORM_TWO = 2 };
 
-/* 3 words of a block: its kind; the label's length or the number of records; the SSRC. */
+/* 3 words of a block: its kind; what it holds, the label's bytes or the number of records; the SSRC. */
 #define FLASKNIB_BLOCK_WORDS 3
 
 /* The places of the words. */
@@ -359,8 +405,8 @@ enum { FLASKNIB_KIND_LABEL_ONE = 1, FLASKNIB_KIND_ARRIVALS_ONE = 2, FLASKNIB_KIN
 #define FLASKNIB_ARRIVALS_TWO_MOST 50
 #define FLASKNIB_BLOCK_BODY_AT 8
 
-/* Reads a block of 512 bytes, of either form. Gives 0 and 3 words at the front of `found`, or refusal 1, 13 or 14, or 12 where `found` has fewer
- * words. */
+/* Reads a block of 512 bytes, of either form. Gives 0 and 3 words at the front of `found`, or refusal 1 for another length than 512, 13, or 14 for
+ * contents against the rules above, or 12 where `found` has fewer words. */
 uint8_t flasknib_read_block(const uint8_t *block, size_t length, uint64_t *found, size_t words);
 
 /* 3 words of a record: its time (ms), its wire number, its mark. */
@@ -374,40 +420,43 @@ enum { FLASKNIB_RECORD_TIME = 0, FLASKNIB_RECORD_WIRE = 1, FLASKNIB_RECORD_MARK 
  * fewer words. Nothing else of the block is judged: flasknib_read_block does that, once a block. */
 uint8_t flasknib_record_at(const uint8_t *block, size_t length, size_t i, uint64_t *found, size_t words);
 
-/* Writes a label block of form 1 or 2, 512 bytes. Gives its length, or minus refusal 10 for a label outside the trace's rules or another form, or
- * 12 with its size. */
+/* Writes a label block, 512 bytes. Gives its length, or minus refusal 10 for another form than the two or a label against the rules above, or 12
+ * with its size. */
 int64_t flasknib_write_label(uint8_t form, const uint8_t *label, size_t length, uint32_t ssrc, uint8_t *out, size_t room);
 
-/* Writes an arrivals block of form 1 or 2, 512 bytes. Gives its length, or minus refusal 10 for records outside the form's rules, lists of unequal
- * length or another form, or 12 with its size. */
+/* Writes an arrivals block, 512 bytes, of three lists, one entry to a record: times in ms, wire numbers and marks, as numbers of the machine. Gives
+ * its length, or minus refusal 10 for another form than the two, lists of unequal length, no record or more than the form has to a block, a time
+ * that the form has no bytes for or a mark above 3, or 12 with its size. */
 int64_t flasknib_write_arrivals(uint8_t form, const uint64_t *times, size_t n_times, const uint16_t *numbers, size_t n_numbers,
                                 const uint8_t *marks, size_t n_marks, uint32_t ssrc, uint8_t *out, size_t room);
 
-/* Writes the same block from the bytes of its records, each as a block has it. Gives its length, or minus refusal 10 for another form, a record that is
- * not whole, none or too many of them, a mark above 3 or a last byte that is not 0, or 12 with its size. */
+/* Writes the same block from the bytes of its records, each as a block has it, big-endian. Gives its length, or minus refusal 10 for another form
+ * than the two, a record that is not whole, no record or more than the form has to a block, a mark above 3 or a last byte that is not 0, or 12 with
+ * its size. */
 int64_t flasknib_write_records(uint8_t form, const uint8_t *records, size_t length, uint32_t ssrc, uint8_t *out, size_t room);
 
-/* Writes the table's head line, 65 bytes. Gives its length, or minus refusal 12 with its size. */
+/* Writes the table's head line, 65 bytes with its CR LF. Gives its length, or minus refusal 12 with its size. */
 #define FLASKNIB_HEAD_BYTES 65
 int64_t flasknib_write_head(uint8_t *out, size_t room);
 
-/* Writes a row of the table, at most 1,228 bytes. `jumped` and `restarts` are at most 2^48 each, else refusal 10. Gives its length, or minus
- * refusal 9 or 10, or 12 with its size. */
+/* Writes a row of the table, at most 1,228 bytes with its CR LF, of the values of one source's record. Gives its length, or minus refusal 9, 10 for
+ * a label against the rules above or for `jumped` or `restarts` above 2^48, or 12 with its size. */
 #define FLASKNIB_ROW_MOST_BYTES 1228
 int64_t flasknib_write_row(const uint8_t *label, size_t length, uint32_t ssrc, const uint64_t *source, size_t words, uint64_t jumped,
                            uint64_t restarts, uint8_t *out, size_t room);
 
-/* Writes the line `refused N block I`, at most 40 bytes, of any refusal's number and any block's. Gives its length, or minus refusal 12 with its
- * size. */
+/* Writes the line `refused N block I`, at most 40 bytes with its CR LF, of any refusal's number and any block's. Gives its length, or minus refusal
+ * 12 with its size. */
 #define FLASKNIB_REFUSED_MOST_BYTES 40
 int64_t flasknib_write_refused(uint8_t number, uint64_t block, uint8_t *out, size_t room);
 
 /* ---- a run of ecntable -----------------------------------------------------------------------------------------------------------
  * What the program does with a trace, block by block: flasknib_write_head, flasknib_run_start on block 0, flasknib_run_block on each later block,
- * and flasknib_write_refused for the first that is refused, with its number; a tail under 512 bytes is a block too, and so is an empty trace.
+ * and flasknib_write_refused for the first that is refused, with its number, and nothing behind it. A tail under 512 bytes is a block too, and so
+ * is an empty trace, as block 0 of 0 bytes: hand it over with its length.
  *
- * 15 words: the form of the trace, 1 or 2; the label's length; the SSRC; the 10 words of the source's record; jumped; restarts. Another form, an
- * SSRC of 2^32 or more, a record that is malformed, and jumped or restarts above 2^48 are malformed (9).
+ * 15 words: the form of the trace; the label's length; the SSRC; the 10 words of the source's record; jumped; restarts. Another form than the two,
+ * a length above 502, an SSRC of 2^32 or more, a record that is malformed, and jumped or restarts above 2^48 are malformed (9).
  */
 #define FLASKNIB_RUN_WORDS 15
 
@@ -425,19 +474,21 @@ uint8_t flasknib_run_start(const uint8_t *zeroth, size_t length, uint64_t *run, 
 
 /* Takes a later block, which must hold arrivals of the label's form and SSRC, and writes the row after it, at most FLASKNIB_ROW_MOST_BYTES.
  * `zeroth` is block 0, from which the row has its label: lend the same bytes to every call. Gives the row's length and the next run, or minus
- * refusal 9, for a block 0 that is not the run's own too, 1, 13 or 14 for the block, or 12 with the row's size. A refused call changes nothing. */
+ * refusal 9, also for a block 0 that is not 512 bytes, has another form, length of the label or SSRC than the run, or a label against the rules; 1,
+ * 13 or 14 for the block; or 12 with the row's size. Nothing else of block 0 is compared, neither its label nor its checksum: with another label of
+ * the same length the row has that one. A refused call changes nothing. */
 int64_t flasknib_run_block(uint64_t *run, size_t words, const uint8_t *zeroth, size_t zeroth_length, const uint8_t *block, size_t block_length,
                            uint8_t *out, size_t room);
 
 /* ---- a trace in the other form ---------------------------------------------------------------------------------------------------
  * What the program ecnforms does with a trace, block by block: flasknib_forms_start on block 0, flasknib_forms_block on each later block, and
- * flasknib_forms_close behind the last, or behind the first that is refused. What they write is the trace in the other form, each arrivals block
- * full but perhaps the last.
+ * flasknib_forms_close behind the last, or behind the first that is refused, which ends it (a refused block 0 has no close). What they write is the
+ * trace in the other form, each arrivals block full but perhaps the last.
  *
- * 3 words: the trace's own form, 1 or 2; its SSRC; how many records are held. Those stand in a part of 502 bytes or more that is lent with each
- * call, in the other form, as the body of a block has them; its bytes need not be set before the first call. Another form, an SSRC of 2^32 or more,
- * as many records as a block of the other form takes, a part of fewer bytes, and a held record with a mark above 3 or a last byte that is not 0 are
- * malformed (9).
+ * 3 words: the trace's own form; its SSRC; how many records are held. Those stand in a part of 502 bytes or more that is lent with each call, in
+ * the other form, as the body of a block has them; its bytes need not be set before the first call. Another form than the two, an SSRC of 2^32 or
+ * more, as many records as a block of the other form takes, a part of fewer bytes, and a held record with a mark above 3 or a last byte that is not
+ * 0 are malformed (9).
  */
 #define FLASKNIB_FORMS_WORDS 3
 #define FLASKNIB_FORMS_PART_BYTES 502
@@ -452,7 +503,8 @@ int64_t flasknib_forms_start(const uint8_t *zeroth, size_t length, uint64_t *for
 
 /* Takes a later block, which must hold arrivals of the label's form and SSRC, and writes the blocks that are full with its records: 0, 512 or 1,024
  * bytes. The records left over are held in the part. Gives the blocks' length and the next conversion, or minus refusal 9, 1, 13 or 14 for the
- * block, 17 for a time that needs form 2, or 12 with the blocks' size. A refused call changes nothing, the part neither. */
+ * block, 17 for a time of 2^32 ms or more, which only form 2 has bytes for, or 12 with the blocks' size. A refused call changes nothing, the part
+ * neither. */
 int64_t flasknib_forms_block(uint64_t *forms, size_t words, uint8_t *part, size_t part_length, const uint8_t *block, size_t block_length,
                              uint8_t *out, size_t room);
 
@@ -465,10 +517,10 @@ int64_t flasknib_forms_close(const uint64_t *forms, size_t words, const uint8_t 
  * flasknib_streams_block on each later block, and behind the last flasknib_streams_row for each line, from 0 on; or flasknib_write_refused for the
  * first block that is refused, with its number, and no row.
  *
- * 3 words: the form of the trace, 1 or 2; the label's length; how many lines are held, at most 16. A line has 13 words: the SSRC, the 10 words of
- * the source's record, jumped and restarts. The lines, one for each SSRC, in rising order, stand in FLASKNIB_STREAMS_MOST_LINES * FLASKNIB_LINE_WORDS
- * words (208) or more that are lent with each call; they need not be set before the first call. Another form, more lines and fewer words are malformed (9), and so is a line whose record is
- * malformed or whose jumped or restarts are above 2^48, where a call needs that line.
+ * 3 words: the form of the trace; the label's length; how many lines are held, at most 16. A line has 13 words: the SSRC, the 10 words of the
+ * source's record, jumped and restarts. The lines, one for each SSRC, in rising order, stand in FLASKNIB_STREAMS_MOST_LINES * FLASKNIB_LINE_WORDS
+ * words (208) or more that are lent with each call; they need not be set before the first call. Another form than the two, more lines and fewer
+ * words are malformed (9), and so is a line whose record is malformed or whose jumped or restarts are above 2^48, in a call that needs that line.
  */
 #define FLASKNIB_STREAMS_WORDS 3
 #define FLASKNIB_LINE_WORDS 13
@@ -492,9 +544,9 @@ uint8_t flasknib_streams_start(const uint8_t *zeroth, size_t length, uint64_t *r
  * no word. */
 uint8_t flasknib_streams_block(uint64_t *run, size_t words, uint64_t *lines, size_t line_words, const uint8_t *block, size_t length);
 
-/* Writes the row of line i, at most FLASKNIB_ROW_MOST_BYTES. `zeroth` is block 0, from which the row has its label. Gives the row's length, or minus
- * refusal 9, for a block 0 that is not the run's own and for a line with an SSRC of 2^32 or more too, 10 for no such line, or 12 with the row's
- * size. */
+/* Writes the row of line i, counted from 0, at most FLASKNIB_ROW_MOST_BYTES. `zeroth` is block 0, from which the row has its label. Gives the row's
+ * length, or minus refusal 9, also for a line with an SSRC of 2^32 or more and for a block 0 that is not 512 bytes, has another form or length of
+ * the label than the run, or a label against the rules (nothing else of it is compared); 10 for no such line; or 12 with the row's size. */
 int64_t flasknib_streams_row(const uint64_t *run, size_t words, size_t i, const uint64_t *lines, size_t line_words, const uint8_t *zeroth,
                              size_t zeroth_length, uint8_t *out, size_t room);
 

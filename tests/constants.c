@@ -1,20 +1,6 @@
 /* constants: the numbers of flasknib.h, asked of the library. Compiled as C and as C++. Prints each check that does not hold, and a last line. */
-#include <stdio.h>
-#include <string.h>
-
+#include "check.h"
 #include "flasknib.h"
-
-static int checks, failures;
-
-static void check(int holds, const char *what, int line)
-{
-    checks++;
-    if (!holds) {
-        failures++;
-        printf("constants.c:%d: %s\n", line, what);
-    }
-}
-#define CHECK(what) check((what), #what, __LINE__)
 
 enum { SSRC = 0x1234567, SENDER = 9 };
 
@@ -531,6 +517,5 @@ int main(void)
     run_words();
     forms_words();
     streams_words();
-    printf("%d checks of the header's numbers, %d fail\n", checks, failures);
-    return failures != 0;
+    return checked("the header's numbers");
 }

@@ -1,0 +1,206 @@
+/* rules: what the comments of flasknib.h say is malformed (9) or outside the limits (10), and what is told apart by what, asked of the library.
+ * Each rule is broken by one step, and kept at its limit. Prints each check that does not hold, and a last line. */
+#include "check.h"
+#include "flasknib.h"
+
+enum { SSRC = 0x1234567 };
+static const uint64_t two48 = UINT64_C(1) << 48, two32 = UINT64_C(1) << 32;
+
+/* ---- a source's record */
+
+/* The answer to a query of a record with base 10, highest 19, ten arrivals, one of them twice, and one word changed. */
+static uint8_t source_with(size_t place, uint64_t word)
+{
+    uint64_t source[FLASKNIB_SOURCE_WORDS] = {10, 19, 4, 3, 2, 1, 1, 0x3fd, 0, 0}, found[FLASKNIB_LOST_WORDS];
+
+    source[place] = word;
+    return flasknib_lost(source, FLASKNIB_SOURCE_WORDS, found, FLASKNIB_LOST_WORDS);
+}
+
+static void source_rules(void)
+{
+    CHECK(source_with(FLASKNIB_SOURCE_BASE, 10) == 0);
+    CHECK(source_with(FLASKNIB_SOURCE_BASE, 0) == 0);
+    CHECK(source_with(FLASKNIB_SOURCE_BASE, UINT64_MAX) == FLASKNIB_REFUSAL_MALFORMED);
+    CHECK(source_with(FLASKNIB_SOURCE_BASE, 20) == FLASKNIB_REFUSAL_MALFORMED);
+    CHECK(source_with(FLASKNIB_SOURCE_HIGHEST, 9) == FLASKNIB_REFUSAL_MALFORMED);
+    CHECK(source_with(FLASKNIB_SOURCE_HIGHEST, 10 + 2999 * 8) == 0);
+    CHECK(source_with(FLASKNIB_SOURCE_HIGHEST, 10 + 2999 * 8 + 1) == FLASKNIB_REFUSAL_MALFORMED);
+    CHECK(source_with(FLASKNIB_SOURCE_NOT_ECT, two48 - 6) == 0);
+    CHECK(source_with(FLASKNIB_SOURCE_NOT_ECT, two48 - 5) == FLASKNIB_REFUSAL_MALFORMED);
+    CHECK(source_with(FLASKNIB_SOURCE_NOT_ECT, UINT64_MAX - 5) == FLASKNIB_REFUSAL_MALFORMED);
+    CHECK(source_with(FLASKNIB_SOURCE_DUPLICATES, 2) == FLASKNIB_REFUSAL_MALFORMED);
+    CHECK(source_with(FLASKNIB_SOURCE_DUPLICATES, 10) == FLASKNIB_REFUSAL_MALFORMED);
+    CHECK(source_with(FLASKNIB_SOURCE_HISTORY, 0x3fc) == FLASKNIB_REFUSAL_MALFORMED);
+    CHECK(source_with(FLASKNIB_SOURCE_HISTORY, 0x3ff) == FLASKNIB_REFUSAL_MALFORMED);
+    CHECK(source_with(FLASKNIB_SOURCE_HISTORY + 1, 1) == FLASKNIB_REFUSAL_MALFORMED);
+    CHECK(source_with(FLASKNIB_SOURCE_REMEMBERED, 65536) == 0);
+    CHECK(source_with(FLASKNIB_SOURCE_REMEMBERED, 65537) == FLASKNIB_REFUSAL_MALFORMED);
+}
+
+/* The answer to a query of a record whose base is its highest, with no duplicate and these words. */
+static uint8_t source_of(uint64_t number, uint64_t older, uint64_t arrivals, uint64_t remembered)
+{
+    uint64_t source[FLASKNIB_SOURCE_WORDS] = {number, number, arrivals, 0, 0, 0, 0, arrivals != 0, older, remembered}, found[FLASKNIB_LOST_WORDS];
+
+    return flasknib_lost(source, FLASKNIB_SOURCE_WORDS, found, FLASKNIB_LOST_WORDS);
+}
+
+static void source_limits(void)
+{
+    CHECK(source_of(65535, 0, 2, 0) == 0);
+    CHECK(source_of(65536, 0, 2, 0) == FLASKNIB_REFUSAL_MALFORMED);
+    CHECK(source_of(5, UINT64_C(1) << 35, 2, 0) == 0);
+    CHECK(source_of(5, UINT64_C(1) << 36, 2, 0) == FLASKNIB_REFUSAL_MALFORMED);
+    CHECK(source_of(0, 0, 0, 0) == 0);
+    CHECK(source_of(0, 0, 0, 1) == FLASKNIB_REFUSAL_MALFORMED);
+    CHECK(source_of(1, 0, 0, 0) == FLASKNIB_REFUSAL_MALFORMED);
+}
+
+/* ---- a breaker's record */
+
+/* The answer to a tick of a breaker with k = 5, m = 6, two reports and one interval, and two words changed. */
+static uint16_t breaker_with(size_t place, uint64_t word, size_t other, uint64_t other_word)
+{
+    uint64_t breaker[FLASKNIB_BREAKER_WORDS];
+
+    CHECK(flasknib_breaker_start(5, 6, 7000, 1, 0, 10, breaker, FLASKNIB_BREAKER_WORDS) == FLASKNIB_GO);
+    CHECK(flasknib_breaker_report(breaker, FLASKNIB_BREAKER_WORDS, 1000, 77, 0, 1, 1000, 1) == FLASKNIB_GO);
+    CHECK(flasknib_breaker_report(breaker, FLASKNIB_BREAKER_WORDS, 1500, 78, 33, 1, 1000, 1) == FLASKNIB_GO);
+    breaker[place] = word;
+    breaker[other] = other_word;
+    return flasknib_breaker_tick(breaker, FLASKNIB_BREAKER_WORDS, 1500);
+}
+
+/* Whether a word is taken with one value and is malformed with another. */
+static int within(size_t place, uint64_t taken, uint64_t malformed)
+{
+    return breaker_with(place, taken, place, taken) == FLASKNIB_GO
+           && breaker_with(place, malformed, place, malformed) == FLASKNIB_REFUSED + FLASKNIB_REFUSAL_MALFORMED;
+}
+
+static void breaker_rules(void)
+{
+    CHECK(within(FLASKNIB_BREAKER_K, 1, 0));
+    CHECK(within(FLASKNIB_BREAKER_K, FLASKNIB_BREAKER_MOST_K, FLASKNIB_BREAKER_MOST_K + 1));
+    CHECK(within(FLASKNIB_BREAKER_M, 1, 0));
+    CHECK(within(FLASKNIB_BREAKER_M, FLASKNIB_BREAKER_MOST_M, FLASKNIB_BREAKER_MOST_M + 1));
+    CHECK(within(FLASKNIB_BREAKER_TIMEOUT, 1, 0));
+    CHECK(within(FLASKNIB_BREAKER_TIMEOUT, FLASKNIB_BREAKER_MOST_TIMEOUT, FLASKNIB_BREAKER_MOST_TIMEOUT + 1));
+    CHECK(within(FLASKNIB_BREAKER_REDUCE, 0, 2));
+    CHECK(within(FLASKNIB_BREAKER_FULL, 1, 2));
+    CHECK(within(FLASKNIB_BREAKER_REPORTED, 1, 2));
+    CHECK(within(FLASKNIB_BREAKER_TRIAL, 1, 2));
+    CHECK(within(FLASKNIB_BREAKER_STATE, 0, 4));
+    CHECK(within(FLASKNIB_BREAKER_RUN, 5, 6));
+    CHECK(breaker_with(FLASKNIB_BREAKER_RUN, 6, FLASKNIB_BREAKER_STATE, 2) == FLASKNIB_STOP + FLASKNIB_REASON_MEDIA);
+    CHECK(within(FLASKNIB_BREAKER_LAST, 0, two48));
+    CHECK(within(FLASKNIB_BREAKER_HEARD, 0, two48));
+    CHECK(within(FLASKNIB_BREAKER_HIGHEST, two32 - 1, two32));
+    CHECK(breaker_with(FLASKNIB_BREAKER_REPORTED, 0, FLASKNIB_BREAKER_HIGHEST, 0) == FLASKNIB_GO);
+    CHECK(breaker_with(FLASKNIB_BREAKER_REPORTED, 0, FLASKNIB_BREAKER_HIGHEST, 1) == FLASKNIB_REFUSED + FLASKNIB_REFUSAL_MALFORMED);
+}
+
+static void window_rules(void)
+{
+    const size_t length = FLASKNIB_BREAKER_NEWEST, fraction = FLASKNIB_BREAKER_NEWEST + 1, older = FLASKNIB_BREAKER_NEWEST + 2;
+
+    CHECK(within(length, 1, 0));
+    CHECK(within(length, 10000000, 10000001));
+    CHECK(within(fraction, FLASKNIB_BREAKER_MOST_FRACTION, FLASKNIB_BREAKER_MOST_FRACTION + 1));
+    CHECK(within(older, 0, 1));
+    CHECK(within(older + 1, 0, 1));
+    CHECK(within(FLASKNIB_BREAKER_WORDS - 1, 0, 1));
+    CHECK(breaker_with(FLASKNIB_BREAKER_USED, 2, older, 1) == FLASKNIB_GO);
+    CHECK(breaker_with(FLASKNIB_BREAKER_USED, 2, older, 0) == FLASKNIB_REFUSED + FLASKNIB_REFUSAL_MALFORMED);
+    CHECK(breaker_with(FLASKNIB_BREAKER_USED, 1, FLASKNIB_BREAKER_K, 1) == FLASKNIB_GO);
+    CHECK(breaker_with(FLASKNIB_BREAKER_USED, 2, FLASKNIB_BREAKER_K, 1) == FLASKNIB_REFUSED + FLASKNIB_REFUSAL_MALFORMED);
+}
+
+/* ---- records and labels */
+
+/* The answer to a block of zeros but for the mark of its last record. */
+static int64_t block_of(size_t length, size_t width, uint8_t mark)
+{
+    uint8_t records[64 * FLASKNIB_RECORD_TWO_BYTES] = {0};
+    uint64_t source[FLASKNIB_SOURCE_WORDS] = {0};
+
+    if (length >= 2)
+        records[length - 2] = mark;
+    return flasknib_count_block(source, FLASKNIB_SOURCE_WORDS, records, length, width);
+}
+
+static void record_limits(void)
+{
+    CHECK(block_of(62 * 4, 4, 3) == 0);
+    CHECK(block_of(63 * 4, 4, 3) == -FLASKNIB_REFUSAL_LIMITS);
+    CHECK(block_of(0, 4, 0) == -FLASKNIB_REFUSAL_LIMITS);
+    CHECK(block_of(7, 4, 0) == -FLASKNIB_REFUSAL_LIMITS);
+    CHECK(block_of(4, 4, 4) == -FLASKNIB_REFUSAL_LIMITS);
+    CHECK(block_of(3, 3, 0) == -FLASKNIB_REFUSAL_LIMITS);
+    CHECK(block_of(5, 5, 3) == 0);
+}
+
+/* The wire number 0x1234 is the bytes 0x12 and 0x34; the byte behind the mark is not judged. */
+static void byte_order(void)
+{
+    static const uint8_t record[] = {0x12, 0x34, FLASKNIB_MARK_CE, 0xff};
+    uint64_t source[FLASKNIB_SOURCE_WORDS] = {0};
+
+    CHECK(flasknib_count_block(source, FLASKNIB_SOURCE_WORDS, record, sizeof record, sizeof record) == 0);
+    CHECK(source[FLASKNIB_SOURCE_HIGHEST] == 0x1234);
+}
+
+static void label_rules(void)
+{
+    uint8_t block[FLASKNIB_BLOCK_BYTES];
+
+    for (int i = 0; i < 256; i++) {
+        uint8_t byte = (uint8_t)i;
+        int taken = (i >= 32 && i <= 126) || i == 10 || i == 13;
+        int64_t answer = flasknib_write_label(FLASKNIB_FORM_ONE, &byte, 1, SSRC, block, sizeof block);
+        CHECK(answer == (taken ? FLASKNIB_BLOCK_BYTES : -FLASKNIB_REFUSAL_LIMITS));
+    }
+}
+
+/* ---- block 0 of a run */
+
+/* The answer to a block of a run whose block 0 has one byte changed, and the row. */
+static int64_t run_with(size_t at, uint8_t byte, uint8_t *row)
+{
+    static const uint8_t record[] = {0, 0, 0, 0, 0, 1, FLASKNIB_MARK_CE, 0};
+    uint8_t zeroth[FLASKNIB_BLOCK_BYTES], block[FLASKNIB_BLOCK_BYTES];
+    uint64_t run[FLASKNIB_RUN_WORDS];
+
+    CHECK(flasknib_write_label(FLASKNIB_FORM_ONE, (const uint8_t *)"ward", 4, SSRC, zeroth, sizeof zeroth) == FLASKNIB_BLOCK_BYTES);
+    CHECK(flasknib_write_records(FLASKNIB_FORM_ONE, record, sizeof record, SSRC, block, sizeof block) == FLASKNIB_BLOCK_BYTES);
+    CHECK(flasknib_run_start(zeroth, sizeof zeroth, run, FLASKNIB_RUN_WORDS) == 0);
+    zeroth[at] = byte;
+    return flasknib_run_block(run, FLASKNIB_RUN_WORDS, zeroth, sizeof zeroth, block, sizeof block, row, FLASKNIB_ROW_MOST_BYTES);
+}
+
+static void block_0(void)
+{
+    uint8_t row[FLASKNIB_ROW_MOST_BYTES];
+
+    CHECK(run_with(FLASKNIB_BLOCK_BODY_AT, 'h', row) > 0);
+    CHECK(memcmp(row, "hard,", 5) == 0);
+    CHECK(run_with(FLASKNIB_BLOCK_BODY_AT, 31, row) == -FLASKNIB_REFUSAL_MALFORMED);
+    CHECK(run_with(1, FLASKNIB_KIND_LABEL_TWO, row) == -FLASKNIB_REFUSAL_MALFORMED);
+    CHECK(run_with(3, 3, row) == -FLASKNIB_REFUSAL_MALFORMED);
+    CHECK(run_with(7, 0, row) == -FLASKNIB_REFUSAL_MALFORMED);
+    CHECK(run_with(FLASKNIB_BLOCK_BYTES - 1, 0, row) > 0);
+}
+
+int main(void)
+{
+    source_rules();
+    source_limits();
+    breaker_rules();
+    window_rules();
+    record_limits();
+    byte_order();
+    label_rules();
+    block_0();
+    return checked("the header's rules");
+}
