@@ -1,5 +1,5 @@
 # make            proves and compiles the programs and the library; needs the Rattle toolchain, whose `rt` must be on the path
-# make install    copies what make built below PREFIX (/usr/local), for a package below DESTDIR; needs no toolchain
+# make install    copies what make built below PREFIX (/usr/local), for a package below DESTDIR, and tells the loader; needs no toolchain
 # make sums       target/SHA256SUMS, the sums of what make built
 # make deb        a Debian package of what make install installs
 PREFIX ?= /usr/local
@@ -44,8 +44,10 @@ $(static): $(archive)
 	@mkdir -p $(@D)
 	cp $< $@
 
+# Of another version none is left, which tools/ecn could take for this one. LDFLAGS are the caller's.
 $(shared): $(static) VERSION
-	$(CC) -shared -nostartfiles -Wl,-soname,$(soname) -Wl,-z,defs -Wl,-z,text -Wl,-z,noexecstack \
+	rm -f $(@D)/libflasknib.so*
+	$(CC) -shared -nostartfiles -Wl,-soname,$(soname) -Wl,-z,defs -Wl,-z,text -Wl,-z,noexecstack -Wl,-z,relro,-z,now $(LDFLAGS) \
 		-Wl,--whole-archive $(static) -Wl,--no-whole-archive -o $@
 
 target/man/flasknib.3: man/flasknib.3 include/flasknib.h packaging/synopsis
@@ -72,3 +74,4 @@ install: $(built)
 	install -m 644 tools/ecnlib/*.py $(to)/share/flasknib/ecnlib
 	install -m 755 tools/ecn $(to)/share/flasknib
 	ln -sf ../share/flasknib/ecn $(to)/bin/ecn
+	@[ -n "$(DESTDIR)" ] || packaging/loader "$(PREFIX)/lib"
