@@ -8,7 +8,7 @@ import sys
 from ctypes import c_int64, c_size_t, c_uint8, c_uint16, c_uint32, c_uint64
 
 # Of flasknib.h
-SOURCE_WORDS, FEEDBACK_BYTES, SUMMARY_BYTES, HEAD_BYTES = 10, 32, 24, 65
+SOURCE_WORDS = 10
 HIGHEST, NOT_ECT, ECT1, ECT0, CE, DUPLICATES = range(1, 7)  # places of a source's words
 JUMP, ROOM, RESTARTED = 7, 12, 128
 
@@ -23,7 +23,7 @@ FUNCTIONS = {
 }
 LABEL, MEDIA, SENDER = b"probe 2, left", 1, 9
 ARRIVALS = [(65534, 2), (65535, 2), (0, 3), (0, 3), (3, 1)]
-REBOOTED = bytes.fromhex("75300200 75310200 75320300")  # 30000, 30001, 30002, in records of 4 bytes
+REBOOTED = bytes.fromhex("75300200 75310200 75320300")  # 30000, 30001, 30002, in records of 4 bytes, big-endian
 
 
 def load(path):
@@ -36,13 +36,24 @@ def load(path):
     return calls
 
 
-def written(size, write):
-    """The bytes that a writer writes in so much room, and its refusal, 0 for none, with the size that it needs."""
-    out = (c_uint8 * max(size, 1))()  # a pointer is never null
-    answer = write(out, size)
+def answered(answer):
+    """What a call answers, unless it is refused."""
     if answer < 0:
-        return b"", -answer % 256, -answer // 256
-    return bytes(out[:answer]), 0, answer
+        sys.exit(f"refused {-answer % 256}")
+    return answer
+
+
+def size_of(write):
+    """How much room a writer needs: asked with none, and a pointer that is not null even so, it refuses with 12 and says the size."""
+    answer = write((c_uint8 * 1)(), 0)
+    return -answer // 256 if answer < 0 and -answer % 256 == ROOM else answered(answer)
+
+
+def written(write):
+    """What a writer writes in just that much room."""
+    size = size_of(write)
+    out = (c_uint8 * max(size, 1))()
+    return bytes(out[: answered(write(out, size))])
 
 
 def spaced(packet):
@@ -64,24 +75,18 @@ def main(path):
     for name, place in (("ECT(0)", ECT0), ("ECT(1)", ECT1), ("CE", CE), ("not-ECT", NOT_ECT), ("duplicates", DUPLICATES)):
         print(name, source[place])
 
-    feedback, _, _ = written(FEEDBACK_BYTES, lambda out, room: calls["write_feedback"](source, SOURCE_WORDS, SENDER, MEDIA, out, room))
-    summary, _, _ = written(SUMMARY_BYTES, lambda out, room: calls["write_summary"](source, SOURCE_WORDS, MEDIA, out, room))
-    print("feedback:", spaced(feedback))
-    print("summary:", spaced(summary))
+    print("feedback:", spaced(written(lambda out, room: calls["write_feedback"](source, SOURCE_WORDS, SENDER, MEDIA, out, room))))
+    print("summary:", spaced(written(lambda out, room: calls["write_summary"](source, SOURCE_WORDS, MEDIA, out, room))))
 
-    def row(room):
-        return written(room, lambda out, room: calls["write_row"](LABEL, len(LABEL), MEDIA, source, SOURCE_WORDS, jumped, restarts, out, room))
+    def row(out, room):
+        return calls["write_row"](LABEL, len(LABEL), MEDIA, source, SOURCE_WORDS, jumped, restarts, out, room)
 
-    _, refusal, size = row(0)
-    print(f"row in 0 bytes: refused {refusal}, {size} bytes", flush=True)
-    head, _, _ = written(HEAD_BYTES, calls["write_head"])
-    sys.stdout.buffer.write(head + row(size)[0])
+    print(f"row in 0 bytes: refused {ROOM}, {size_of(row)} bytes", flush=True)
+    sys.stdout.buffer.write(written(calls["write_head"]) + written(row))
 
-    counted = calls["count_block"](source, SOURCE_WORDS, REBOOTED, len(REBOOTED), 4)
-    if counted < 0:
-        sys.exit(f"refused {-counted}")
+    counted = answered(calls["count_block"](source, SOURCE_WORDS, REBOOTED, len(REBOOTED), 4))
     jumped, restarts = jumped + counted % 256, restarts + counted // 256
-    sys.stdout.buffer.write(row(row(0)[2])[0])
+    sys.stdout.buffer.write(written(row))
 
 
 if __name__ == "__main__":

@@ -8,7 +8,7 @@ const LABEL: &[u8] = b"probe 2, left";
 const MEDIA: u32 = 1;
 const SENDER: u32 = 9;
 const ARRIVALS: [(u16, u8); 5] = [(65534, 2), (65535, 2), (0, 3), (0, 3), (3, 1)];
-const REBOOTED: [u8; 12] = [0x75, 0x30, 2, 0, 0x75, 0x31, 2, 0, 0x75, 0x32, 3, 0]; // 30000, 30001, 30002, in records of 4 bytes
+const REBOOTED: [u8; 12] = [0x75, 0x30, 2, 0, 0x75, 0x31, 2, 0, 0x75, 0x32, 3, 0]; // 30000, 30001, 30002, in records of 4 bytes, big-endian
 
 /// The bytes that a writer writes in as much room as it asks for.
 fn written(mut write: impl FnMut(&mut [u8]) -> Written) -> Result<Vec<u8>, Refused> {
