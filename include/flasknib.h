@@ -4,8 +4,8 @@
  * Every function returns on every input. A record is lent as an array of 64-bit words in one of the layouts below; a signed number is stored as its
  * two's complement, so (int64_t)word is the number. A refusal is its number below, and a refused call changes no word and no byte of what it was
  * lent, with one exception: refusal 7 of flasknib_arrive and flasknib_sources_arrive changes the remembered number of the record. A record in
- * another number of words than its layout has is refused with 9, as malformed, and so is a table with 16. What a call only fills may be longer: it
- * fills the front, and leaves the rest as it was. A function that writes bytes says with refusal 12 how many it needs.
+ * another number of words than its layout has is refused with 9, as malformed, and so is a table with 16. What a call only fills may be longer (but
+ * for flasknib_forms_start): it fills the front, and leaves the rest as it was. A function that writes bytes says with refusal 12 how many it needs.
  *
  * Byte order. Words, arguments and answers are numbers of the machine: give the sequence number of a packet as ntohs gives it. Bytes are those of
  * the network and of the trace file, and every number in them is big-endian, the highest byte first, also in records that the caller makes: the
@@ -29,7 +29,7 @@ extern "C" {
 
 /* ---- how the names are made ------------------------------------------------------------------------------------------------------
  * .._WORDS and .._BYTES are sizes of what is lent, and MOST is the greatest of something. FLASKNIB_REFUSAL_.. are the refusals, FLASKNIB_MARK_..,
- * _PROFILE_.., _FORM_.., _KIND_.. and _REASON_.. the values of an argument or a word. Any other name of a record and a field, as
+ * _PROFILE_.., _FORM_.., _KIND_.., _REASON_.. and _PRESET_.. the values of an argument or a word. Any other name of a record and a field, as
  * FLASKNIB_SOURCE_CE, is the place of that word in the record, counted from 0, and no size: FLASKNIB_RUN_LABEL_LENGTH is 1, and
  * run[FLASKNIB_RUN_LABEL_LENGTH] is the length.
  */
