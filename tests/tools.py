@@ -11,6 +11,7 @@ import pty
 import random
 import re
 import resource
+import shlex
 import shutil
 import signal
 import stat
@@ -23,12 +24,18 @@ import xml.etree.ElementTree as xml
 
 TOP = pathlib.Path(__file__).resolve().parent.parent
 sys.path.insert(0, str(TOP / "tools"))
-from ecnlib import plot  # noqa: E402
+from ecnlib import bars  # noqa: E402
 from ecnlib.blocks import FORMS, Record, Script, header, records_in  # noqa: E402
+from ecnlib.common import Ended  # noqa: E402
 
 ECN, BIN, SAMPLES = TOP / "tools/ecn", TOP / "target/bin", TOP / "samples"
-ARCHIVE, SHARED = TOP / "target/staticlib/libcapi.a", TOP / "target/tests/libflasknib.so"
+BUILT = tempfile.TemporaryDirectory()
+ARCHIVE, SHARED = TOP / "target/staticlib/libcapi.a", pathlib.Path(BUILT.name) / "libflasknib.so"
+ENDINGS = (signal.SIGTERM, signal.SIGHUP, signal.SIGINT, signal.SIGQUIT)
 STREAMS = (BIN / "ecnstreams").exists()
+# Python's own settings are left out, and what it compiles goes to a folder of ours: the repository may not be ours to write to.
+OURS = {name: value for name, value in os.environ.items() if not name.startswith("PYTHON")} | {"FLASKNIB_LIBRARY": "", "PYTHONPYCACHEPREFIX": BUILT.name}
+SVG = "{http://www.w3.org/2000/svg}"
 HEAD = "label,ssrc,highest,ect0,ect1,ce,notect,lost,dup,jumped,restarts\r\n"
 
 
@@ -36,7 +43,6 @@ def built_library() -> bool:
     """Whether the shared library is there, made from the archive that was proved."""
     if not ARCHIVE.exists() or not shutil.which("cc"):
         return False
-    SHARED.parent.mkdir(exist_ok=True)
     words = ["-Wl,--whole-archive", ARCHIVE, "-Wl,--no-whole-archive", "-Wl,-z,defs"]
     return subprocess.run(["cc", "-shared", "-o", SHARED, *words]).returncode == 0
 
@@ -59,9 +65,10 @@ class Tried(unittest.TestCase):
 
     def ecn(self, *words, status=0, library=False, script=ECN, **kept) -> subprocess.CompletedProcess:
         """A call that must end with this status, with no package but the standard library, and with no traceback whatever happens."""
-        environment = dict(os.environ, FLASKNIB_LIBRARY=str(SHARED) if library else "") | kept.pop("env", {})
-        ran = subprocess.run([sys.executable, "-S", script, *words], env=environment, capture_output=True, text=True, timeout=30, **kept)
-        self.assertEqual((ran.returncode, "Traceback" in ran.stderr), (status, False), ran.stderr)
+        environment = OURS | ({"FLASKNIB_LIBRARY": str(SHARED)} if library else {}) | kept.pop("env", {})
+        streams = {"stdout": subprocess.PIPE, "stderr": subprocess.PIPE} | kept
+        ran = subprocess.run([sys.executable, "-S", script, *words], env=environment, text=True, timeout=30, **streams)
+        self.assertEqual((ran.returncode, "Traceback" in (ran.stderr or "")), (status, False), ran.stderr)
         return ran
 
     def alone(self, *names):
@@ -79,6 +86,25 @@ class Tried(unittest.TestCase):
         path = self.folder / name
         path.write_bytes(b"".join(blocks))
         return path
+
+    def begun(self, *words, signals=signal.SIG_DFL, **kept) -> subprocess.Popen:
+        """A call that goes on, with the signals that end it set in this way, whatever this process itself was started with."""
+        set_signals = lambda: [signal.signal(each, signals) for each in ENDINGS]  # noqa: E731
+        child = subprocess.Popen([sys.executable, "-S", ECN, *words], env=OURS, preexec_fn=set_signals, start_new_session=True, **kept)
+        self.addCleanup(child.wait)
+        self.addCleanup(child.kill)
+        return child
+
+    def until(self, true) -> None:
+        end = time.monotonic() + 10
+        while not true():
+            self.assertLess(time.monotonic(), end)
+            time.sleep(0.01)
+
+
+def printed(name: str) -> str:
+    """The table of a sample, as Python reads it from a pipe."""
+    return (SAMPLES / f"{name}.csv").read_text()
 
 
 def label(text=b"x", ssrc=7, form=1):
@@ -132,7 +158,7 @@ class Table(Tried):
     def test_program_that_ends_early(self):
         for text, words in (("kill -9 $$", "ended by signal 9"), ("exit 3", "ended with status 3")):
             self.assertIn(words, self.ecn("table", SAMPLES / "c1.trace", "-o", self.out, "--bin", self.program(text), status=2).stderr)
-        half = self.program(f"cat >/dev/null; head -n 3 {SAMPLES / 'reboot.csv'}")
+        half = self.program(f"cat >/dev/null; head -n 3 {shlex.quote(str(SAMPLES / 'reboot.csv'))}")
         self.assertIn("2 rows for 3584 bytes", self.ecn("table", SAMPLES / "reboot.trace", "-o", self.out, "--bin", half, status=2).stderr)
         self.alone()
 
@@ -155,11 +181,15 @@ class Table(Tried):
         shutil.copy(SAMPLES / "c1.trace", self.folder)
         ran = self.ecn("table", SAMPLES / "c1.trace", self.folder / "c1.trace", "-o", self.folder / "t", status=2)
         self.assertIn("would both have the table", ran.stderr)
+        self.alone("c1.trace")
+        (self.folder / "long.csv").symlink_to("c1.csv")
+        ran = self.ecn("table", SAMPLES / "c1.trace", SAMPLES / "long.trace", "-o", self.folder, status=2)
+        self.assertIn("would both have the table", ran.stderr)
 
-    def test_the_trace_is_never_replaced(self):
-        path = self.trace(label(), arrivals())
-        self.assertIn("input and as output", self.ecn("table", path, "-o", path, status=2).stderr)
-        self.assertEqual(path.stat().st_size, 1024)
+    def test_jobs(self):
+        for jobs in ("0", "-3"):
+            self.assertIn(f"'{jobs}' is no whole number from 1 on", self.ecn("table", SAMPLES / "c1.trace", "-o", self.out, "-j", jobs, status=2).stderr)
+        self.alone()
 
     def test_link_and_rights(self):
         (self.folder / "link").symlink_to("out.csv")
@@ -172,21 +202,10 @@ class Table(Tried):
             self.ecn("table", "/dev/stdin", "-o", self.out, stdin=cat.stdout)
         self.assertEqual(self.out.read_bytes(), (SAMPLES / "long.csv").read_bytes())
 
-    def test_ended_from_outside(self):
-        words = ["table", SAMPLES / "c1.trace", "-o", self.out, "--bin", self.program("exec sleep 20")]
-        for ending in (signal.SIGTERM, signal.SIGINT):
-            child = subprocess.Popen([sys.executable, ECN, *words], start_new_session=True)
-            until = time.monotonic() + 10
-            while not os.listdir(self.folder) and time.monotonic() < until:
-                time.sleep(0.02)
-            child.send_signal(ending)
-            self.assertEqual(child.wait(10), 128 + ending)
-            self.alone()
-
     def test_progress_on_a_terminal_alone(self):
-        slow = self.program(f"sleep 1.3; exec {BIN / 'ecntable'}")
+        slow = self.program(f"sleep 1.3; exec {shlex.quote(str(BIN / 'ecntable'))}")
         controller, terminal = pty.openpty()
-        child = subprocess.Popen([ECN, "table", SAMPLES / "long.trace", "-o", self.out, "--bin", slow], stderr=terminal)
+        child = subprocess.Popen([ECN, "table", SAMPLES / "long.trace", "-o", self.out, "--bin", slow], stderr=terminal, env=OURS)
         self.assertEqual(child.wait(20), 0)
         os.close(terminal)
         shown = b""
@@ -217,7 +236,220 @@ class Table(Tried):
         for command in ([], ["table"], ["look"], ["make"], ["plot"]):
             self.assertIn("xit status", self.ecn(*command, "--help").stdout)
         self.ecn("table", SAMPLES / "c1.trace", status=2)
-        self.assertEqual(subprocess.run([ECN, "--help"], capture_output=True).returncode, 0)
+        self.assertEqual(subprocess.run([ECN, "--help"], env=OURS, stdout=subprocess.DEVNULL).returncode, 0)
+
+
+class Files(Tried):
+    """What a file's name may be, in every command."""
+
+    def into(self, out: str, mode="wb", words=("table", SAMPLES / "c1.trace"), **kept) -> bytes:
+        """What a file holds that a script writes to before and behind a call."""
+        path = self.folder / "written"
+        with open(path, mode, buffering=0) as file:
+            file.write(b"A")
+            self.ecn(*words, "-o", out, stdout=file, **kept)
+            file.write(b"B")
+        data = path.read_bytes()
+        path.unlink()
+        return data
+
+    def test_standard_output_is_never_replaced(self):
+        wanted, link = b"A" + (SAMPLES / "c1.csv").read_bytes() + b"B", self.folder / "link"
+        link.symlink_to("/dev/stdout")
+        for out, mode in (("-", "wb"), ("-", "ab"), ("/dev/stdout", "wb"), ("/dev/stdout", "ab"), ("/proc/self/fd/1", "wb"), (link, "ab")):
+            self.assertEqual(self.into(out, mode), wanted)
+        with open(self.folder / "other", "wb") as other:
+            self.assertEqual(self.into(f"/dev/fd/{other.fileno()}", pass_fds=[other.fileno()]), b"AB")
+        self.assertEqual((self.folder / "other").read_bytes(), wanted[1:-1])
+        self.alone("link", "other")
+
+    def test_standard_output_of_make_and_plot(self):
+        self.out.write_text("time,number,mark\n0,1,2\n")
+        made = self.into("-", words=("make", self.out, "--ssrc", "7"))
+        self.assertEqual(made, b"A" + label(b"") + Script().arrivals(FORMS[1], [Record(0, 1, 2)], 7) + b"B")
+        self.assertRegex(self.into("/dev/stdout", words=("plot", SAMPLES / "c1.csv")), b"(?s)^A<svg .*</svg>\nB$")
+
+    def test_pipes(self):
+        for out in ("-", "/dev/stdout"):
+            self.assertEqual(self.ecn("table", SAMPLES / "c1.trace", "-o", out).stdout, printed("c1"))
+        self.assertEqual(self.ecn("table", SAMPLES / "c1.trace", "-o", "/dev/stderr").stderr, printed("c1"))
+        fifo = self.folder / "fifo"
+        os.mkfifo(fifo)
+        for name, status, wanted in (("c1", 0, printed("c1")), ("damaged", 1, "")):
+            with subprocess.Popen(["cat", fifo], stdout=subprocess.PIPE, text=True) as cat:
+                self.ecn("table", SAMPLES / f"{name}.trace", "-o", fifo, status=status)
+                self.assertEqual(cat.communicate(timeout=10)[0], wanted)
+        self.assertTrue(fifo.is_fifo())
+        self.alone("fifo")
+
+    def test_a_pipe_that_does_not_block(self):
+        table, words = HEAD + "x,7,12,1,1,0,1,0,0,0,0\r\n" * 4000, ("table", SAMPLES / "c1.trace", "-o", "-", "--bin")
+        self.out.write_bytes(table.encode())
+        program = self.program(f"cat >/dev/null; cat {shlex.quote(str(self.out))}", "ecnstreams")
+        reader, writer = os.pipe()
+        os.set_blocking(writer, False)
+        with open(reader, "rb") as pipe:
+            child = self.begun(*words, program, "--streams", stdout=writer)
+            os.close(writer)
+            time.sleep(0.3)
+            self.assertEqual(pipe.read().decode(), table)
+        self.assertEqual(child.wait(10), 0)
+
+    def test_input_from_a_pipe_that_does_not_block(self):
+        reader, writer = os.pipe()
+        os.set_blocking(reader, False)
+        child = self.begun("plot", "-", "-o", self.folder / "out.svg", stdin=reader)
+        os.close(reader)
+        time.sleep(0.3)
+        with open(writer, "wb") as pipe:
+            pipe.write((SAMPLES / "c1.csv").read_bytes())
+        self.assertEqual(child.wait(10), 0)
+
+    def test_standard_input(self):
+        """Through all commands, and from the place where a file stands."""
+        text = "time,number,mark\n0,65534,2\n20,65535,2\n40,0,3\n41,0,3\n100,3,1\n"
+        with open(self.folder / "made.trace", "w+b", buffering=0) as file:
+            file.write(b"before")
+            self.ecn("make", "-", "-o", "-", "--ssrc", "1", input=text, stdout=file)
+            file.seek(6)
+            self.assertEqual(file.read()[512:], (SAMPLES / "c1.trace").read_bytes()[512:])
+            file.seek(6)
+            table = self.ecn("table", "-", "-o", "-", stdin=file).stdout
+        self.assertEqual(table, HEAD.replace("\r", "") + ",1,65539,2,1,2,0,2,1,0,0\n")
+        self.assertTrue(self.ecn("plot", "-", "-o", "-", input=table).stdout.startswith("<svg "))
+        self.assertEqual(os.listdir(self.folder), ["made.trace"])
+
+    def test_a_file_of_that_name(self):
+        shutil.copy(SAMPLES / "c1.trace", self.folder / "-")
+        with open(SAMPLES / "long.trace", "rb") as trace:
+            self.assertEqual(self.ecn("table", "-", "-o", "-", cwd=self.folder, stdin=trace).stdout, printed("long"))
+        self.assertEqual(self.ecn("table", "./-", "-o", "-", cwd=self.folder).stdout, printed("c1"))
+        self.alone("-")
+
+    def test_what_cannot_be(self):
+        c1, weeks = SAMPLES / "c1.trace", SAMPLES / "weeks.trace"
+        for words, told in (
+            (["table", c1, weeks, "-o", "-"], "several traces need a folder for their tables, and standard output is none"),
+            (["table", c1, weeks, "-o", "/dev/stdout"], "and /dev/stdout is none"),
+            (["table", "-", "-", "-o", self.folder], "standard input has no name for a table in a folder"),
+            (["table", c1, "-o", ""], "a file's name is empty"),
+            (["table", c1, "-o", "/dev/fd/99"], "/dev/fd/99: Bad file descriptor"),
+            (["table", c1, "-o", "/dev/fd/4"], "/dev/fd/4: Bad file descriptor"),
+            (["table", c1, "-o", f"/proc/{os.getpid()}/fd/1"], "is an open file of another process"),
+            (["look", "-"], "look reads a trace more than once, and standard input can be read only once: give the trace's file"),
+            (["plot", SAMPLES / "c1.csv", "-o", f"{self.folder}/"], "Is a directory"),
+        ):
+            self.assertIn(told, self.ecn(*words, status=2, stdin=subprocess.DEVNULL).stderr)
+        self.alone()
+
+    def test_an_input_is_never_an_output(self):
+        """By whatever name: a link, a hard link, standard input or output, or the table of another trace."""
+        path = self.trace(label(), arrivals(), name="a.csv")
+        os.link(path, self.folder / "hard")
+        (self.folder / "soft").symlink_to(path)
+        shutil.copy(SAMPLES / "c1.trace", self.folder / "a.trace")
+        for words in (["a.csv", "-o", "hard"], ["hard", "-o", "soft"], ["a.trace", "a.csv", "-o", "."], ["-", "-o", "a.csv"], ["a.csv", "-o", "-"]):
+            with open(path, "rb") as file, open(path, "ab") as end:
+                ran = self.ecn("table", *words, status=2, cwd=self.folder, stdin=file, stdout=end)
+            self.assertIn("is given as input and as output", ran.stderr)
+        self.assertEqual(path.read_bytes(), label() + arrivals())
+        self.assertTrue(path.samefile(self.folder / "hard"))
+
+    def test_closed_streams(self):
+        for stream, words, told in (
+            (1, ["table", SAMPLES / "c1.trace", "-o", "-"], "standard output: Bad file descriptor"),
+            (1, ["look", SAMPLES / "c1.trace"], "standard output: Bad file descriptor"),
+            (0, ["table", "-", "-o", self.out], "standard input: Bad file descriptor"),
+            (0, ["plot", "-", "-o", self.out], "standard input: Bad file descriptor"),
+        ):
+            self.assertEqual(self.ecn(*words, status=2, preexec_fn=lambda: os.close(stream)).stderr, f"ecn: {told}\n")
+        self.assertEqual(self.ecn("table", SAMPLES / "damaged.trace", "-o", "-", status=1, preexec_fn=lambda: os.close(2)).stdout, "")
+        self.alone()
+
+    def test_no_room_for_what_is_printed(self):
+        with open("/dev/full", "w") as full:
+            for words in (["look", SAMPLES / "c1.trace"], ["--help"], ["table", "--help"], ["plot", SAMPLES / "c1.csv", "-o", "-"]):
+                self.assertEqual(self.ecn(*words, status=2, stdout=full).stderr, "ecn: standard output: No space left on device\n")
+            self.ecn("table", SAMPLES / "damaged.trace", "-o", self.out, status=1, stderr=full)
+
+    def test_rights_of_a_file_that_is_replaced(self):
+        self.out.write_text("as it was")
+        for mode in (0o600, 0o664):
+            self.out.chmod(mode)
+            self.ecn("table", SAMPLES / "c1.trace", "-o", self.out)
+            self.assertEqual(stat.S_IMODE(self.out.stat().st_mode), mode)
+        self.out.write_text("as it was")
+        self.out.chmod(0o444)
+        if os.geteuid() != 0:
+            self.assertIn("Permission denied", self.ecn("table", SAMPLES / "c1.trace", "-o", self.out, status=2).stderr)
+            self.assertEqual(self.out.read_text(), "as it was")
+
+    def test_a_long_name(self):
+        name = "\u8a9e" * 80 + ".csv"
+        self.ecn("table", SAMPLES / "c1.trace", "-o", self.folder / name)
+        self.alone(name)
+
+
+class Endings(Tried):
+    """Signals leave no part of a file and no process, and those that were ignored stay ignored."""
+
+    def ends(self, ending: int, *words) -> None:
+        """The call's program tells its process, and then waits."""
+        told = self.folder / "process"
+        program = self.program(f"echo $$ >{shlex.quote(str(told))}.part; mv {shlex.quote(str(told))}.part {shlex.quote(str(told))}; exec sleep 20")
+        child = self.begun(*words, "--bin", program)
+        self.until(told.exists)
+        child.send_signal(ending)
+        self.assertEqual(child.wait(10), -ending)
+        self.assertRaises(ProcessLookupError, os.kill, int(told.read_text()), 0)
+        told.unlink()
+
+    def test_each_command_with_a_program(self):
+        (self.folder / "in.csv").write_text("time,number,mark\n0,1,2\n")
+        trace, place = self.trace(label(), arrivals()), self.folder / "place"
+        place.mkdir()
+        for words in (["table", trace, "-o", place / "out"], ["look", trace], ["make", self.folder / "in.csv", "--ssrc", "7", "-o", place / "out"]):
+            self.ends(signal.SIGTERM, *words)
+        for ending in (signal.SIGINT, signal.SIGHUP):
+            self.ends(ending, "table", trace, "-o", place / "out")
+        self.assertEqual(os.listdir(place), [])
+
+    def test_at_the_moment_when_the_program_begins(self):
+        """It is the program that sends the signal."""
+        told = self.folder / "process"
+        program = self.program(f"echo $$ >{shlex.quote(str(told))}; kill -TERM $PPID; exec sleep 20")
+        for _ in range(3):
+            child = self.begun("table", SAMPLES / "c1.trace", "-o", self.out, "--bin", program)
+            self.assertEqual(child.wait(10), -signal.SIGTERM)
+            self.assertRaises(ProcessLookupError, os.kill, int(told.read_text()), 0)
+            told.unlink()
+            self.alone()
+
+    def test_while_it_waits_for_others(self):
+        """For a writer or a reader of a pipe, before any program is run."""
+        fifo = self.folder / "fifo"
+        os.mkfifo(fifo)
+        for words in (["table", fifo, "-o", self.out], ["plot", fifo, "-o", self.out], ["plot", SAMPLES / "c1.csv", "-o", fifo], ["plot", "-", "-o", self.out]):
+            child = self.begun(*words, stdin=subprocess.PIPE)
+            time.sleep(0.2)
+            child.send_signal(signal.SIGTERM)
+            self.assertEqual(child.wait(10), -signal.SIGTERM)
+            child.stdin.close()
+        self.alone("fifo")
+
+    def test_ignored_signals_stay_ignored(self):
+        gate = self.folder / "gate"
+        os.mkfifo(gate)
+        program = self.program(f"read line <{shlex.quote(str(gate))}; exec {shlex.quote(str(BIN / 'ecntable'))}")
+        child = self.begun("table", SAMPLES / "c1.trace", "-o", self.out, "--bin", program, signals=signal.SIG_IGN)
+        with open(gate, "w") as line:
+            for ending in ENDINGS:
+                child.send_signal(ending)
+            time.sleep(0.1)
+            self.assertIsNone(child.poll())
+            line.write("go on\n")
+        self.assertEqual(child.wait(10), 0)
+        self.assertEqual(self.out.read_bytes(), (SAMPLES / "c1.csv").read_bytes())
 
 
 class Look(Tried):
@@ -259,7 +491,10 @@ class Look(Tried):
         self.assertRegex(lines[0], "REFUSED with 13")
         self.assertRegex(lines[1], "sound by itself; its place is not judged: 3 arrivals")
         self.assertRegex(lines[2], "REFUSED with 13")
-        self.assertRegex(self.shown(path, "--brief", status=1)[1], "not judged: ecntable ended before it")
+        self.assertIn("3 blocks, 2 refused, 1 not judged at their place (ecntable refuses block 0, and goes no further); judged", lines[3])
+        lines = self.shown(path, "--brief", status=1)
+        self.assertRegex(lines[1], "not judged: ecntable refuses block 0, and goes no further, and the library is not there")
+        self.assertIn("3 blocks, 1 refused, 2 not judged (ecntable refuses block 0", lines[3])
 
     @needs_library
     def test_library_alone(self):
@@ -268,17 +503,48 @@ class Look(Tried):
         words = dict(script=self.folder / "tools/ecn", library=True, env={"PATH": ""})
         lines = self.shown(SAMPLES / "damaged.trace", "--brief", status=1, **words)
         self.assertEqual([at for at, line in enumerate(lines) if "REFUSED" in line], [5, 9])
-        self.assertIn("judged by libflasknib.so", lines[-1])
+        self.assertIn("10 blocks, 2 refused, 8 not judged at their place (the program ecntable is not there); judged by libflasknib.so", lines[-1])
+
+    @needs_library
+    def test_library_in_a_folder_with_brackets(self):
+        place = self.folder / "a [1]"
+        shutil.copytree(TOP / "tools", place)
+        shutil.copy(SHARED, place)
+        environment = {name: value for name, value in OURS.items() if name != "FLASKNIB_LIBRARY"}
+        words = [sys.executable, "-S", place / "ecn", "look", SAMPLES / "c1.trace", "--bin", BIN]
+        ran = subprocess.run(words, env=environment, stdout=subprocess.PIPE, text=True)
+        self.assertIn("judged by ecntable and libflasknib.so", ran.stdout)
 
     def test_many_refused(self):
         path = self.trace(label(), *(arrivals(ssrc=8 + n % 2 * -1) for n in range(60)))
         lines = self.both(path, "--brief", status=1)
         self.assertEqual(sum("REFUSED with 14" in line for line in lines), 30)
+        self.assertIn("61 blocks, 30 refused; judged by ecntable", lines[-1])
+
+    def test_more_refused_than_the_program_is_run(self):
+        """The refused and those not judged are counted apart, and the limit is said."""
+        limit = "ecntable was run 100 times, the limit, and refused a block each time"
+        path = self.trace(label(), *(arrivals(ssrc=8) for _ in range(102)), arrivals(), arrivals()[:-1] + b"\0")
+        lines = self.shown(path, "--brief", status=1)
+        self.assertIn(f"105 blocks, 100 refused, 4 not judged ({limit}); judged by ecntable", lines[-1])
+        self.assertIn(f"block 103: not judged: {limit}, and the library is not there", lines[103])
+        if LIBRARY:
+            last = self.shown(path, "--brief", status=1, library=True)[-1]
+            self.assertIn(f"105 blocks, 101 refused, 3 not judged at their place ({limit}); judged by ecntable and libflasknib.so", last)
+
+    def test_blocks_that_are_not_there(self):
+        path = self.trace(label(), arrivals(), arrivals(first=13)[:300])
+        for asked, told in (("3", "has no block 3: it has 3 blocks"), ("99-100", "has no block 99"), ("5-3", "5-3 ends before it begins"), ("x", "'x' is neither")):
+            ran = self.ecn("look", path, "--block", asked, status=2)
+            self.assertIn(told, ran.stderr)
+            self.assertEqual(ran.stdout, "")
+        self.assertEqual(len(self.shown(path, "--brief", "--block", "1-99", status=1)), 3)
 
     def test_failures(self):
         self.assertIn("REFUSED with 1", self.both(os.devnull, status=1)[0])
-        self.assertIn("Is a directory", self.ecn("look", self.folder, status=2).stderr)
-        self.assertIn("No such file", self.ecn("look", self.folder / "missing", status=2).stderr)
+        self.assertIn(f"{self.folder}: Is a directory", self.ecn("look", self.folder, status=2).stderr)
+        self.assertIn("missing: No such file", self.ecn("look", self.folder / "missing", status=2).stderr)
+        self.assertIn("/dev/stdin: look reads a trace more than once", self.ecn("look", "/dev/stdin", input="", status=2).stderr)
         self.assertIn("cannot be used", self.ecn("look", SAMPLES / "c1.trace", status=2, env={"FLASKNIB_LIBRARY": "/dev/null"}).stderr)
 
 
@@ -288,7 +554,7 @@ class Make(Tried):
         self.csv, self.made = self.folder / "in.csv", self.folder / "out.trace"
 
     def make(self, text: str, *words, **kept) -> subprocess.CompletedProcess:
-        self.csv.write_text(text)
+        self.csv.write_text(text, encoding="utf-8", errors="surrogateescape")
         return self.ecn("make", self.csv, "-o", self.made, *words, **kept)
 
     def writers(self):
@@ -300,8 +566,9 @@ class Make(Tried):
             second = subprocess.run([BIN / "ecnforms"], stdin=trace, capture_output=True).stdout
         for library in self.writers():
             ran = self.make(text, "--label", "probe 2, left", "--ssrc", "1", library=library)
-            self.assertRegex(ran.stdout, "2 blocks, 5 records, 1 source; written by " + ("the proved" if library else "this script"))
-            self.assertIn("taken by ecntable", ran.stdout)
+            self.assertRegex(ran.stderr, "2 blocks, 5 records, 1 source; written by " + ("the proved" if library else "this script"))
+            self.assertRegex(ran.stderr, "taken by ecntable\n$")
+            self.assertEqual(ran.stdout, "")
             self.assertEqual(self.made.read_bytes(), (SAMPLES / "c1.trace").read_bytes())
             self.make(text, "--label", "probe 2, left", "--ssrc", "0x1", "--form", "2", library=library)
             self.assertEqual(self.made.read_bytes(), second)
@@ -325,13 +592,21 @@ class Make(Tried):
     def test_several_sources(self):
         rows = [(20 * n, n // 3, n % 4, (5, 4000000000, 17)[n % 3]) for n in range(400)]
         ran = self.make("time,number,mark,ssrc\n" + "".join("%d,%d,%d,%d\n" % row for row in rows))
-        self.assertIn("3 sources", ran.stdout)
-        self.assertIn("taken by ecnstreams" if STREAMS else "taken by ecntable for each source", ran.stdout)
+        self.assertIn("3 sources", ran.stderr)
+        self.assertIn("taken by ecnstreams" if STREAMS else "taken by ecntable for each source", ran.stderr)
         data = self.made.read_bytes()
         blocks = [data[at : at + 512] for at in range(512, len(data), 512)]
         for ssrc in (5, 17, 4000000000):
             found = [tuple(record) for block in blocks if header(block).ssrc == ssrc for record in records_in(block, FORMS[1])]
             self.assertEqual(found, [row[:3] for row in rows if row[3] == ssrc])
+
+    def test_files_of_other_programs(self):
+        """A byte order mark, each line break, and columns without a name."""
+        made = set()
+        for text in ("time,number,mark\n0,1,2\n", "\ufefftime,number,mark\r\n0,1,2\r\n", "time,number,mark\r0,1,2\r", "time,number,mark,,\n0,1,2,,\n"):
+            self.make(text, "--ssrc", "1")
+            made.add(self.made.read_bytes())
+        self.assertEqual(len(made), 1)
 
     def test_outside_the_rules(self):
         head = "time,number,mark\n"
@@ -343,6 +618,11 @@ class Make(Tried):
             (head + "0,1\n", ["--ssrc", "1"], "mark ''"),
             ("time,number\n", ["--ssrc", "1"], "no column mark"),
             ("", ["--ssrc", "1"], "no column time and no column number"),
+            ("time;number;mark\n", ["--ssrc", "1"], "no column mark; commas separate the columns"),
+            ("SSRC,ssrc,Time," + head + "1,2,0,0,1,2\n", [], "line 1: more than one column time and more than one column ssrc"),
+            (head + "0,5,1,2\n", ["--ssrc", "1"], "line 2: 1 more than the 3 fields of the head line"),
+            ('time,number,mark,note\n0,1,2,"a\n1,2,2,b\n', ["--ssrc", "1"], "line 3: unexpected end of data"),
+            (head + "0,1,2\n\udcff\n", ["--ssrc", "1"], "in.csv: this is no text in UTF-8"),
             (head, [], "give the source once"),
             ("ssrc," + head + "1,0,1,2\n", ["--ssrc", "1"], "give the source once"),
             ("ssrc," + head, [], "there are no arrivals"),
@@ -357,21 +637,33 @@ class Make(Tried):
         self.assertIn("missing: No such file", self.ecn("make", self.folder / "missing", "-o", self.made, "--ssrc", "1", status=2).stderr)
         self.csv.write_text("time,number,mark\n0,1,2\n")
         self.assertIn("No space left", self.ecn("make", self.csv, "-o", "/dev/full", "--ssrc", "1", status=2).stderr)
+        self.assertIn("ecn: /proc/self/mem: ", self.ecn("make", "/proc/self/mem", "-o", self.made, "--ssrc", "1", status=2).stderr)
+        limit = lambda: resource.setrlimit(resource.RLIMIT_FSIZE, (600, 600))  # noqa: E731
+        self.assertIn("out.trace: File too large", self.ecn("make", self.csv, "-o", self.made, "--ssrc", "1", status=2, preexec_fn=limit).stderr)
+        self.alone("in.csv")
         wrong = self.program("cat >/dev/null; printf 'refused 14 block 1\\r\\n'")
         self.assertIn("block 1 is refused with 14", self.ecn("make", self.csv, "-o", self.made, "--ssrc", "1", "--bin", wrong, status=1).stderr)
         self.alone("in.csv")
 
 
 class Plot(Tried):
-    def drawn(self, table, status=0) -> tuple:
+    def drawn(self, table, status=0, **kept) -> tuple:
         """The picture's texts, and the numbers that the pointer shows on each bar."""
         out = self.folder / "out.svg"
-        ran = self.ecn("plot", table, "-o", out, status=status)
-        picture = xml.fromstring(out.read_text())
-        name = "{http://www.w3.org/2000/svg}"
-        tips = [tip.text for box in picture.iter(f"{name}rect") for tip in box.iter(f"{name}title")]
+        ran = self.ecn("plot", table, "-o", out, status=status, **kept)
+        self.picture = xml.fromstring(out.read_text())
+        tips = [tip.text for box in self.picture.iter(f"{SVG}rect") for tip in box.iter(f"{SVG}title")]
         bars = [dict(zip(re.findall(r"([a-z]+[01]?) -?\d+(?:,|$)", tip), map(int, re.findall(r" (-?\d+)(?:,|$)", tip)))) for tip in tips]
-        return [text.text for text in picture.iter(f"{name}text")], bars, ran.stderr
+        return [text.text for text in self.picture.iter(f"{SVG}text")], bars, ran.stderr
+
+    def heights(self, colour: str) -> list:
+        """Those of the bars of a colour; the first of it is in the legend."""
+        return [float(box.get("height")) for box in self.picture.iter(f"{SVG}rect") if box.get("fill") == colour][1:]
+
+    def table(self, *rows) -> pathlib.Path:
+        """A table of these counts, in the order of the columns."""
+        self.out.write_bytes((HEAD + "".join(f"x,7,9,{','.join(map(str, row))}\r\n" for row in rows)).encode())
+        return self.out
 
     def test_differences(self):
         texts, bars, _ = self.drawn(SAMPLES / "reboot.csv")
@@ -390,16 +682,58 @@ class Plot(Tried):
 
     def test_hostile_labels(self):
         for text in ('</svg><a "b" & c', "refused 13 block 1", "a\r\nrefused 13 block 1\r\nb", "x" * 502, ""):
-            self.ecn("table", self.trace(label(text.encode()), arrivals()), "-o", self.out)
+            with open(self.out, "wb") as table:
+                subprocess.run([BIN / "ecntable"], input=label(text.encode()) + arrivals(), stdout=table)
             texts, bars, _ = self.drawn(self.out)
-            self.assertTrue(texts[0].startswith(text.replace("\r\n", " ")[:80]))
+            self.assertTrue(texts[0].startswith(text.replace("\r\n", " ")[:60]))
             self.assertEqual(len(bars), 1)
 
     def test_many_blocks(self):
         self.ecn("table", self.trace(label(), *(arrivals(first=3 * n) for n in range(1000))), "-o", self.out)
         texts, bars, _ = self.drawn(self.out)
-        self.assertIn("block of the trace (5 to a bar)", texts)
+        self.assertLess({"block of the trace (a bar is the mean of 5 blocks)", "packets per block", "lost per block", "1,000"}, set(texts))
         self.assertEqual((len(bars), sum(bar["ect0"] for bar in bars), sum(bar["notect"] for bar in bars)), (200, 1000, 1000))
+
+    def test_bars_are_means(self):
+        """The last bar, of 3 blocks, is as high as those of 5 where each block brought the same; so is what it says."""
+        texts, bars, _ = self.drawn(self.table(*((20 * n, 0, 0, 0, n, 0, 0, 0) for n in range(1, 1004))))
+        for colour, height in (("#0072b2", 230), ("#aa3377", 110)):
+            self.assertEqual(self.heights(colour), [height] * 201)
+        self.assertEqual((bars[0]["ect0"], bars[200]["ect0"], bars[200]["lost"]), (100, 60, 3))
+        self.assertLess({"20", "1.0", "0.5"}, set(texts))
+
+    def test_every_length(self):
+        """However many rows there are, and wherever a sender restarts, the bars hold what their blocks brought and no other."""
+        draw = random.Random(32)
+        for count in (1, 240, 241, 481, 1201, 2399, 2400, 2401, 24001):
+            rows, brought, now = [], [], [0] * 8
+            for _ in range(count):
+                if draw.random() < 0.01:
+                    now = [0] * 6 + [now[6], now[7] + 1]
+                more = [draw.randrange(3) for _ in range(4)] + [draw.randrange(-1, 3), 0, draw.randrange(2), 0]
+                now = [old + new for old, new in zip(now, more)]
+                brought.append(more[:5] + [more[6], now[7] - (rows[-1][7] if rows else 0)])
+                rows.append(now)
+            found = bars.Table(str(self.table(*rows))).bars()
+            size = found[0].blocks
+            self.assertTrue(len(found) <= 240 < 2.5 * len(found) or size == 1)
+            for at, bar in enumerate(found):
+                part = brought[size * at : size * (at + 1)]
+                ect0, ect1, ce, notect, lost, jumped, restarts = map(sum, zip(*part))
+                self.assertEqual((bar.blocks, tuple(bar.counts.values())), (len(part), (ce, ect1, ect0, notect, lost, jumped, restarts)))
+            self.assertEqual(sum(bar.blocks for bar in found), count)
+
+    def test_a_long_table_in_little_memory(self):
+        table = self.table(*((20 * n, 0, 0, 0, n, 0, 0, 0) for n in range(1, 60001)))
+        limit = lambda: resource.setrlimit(resource.RLIMIT_DATA, (40 << 20, 40 << 20))  # noqa: E731
+        texts, bars, _ = self.drawn(table, preexec_fn=limit)
+        self.assertIn("block of the trace (a bar is the mean of 500 blocks)", texts)
+        self.assertEqual(len(bars), 120)
+
+    def test_long_numbers_stay_in_the_picture(self):
+        texts, _, _ = self.drawn(self.table([10**11] * 8))
+        self.assertEqual(" ".join(texts[1:3]).count(str(10**11)), 8)
+        self.assertLess(max(map(len, texts)), 120)
 
     def test_sources(self):
         self.out.write_bytes((HEAD + "a,5,9,1,2,3,4,-5,6,7,0\r\na,17,9,2,3,4,5,6,7,8,1\r\n").encode())
@@ -411,9 +745,21 @@ class Plot(Tried):
         self.assertIn("No such file", self.ecn("plot", self.folder / "missing", "-o", self.out, status=2).stderr)
         self.assertIn("No space left", self.ecn("plot", SAMPLES / "c1.csv", "-o", "/dev/full", status=2).stderr)
         refused = HEAD + "refused 1 block 0\r\n"
-        for text, told in ((HEAD, "no rows"), (refused, "no rows to draw; block 0 is refused with 1"), ("a,b\n1,2\n", "row 1 is no row")):
+        row = "x,7,12,1,1,0,1,0,0,0,0\r\n"
+        for text, told in (
+            (HEAD, "no rows"),
+            (refused, "no rows to draw; block 0 is refused with 1"),
+            ("a,b\n1,2\n", "is no table: its first line does not name the columns"),
+            (HEAD + row + HEAD + row, "row 2 is no row of a table"),
+            (HEAD + row + row[:-4] + "\r\n", "row 2 is no row of a table"),
+            (HEAD + row + row[:-2], "the last line has no end, so the table is cut short"),
+            (HEAD + row + "refused 13 block 2\r\n" + row, "something stands behind the line of the refused block 2"),
+            (HEAD + row * 240 + row.replace("7", "8", 1), "more than 240 rows of several sources"),
+        ):
             self.out.write_bytes(text.encode())
-            self.assertIn(told, self.ecn("plot", self.out, "-o", self.folder / "o.svg", status=1).stderr)
+            self.assertRaisesRegex(Ended, re.escape(told), bars.Table, str(self.out))
+        self.assertIn(told, self.ecn("plot", self.out, "-o", self.folder / "o.svg", status=1).stderr)
+        self.assertIn("ecn: /proc/self/mem: ", self.ecn("plot", "/proc/self/mem", "-o", self.folder / "o.svg", status=2).stderr)
         self.alone("out.csv")
 
 
@@ -452,9 +798,9 @@ class Pages(Tried):
         with open(SAMPLES / "reboot.csv", newline="") as table:
             names: dict = {"rows": list(csv.DictReader(table)), "found": []}
         exec(code.replace("    before = row", "    before = row\n    found.append(brought | {'jumped': jumps})"), names)
-        rows, _ = plot.rows_in(SAMPLES / "reboot.csv")
-        self.assertEqual(len(names["found"]), len(rows))
-        for found, bar in zip(names["found"], plot.differences(rows)):
+        drawn = bars.Table(str(SAMPLES / "reboot.csv")).bars()
+        self.assertEqual(len(names["found"]), len(drawn))
+        for found, bar in zip(names["found"], drawn):
             self.assertEqual(found | bar.counts, found | {"restarts": bar.counts["restarts"]})
 
 

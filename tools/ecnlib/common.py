@@ -1,10 +1,11 @@
-"""What the commands share: exit statuses, messages, and a file that takes another's place only when it is whole."""
+"""What the commands share: exit statuses, messages, and the three standard streams."""
+import argparse
 import contextlib
 import os
-import shutil
 import sys
-import tempfile
-from typing import BinaryIO
+from typing import Iterator
+
+from . import endings
 
 WELL, REFUSED, FAILED = 0, 1, 2
 
@@ -25,8 +26,67 @@ class Ended(Exception):
         self.status = status
 
 
+@contextlib.contextmanager
+def named(name: str) -> Iterator[None]:
+    """What fails inside is told with this name."""
+    try:
+        yield
+    except OSError as error:
+        raise Ended(FAILED, f"{name}: {error.strerror or error}") from error
+
+
+def say(text: str) -> None:
+    """On standard error. Where that fails the exit status is left to say it."""
+    try:
+        print(text, end="", file=sys.stderr, flush=True)
+    except OSError:
+        forget(sys.stderr)
+
+
 def tell(message: str) -> None:
-    print(f"ecn: {message}", file=sys.stderr)
+    say(f"ecn: {message}\n")
+
+
+def forget(stream) -> None:
+    """What a stream still holds goes nowhere; else Python would try again at the end, and change the exit status."""
+    nowhere = os.open(os.devnull, os.O_WRONLY)
+    os.dup2(nowhere, stream.fileno())
+    os.close(nowhere)
+
+
+def fill_streams() -> None:
+    """A standard stream that is closed gets one on which each read and write fails, so that no other file takes its number and no print is lost."""
+    for number, flags in enumerate((os.O_WRONLY, os.O_RDONLY, os.O_RDONLY)):
+        try:
+            os.fstat(number)
+        except OSError:
+            os.open(os.devnull, flags)  # it takes the lowest number that is free
+    sys.stdout = sys.stdout or open(1, "w", closefd=False)
+    sys.stderr = sys.stderr or open(2, "w", closefd=False)
+
+
+@contextlib.contextmanager
+def printing() -> Iterator[None]:
+    """Around what is printed on standard output. Where the reader of a pipe has seen enough nothing is told."""
+    try:
+        with endings.waiting():
+            try:
+                yield
+            finally:
+                if not endings.came:
+                    sys.stdout.flush()
+    except OSError as error:
+        forget(sys.stdout)
+        if isinstance(error, BrokenPipeError):
+            raise
+        raise Ended(FAILED, f"standard output: {error.strerror}") from error
+
+
+def file_name(text: str) -> str:
+    """An argument that names a file."""
+    if not text:
+        raise argparse.ArgumentTypeError("a file's name is empty")
+    return text
 
 
 def many(count: int, word: str) -> str:
@@ -36,53 +96,3 @@ def many(count: int, word: str) -> str:
 def refused_words(number: int, block: int) -> str:
     words = f"block {block} is refused with {number}: {REFUSALS.get(number, 'see the table of refusals in README')}"
     return words + ("; probably this is no trace at all" if block == 0 and number != 14 else "")
-
-
-class Replacement:
-    """A new file that takes the place of `out` at `commit`, and is gone after `discard`. Until then `out` is as it was.
-
-    A device or a pipe cannot be replaced: it gets the bytes at `commit`.
-    """
-
-    def __init__(self, out: str, inputs: list):
-        self.out, self.place, self.path = out, os.path.realpath(out), None
-        if self.place in map(os.path.realpath, inputs):
-            raise Ended(FAILED, f"{out} is given as input and as output")
-        if os.path.isdir(self.place):
-            raise Ended(FAILED, f"{out}: Is a directory")
-        try:
-            self.file = self.beside() if os.path.isfile(self.place) or not os.path.exists(self.place) else tempfile.TemporaryFile()
-        except OSError as error:
-            raise Ended(FAILED, f"{out}: {error.strerror}") from error
-
-    def beside(self) -> BinaryIO:
-        """A new file in the folder of `out`, with the rights that a new file has."""
-        folder, name = os.path.split(self.place)
-        handle, self.path = tempfile.mkstemp(prefix=f".{name[:100]}.", suffix=".part", dir=folder)
-        mask = os.umask(0)
-        os.umask(mask)
-        os.chmod(self.path, 0o666 & ~mask)
-        return open(handle, "w+b")
-
-    def commit(self) -> None:
-        try:
-            self.file.flush()
-            if self.path is None:
-                self.file.seek(0)
-                with open(self.place, "wb") as device:
-                    shutil.copyfileobj(self.file, device)
-            else:
-                os.fsync(self.file.fileno())  # a full disk may be told only here
-                os.replace(self.path, self.place)
-                self.path = None
-        except OSError as error:
-            raise Ended(FAILED, f"{self.out}: {error.strerror}") from error
-        finally:
-            self.discard()
-
-    def discard(self) -> None:
-        self.file.close()
-        if self.path is not None:
-            with contextlib.suppress(FileNotFoundError):
-                os.unlink(self.path)
-            self.path = None

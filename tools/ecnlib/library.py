@@ -59,7 +59,7 @@ def library() -> Optional[Library]:
     if given is not None:
         return Library(given) if given else None
     for place in PLACES:
-        for path in sorted(glob.glob(os.path.join(BESIDE, place))):
+        for path in sorted(glob.glob(os.path.join(glob.escape(BESIDE), place))):
             return Library(path)
     found = ctypes.util.find_library("flasknib")
     return Library(found) if found else None

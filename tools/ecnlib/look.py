@@ -2,38 +2,55 @@
 
 The verdicts are the proved reader's. The library (found by $FLASKNIB_LIBRARY, beside this script, or on the system's path) judges each
 block alone. The program ecntable judges each block at its place: it ends at the first block that it refuses, so it is run again on
-the trace without that block, until it refuses none. Where one of the two is missing the other's verdicts are shown alone. A block that
-is refused is shown with its header's numbers and no records.
+the trace without that block, until it refuses none, and 100 times at most. Where one of the two is missing the other's verdicts are
+shown alone. A block that is refused is shown with its header's numbers and no records. The last line counts the blocks of the whole
+trace, also where some alone are shown.
 
-Exit status: 0 no block is refused; 1 one is; 2 a read failed, or neither the program nor the library is there.
+The trace is read more than once, so TRACE is a file and not standard input.
+
+Exit status: 0 no block is refused; 1 one is; 2 a read or a write failed, neither the program nor the library is there, or the arguments
+are wrong.
 """
 import argparse
+import enum
+import io
 import json
+import os
+import re
+from collections import Counter
 from typing import BinaryIO, Iterator, NamedTuple, Optional
 
 from . import programs
 from .blocks import BLOCK, FORMS, MARKS, check, header, label_in, records_in
-from .common import FAILED, REFUSALS, REFUSED, WELL, Ended, many
+from .common import FAILED, REFUSALS, REFUSED, WELL, Ended, file_name, many, printing
+from .files import Input
 from .library import Library, library
 
 MOST_RUNS = 100  # of the program on one trace
 
 
 def add_arguments(parser: argparse.ArgumentParser) -> None:
-    parser.add_argument("trace", metavar="TRACE")
+    parser.add_argument("trace", type=file_name, metavar="TRACE", help="the trace's file")
     parser.add_argument("--brief", action="store_true", help="one line for each block, without its label or records")
-    parser.add_argument("--block", type=asked_range, metavar="I[-J]", help="these blocks alone, counted from 0")
+    parser.add_argument("--block", type=asked_range, metavar="I[-J]", help="these blocks alone, counted from 0; I is a block of the trace")
     parser.add_argument("--streams", action="store_true", help="ask ecnstreams in place of ecntable: arrivals blocks may differ in SSRC")
 
 
 def asked_range(text: str) -> range:
-    first, _, last = text.partition("-")
-    return range(int(first), int(last or first) + 1)
+    ends = re.fullmatch(r"([0-9]+)(?:-([0-9]+))?", text)
+    if not ends:
+        raise argparse.ArgumentTypeError(f"{text!r} is neither one block, as 5, nor the first and the last of several, as 5-7")
+    first, last = int(ends[1]), int(ends[2] or ends[1])
+    if last < first:
+        raise argparse.ArgumentTypeError(f"{text} ends before it begins")
+    return range(first, last + 1)
 
 
-def blocks_from(trace: BinaryIO, first: int) -> Iterator[bytes]:
-    trace.seek(first * BLOCK)
-    return iter(lambda: trace.read(BLOCK), b"")
+def blocks_in(trace: BinaryIO) -> Iterator[bytes]:
+    """The blocks of a trace; of an empty one, one of no bytes."""
+    trace.seek(0)
+    yield trace.read(BLOCK)
+    yield from iter(lambda: trace.read(BLOCK), b"")
 
 
 def pieces_from(trace: BinaryIO, first: int) -> Iterator[bytes]:
@@ -45,27 +62,41 @@ def pieces_from(trace: BinaryIO, first: int) -> Iterator[bytes]:
 
 
 class AtPlace(NamedTuple):
-    """The refusals that a program gives, by block, and the first block that it was not asked about."""
+    """The refusals that a program gives, by block, and the first block that it was not asked about, with the reason."""
 
     refusals: dict
     end: Optional[int]
+    why: str
 
 
 def judged_at_place(path: str, trace: BinaryIO) -> AtPlace:
     refusals: dict = {}
     first = 0  # the blocks before it have their verdict; block 0 is sound if there are any
+    name = os.path.basename(path)
     for _ in range(MOST_RUNS):
-        said = programs.asked(path, pieces_from(trace, first))
-        if said.told:
-            raise Ended(FAILED, said.told)
-        if said.refusal is None:
-            return AtPlace(refusals, None)
-        block = said.refusal.block + max(0, first - 1)
-        refusals[block] = said.refusal.number
+        refusal = programs.asked(path, pieces_from(trace, first))
+        if refusal is None:
+            return AtPlace(refusals, None, "")
+        block = refusal.block + max(0, first - 1)
+        refusals[block] = refusal.number
         first = block + 1
-        if block == 0 or said.refusal.number == 1:
-            break
-    return AtPlace(refusals, None if said.refusal.number == 1 and first > 1 else first)
+        if block == 0:
+            return AtPlace(refusals, first, f"{name} refuses block 0, and goes no further")
+        if refusal.number == 1:
+            return AtPlace(refusals, None, "")
+    return AtPlace(refusals, first, f"{name} was run {MOST_RUNS} times, the limit, and refused a block each time")
+
+
+class Kind(enum.Enum):
+    SOUND = "sound"
+    ALONE = "sound by itself; its place is not judged"
+    REFUSED = "REFUSED"
+    OPEN = "not judged"
+
+
+class Verdict(NamedTuple):
+    kind: Kind
+    words: str
 
 
 class Judge:
@@ -73,28 +104,37 @@ class Judge:
 
     def __init__(self, trace: BinaryIO, streams: bool, folder: Optional[str]):
         self.alone: Optional[Library] = library()
-        self.name = "ecnstreams" if streams else "ecntable"
+        name = "ecnstreams" if streams else "ecntable"
         try:
-            path = programs.program(self.name, folder)
+            path = programs.program(name, folder)
         except Ended:
             if self.alone is None or folder:
                 raise
-            self.place, self.by = AtPlace({}, 0), self.alone.file
+            self.place, self.by = AtPlace({}, 0, f"the program {name} is not there"), self.alone.file
             return
         self.place = judged_at_place(path, trace)
-        self.by = self.name + (f" and {self.alone.file}" if self.alone else "")
+        self.by = name + (f" and {self.alone.file}" if self.alone else "")
 
-    def verdict(self, index: int, block: bytes) -> tuple:
-        """The number of a refusal, 0 for none, None where nobody has judged; and words on it."""
+    def verdict(self, index: int, block: bytes) -> Verdict:
         alone = self.alone.refusal(block) if self.alone else None
         if index in self.place.refusals:
-            number = self.place.refusals[index]
-            return number, REFUSALS.get(number, "") + ("; by itself it is sound" if alone == 0 else "")
+            return refused(self.place.refusals[index], "; by itself it is sound" if alone == 0 else "")
         if self.place.end is None or index < self.place.end:
-            return 0, ""
+            return Verdict(Kind.SOUND, Kind.SOUND.value)
         if alone is None:
-            return None, f"{self.name} ended before it, and the library is not there"
-        return alone, REFUSALS[alone] if alone else "by itself; its place is not judged"
+            return Verdict(Kind.OPEN, f"{Kind.OPEN.value}: {self.place.why}, and the library is not there")
+        return refused(alone) if alone else Verdict(Kind.ALONE, Kind.ALONE.value)
+
+    def summary(self, blocks: int, kinds: Counter) -> str:
+        """Blocks that are refused, not judged, and judged by themselves alone are counted apart."""
+        words = f"{many(blocks, 'block')}, {kinds[Kind.REFUSED]:,} refused"
+        for kind, name in ((Kind.ALONE, "not judged at their place"), (Kind.OPEN, "not judged")):
+            words += f", {kinds[kind]:,} {name} ({self.place.why})" if kinds[kind] else ""
+        return f"{words}; judged by {self.by}"
+
+
+def refused(number: int, more: str = "") -> Verdict:
+    return Verdict(Kind.REFUSED, f"{Kind.REFUSED.value} with {number}: {REFUSALS.get(number, '')}{more}")
 
 
 def shown(block: bytes, brief: bool) -> Iterator[str]:
@@ -112,30 +152,31 @@ def shown(block: bytes, brief: bool) -> Iterator[str]:
             yield f"    time {each.time} ms  number {each.number}  mark {each.mark} {MARKS[each.mark]}"
 
 
-def lines(index: int, block: bytes, number: Optional[int], words: str, brief: bool) -> Iterator[str]:
-    if number == 0:
+def lines(index: int, block: bytes, verdict: Verdict, brief: bool) -> Iterator[str]:
+    if verdict.kind in (Kind.SOUND, Kind.ALONE):
         first, *others = shown(block, brief)
-        yield f"block {index}: sound{f' {words}' if words else ''}: {first}"
+        yield f"block {index}: {verdict.words}: {first}"
         yield from others
         return
     raw = f"{len(block)} bytes" if len(block) < BLOCK else "kind {}, count {}, SSRC {}, check {:04x}".format(*header(block), check(block))
-    yield f"block {index}: {'not judged' if number is None else f'REFUSED with {number}'}: {words} ({raw})"
+    yield f"block {index}: {verdict.words} ({raw})"
 
 
 def run(options: argparse.Namespace) -> int:
-    refused = 0
-    with open(options.trace, "rb") as trace:
+    if options.trace == "-":
+        raise Ended(FAILED, "look reads a trace more than once, and standard input can be read only once: give the trace's file")
+    with io.BufferedReader(Input(options.trace), 1 << 18) as trace:
         if not trace.seekable():
-            raise Ended(FAILED, f"{options.trace}: this is no file that can be read more than once")
-        judge = Judge(trace, options.streams, options.bin)
-        count = -1
-        for count, block in enumerate(blocks_from(trace, 0)):
-            number, words = judge.verdict(count, block)
-            refused += number != 0
-            if options.block is None or count in options.block:
-                print(*lines(count, block, number, words, options.brief), sep="\n")
-        if count == -1:
-            refused = 1
-            print(f"block 0: REFUSED with 1: {REFUSALS[1]} (0 bytes)")
-    print(f"{many(count + 1, 'block')}, {refused} refused or not judged; judged by {judge.by}")
-    return REFUSED if refused else WELL
+            raise Ended(FAILED, f"{options.trace}: look reads a trace more than once, and this can be read only once: give a file")
+        count = -(-trace.seek(0, os.SEEK_END) // BLOCK)
+        if options.block and options.block[0] >= max(1, count):
+            raise Ended(FAILED, f"{options.trace} has no block {options.block[0]}: it has {many(count, 'block')}, counted from 0")
+        judge, kinds = Judge(trace, options.streams, options.bin), Counter()
+        with printing():
+            for index, block in enumerate(blocks_in(trace)):
+                verdict = judge.verdict(index, block)
+                kinds[verdict.kind] += 1
+                if options.block is None or index in options.block:
+                    print(*lines(index, block, verdict, options.brief), sep="\n")
+            print(judge.summary(count, kinds))
+    return REFUSED if kinds[Kind.REFUSED] or kinds[Kind.OPEN] else WELL

@@ -5,24 +5,27 @@ The CSV file has a head line that names its columns, in any order: time (whole m
 Other columns are passed over. Arrivals stand in the file in the order in which they came. A trace of several sources is for ecnstreams:
 each block has arrivals of one source in their order, and blocks are written as they fill.
 
+CSV `-` is standard input, and TRACE `-` standard output. That, /dev/stdout, /dev/fd/N, a device and a pipe are written to where they stand
+and never replaced: they get the trace when it is whole, and no byte before.
+
 The blocks are written by the proved library where it is found ($FLASKNIB_LIBRARY, beside this script, or the system's path), else by this
 script. The trace is put in place only when the proved program takes it: ecntable for one source; for several ecnstreams, or where that is missing
-ecntable for each of them. What was used is said.
+ecntable for each of them. What was used is said on standard error.
 
 Exit status: 0 the trace is in place; 1 the CSV file or the label is outside the trace's rules, or the program refuses the trace; 2 a read or a
-write failed, or the program is missing.
+write failed, the program is missing, or the arguments are wrong.
 """
 import argparse
 import csv
 import io
-import sys
-from typing import Iterator, NamedTuple, Optional
+from typing import BinaryIO, Iterator, NamedTuple, Optional
 
-from . import programs
+from . import files, programs
 from .blocks import BLOCK, BODY, FORMS, MARKS, Form, Record, Script, header
-from .common import FAILED, REFUSED, WELL, Ended, Replacement, many, refused_words
+from .common import REFUSED, WELL, Ended, file_name, many, refused_words, tell
 from .library import library
 
+COLUMNS = ("time", "number", "mark", "ssrc")
 MARK_NAMES = {name.lower(): mark for mark, name in enumerate(MARKS)} | {str(mark): mark for mark in range(4)}
 
 
@@ -32,8 +35,8 @@ class Arrival(NamedTuple):
 
 
 def add_arguments(parser: argparse.ArgumentParser) -> None:
-    parser.add_argument("csv", metavar="CSV", help="the arrivals; - is standard input")
-    parser.add_argument("-o", "--out", required=True, metavar="TRACE")
+    parser.add_argument("csv", type=file_name, metavar="CSV", help="the arrivals; - is standard input")
+    parser.add_argument("-o", "--out", required=True, type=file_name, metavar="TRACE", help="the trace; - is standard output")
     parser.add_argument("--label", default="", metavar="TEXT", help="the trace's label, 0 to 502 bytes of ASCII (empty)")
     parser.add_argument("--ssrc", type=number, metavar="N", help="the source, where there is no column ssrc; 0x.. is hexadecimal")
     parser.add_argument("--form", type=int, choices=FORMS, default=1, help="1: times below 2^32 ms, 49 days (the default); 2: times below 2^48 ms")
@@ -59,16 +62,33 @@ def arrival_in(row: dict, form: Form, ssrc: Optional[int], where: str) -> Arriva
     return Arrival(values.get("ssrc", ssrc), Record(values["time"], values["number"], MARK_NAMES[mark]))
 
 
-def arrivals_in(text: io.TextIOBase, name: str, form: Form, ssrc: Optional[int]) -> Iterator[Arrival]:
-    rows = csv.DictReader(text)
+def head_of(rows: csv.DictReader, name: str, ssrc: Optional[int]) -> None:
+    """Reads the head line, which has each column that is used once."""
     rows.fieldnames = [column.strip().lower() for column in rows.fieldnames or []]
-    missing = [column for column in ("time", "number", "mark") if column not in rows.fieldnames]
+    missing = [column for column in COLUMNS[:3] if column not in rows.fieldnames]
     if missing:
-        raise Ended(REFUSED, f"{name}, line 1: no column {' and no column '.join(missing)}")
+        hint = "; commas separate the columns" if len(rows.fieldnames) == 1 else ""
+        raise Ended(REFUSED, f"{name}, line 1: no column {' and no column '.join(missing)}{hint}")
+    twice = [column for column in COLUMNS if rows.fieldnames.count(column) > 1]
+    if twice:
+        raise Ended(REFUSED, f"{name}, line 1: more than one column {' and more than one column '.join(twice)}")
     if ("ssrc" in rows.fieldnames) == (ssrc is not None):
         raise Ended(REFUSED, f"{name}: give the source once, by a column ssrc or by --ssrc")
-    for row in rows:
-        yield arrival_in(row, form, ssrc, f"{name}, line {rows.line_num}")
+
+
+def arrivals_in(text: io.TextIOBase, name: str, form: Form, ssrc: Optional[int]) -> Iterator[Arrival]:
+    rows = csv.DictReader(text, strict=True)
+    try:
+        head_of(rows, name, ssrc)
+        for row in rows:
+            where = f"{name}, line {rows.line_num}"
+            if None in row:
+                raise Ended(REFUSED, f"{where}: {len(row[None])} more than the {many(len(rows.fieldnames), 'field')} of the head line")
+            yield arrival_in(row, form, ssrc, where)
+    except csv.Error as error:
+        raise Ended(REFUSED, f"{name}, line {rows.reader.line_num}: {error}") from error
+    except UnicodeDecodeError as error:
+        raise Ended(REFUSED, f"{name}: this is no text in UTF-8") from error
 
 
 def label_given(text: str) -> bytes:
@@ -85,38 +105,37 @@ class Made:
         self.form, self.label, self.writer = form, label, library() or Script()
         self.sources, self.blocks, self.records = {}, 0, 0
 
-    def write(self, arrivals: Iterator[Arrival], ssrc: Optional[int], file: io.BufferedRandom) -> None:
+    def write(self, arrivals: Iterator[Arrival], ssrc: Optional[int], out: files.Output) -> None:
         """All blocks. The label has the SSRC of the first arrival, or the one that was given."""
         for ssrc, record in arrivals:
             if not self.blocks:
-                self.put(file, self.writer.label(self.form, self.label, ssrc))
+                self.put(out, self.writer.label(self.form, self.label, ssrc))
             self.records += 1
             held = self.sources.setdefault(ssrc, [])
             held.append(record)
             if len(held) == self.form.most:
-                self.put(file, self.writer.arrivals(self.form, held, ssrc))
+                self.put(out, self.writer.arrivals(self.form, held, ssrc))
                 held.clear()
         if not self.blocks:
             if ssrc is None:
                 raise Ended(REFUSED, "there are no arrivals, so the SSRC has to be given: leave out the column ssrc and give --ssrc")
-            self.put(file, self.writer.label(self.form, self.label, ssrc))
+            self.put(out, self.writer.label(self.form, self.label, ssrc))
         for ssrc, held in self.sources.items():
             if held:
-                self.put(file, self.writer.arrivals(self.form, held, ssrc))
+                self.put(out, self.writer.arrivals(self.form, held, ssrc))
 
-    def put(self, file: io.BufferedRandom, block: bytes) -> None:
-        file.write(block)
+    def put(self, out: files.Output, block: bytes) -> None:
+        out.write(block)
         self.blocks += 1
 
-    def only(self, file: io.BufferedRandom, ssrc: int) -> Iterator[bytes]:
+    def only(self, file: BinaryIO, ssrc: int) -> Iterator[bytes]:
         """The trace of one source alone."""
         yield self.writer.label(self.form, self.label, ssrc)
         file.seek(BLOCK)
         yield from (block for block in iter(lambda: file.read(BLOCK), b"") if header(block).ssrc == ssrc)
 
-    def taken(self, file: io.BufferedRandom, folder: Optional[str]) -> str:
+    def taken(self, file: BinaryIO, folder: Optional[str]) -> str:
         """Which program takes the trace; raises where it does not."""
-        file.flush()
         several = len(self.sources) > 1
         try:
             name = "ecnstreams" if several else "ecntable"
@@ -127,10 +146,10 @@ class Made:
             name, path, sources = "ecntable for each source", programs.program("ecntable", folder), list(self.sources)
         for ssrc in sources:
             file.seek(0)
-            said = programs.asked(path, iter(lambda: file.read(1 << 18), b"") if ssrc is None else self.only(file, ssrc))
-            if said.told or said.refusal:
+            refusal = programs.asked(path, iter(lambda: file.read(1 << 18), b"") if ssrc is None else self.only(file, ssrc))
+            if refusal:
                 where = "" if ssrc is None else f" of source {ssrc}"
-                raise Ended(FAILED if said.told else REFUSED, f"the trace{where} is not sound: " + (said.told or refused_words(*said.refusal)))
+                raise Ended(REFUSED, f"the trace{where} is not sound: {refused_words(*refusal)}")
         return name
 
 
@@ -138,17 +157,12 @@ def run(options: argparse.Namespace) -> int:
     if options.ssrc is not None and not 0 <= options.ssrc < 2**32:
         raise Ended(REFUSED, f"the SSRC {options.ssrc} is not from 0 to {2**32 - 1}")
     made = Made(FORMS[options.form], label_given(options.label))
-    trace = Replacement(options.out, [options.csv])
-    try:
-        name = "standard input" if options.csv == "-" else options.csv
-        with open(sys.stdin.fileno() if options.csv == "-" else options.csv, encoding="utf-8-sig", newline="") as text:
-            made.write(arrivals_in(text, name, made.form, options.ssrc), options.ssrc, trace.file)
-        name = made.taken(trace.file, options.bin)
+    with files.Output(options.out, files.identities([options.csv])) as trace:
+        with io.TextIOWrapper(io.BufferedReader(files.Input(options.csv)), "utf-8-sig", newline="") as text:
+            made.write(arrivals_in(text, files.shown(options.csv), made.form, options.ssrc), options.ssrc, trace)
+        trace.flush()
+        program = made.taken(trace.file, options.bin)
         trace.commit()
-    except (UnicodeDecodeError, csv.Error) as error:
-        raise Ended(REFUSED, f"{name}: {error}") from error
-    finally:
-        trace.discard()
     held = f"{many(made.blocks, 'block')}, {many(made.records, 'record')}, {many(len(made.sources), 'source')}"
-    print(f"{options.out}: {held}; written by {made.writer.name}, taken by {name}")
+    tell(f"{trace.name}: {held}; written by {made.writer.name}, taken by {program}")
     return WELL

@@ -1,28 +1,25 @@
 """The proved programs: where they are, and what one says of a trace."""
+import contextlib
 import os
 import re
 import shutil
 import subprocess
+import tempfile
 import threading
 from typing import BinaryIO, Iterable, NamedTuple, Optional
 
+from . import endings
 from .common import FAILED, Ended
 
 # The line of a refused block. It is the last one of a table and stands alone, so no row can be taken for it: a row ends with numbers.
 REFUSED_LINE = re.compile(rb"refused (\d+) block (\d+)")
+TAIL = 100  # bytes, enough for that line
 BESIDE = os.path.dirname(os.path.dirname(os.path.realpath(__file__)))
 
 
 class Refusal(NamedTuple):
     number: int
     block: int
-
-
-class Said(NamedTuple):
-    """What a program said of a trace: its first refused block, if any, and its lines on standard error."""
-
-    refusal: Optional[Refusal]
-    told: str
 
 
 def program(name: str, folder: Optional[str]) -> str:
@@ -42,43 +39,60 @@ def program(name: str, folder: Optional[str]) -> str:
 
 
 def refusal_at_end(tail: bytes) -> Optional[Refusal]:
-    """The refusal that a table ends with, by the last bytes of it (100 are enough)."""
+    """The refusal that a table ends with, by its last bytes."""
     line = REFUSED_LINE.fullmatch(tail.removesuffix(b"\r\n").rpartition(b"\r\n")[2]) if tail.endswith(b"\r\n") else None
     return Refusal(int(line[1]), int(line[2])) if line else None
 
 
-def ended_words(path: str, status: int) -> str:
-    return f"{os.path.basename(path)} ended " + (f"by signal {-status}" if status < 0 else f"with status {status}")
+class Tail(threading.Thread):
+    """Reads a pipe to its end and keeps its last bytes."""
+
+    def __init__(self, pipe: BinaryIO):
+        super().__init__()
+        self.pipe, self.kept = pipe, b""
+        self.start()
+
+    def run(self) -> None:
+        with self.pipe:
+            while piece := self.pipe.read(1 << 16):
+                self.kept = (self.kept + piece)[-TAIL:]
 
 
-def feed(pipe: BinaryIO, pieces: Iterable[bytes], failures: list) -> None:
-    try:
-        with pipe:
+def feed(child: subprocess.Popen, pieces: Iterable[bytes]) -> int:
+    """The status with which a program ends that is given the pieces. At a refused block it ends before the last of them."""
+    with endings.waiting():
+        with contextlib.suppress(BrokenPipeError), child.stdin as pipe:
             for piece in pieces:
                 pipe.write(piece)
-    except BrokenPipeError:
-        pass  # the program has ended at a refused block
-    except OSError as error:
-        failures.append(error)
+        return child.wait()
 
 
-def asked(path: str, pieces: Iterable[bytes]) -> Said:
-    """What the program says of a trace that comes in pieces. Of its table only the end is kept."""
-    child = subprocess.Popen([path], stdin=subprocess.PIPE, stdout=subprocess.PIPE, stderr=subprocess.PIPE)
-    failures, tail = [], b""
-    feeder = threading.Thread(target=feed, args=(child.stdin, pieces, failures))
-    feeder.start()
-    try:
-        while piece := child.stdout.read(1 << 16):
-            tail = (tail + piece)[-100:]
-        told = child.stderr.read().decode("utf-8", "replace").strip()
-    finally:
-        child.stdout.close()
-        child.stderr.close()
-        status = child.wait()
-        feeder.join()
-    if failures:
-        raise failures[0]
-    if status != 0:
-        raise Ended(FAILED, ended_words(path, status))
-    return Said(refusal_at_end(tail), told)
+def asked(path: str, pieces: Iterable[bytes]) -> Optional[Refusal]:
+    """The first block that the program refuses of a trace that comes in pieces. Of its table only the end is kept."""
+    with tempfile.TemporaryFile() as errors:
+        child = subprocess.Popen([path], stdin=subprocess.PIPE, stdout=subprocess.PIPE, stderr=errors)
+        tail = Tail(child.stdout)
+        try:
+            status = feed(child, pieces)
+        finally:
+            stop(child)
+            tail.join()
+        fault = fault_of(path, status, errors)
+    if fault:
+        raise Ended(FAILED, fault)
+    return refusal_at_end(tail.kept)
+
+
+def stop(child: subprocess.Popen) -> None:
+    """Nothing of a program is left, whether it had ended or not."""
+    if child.poll() is None:
+        child.kill()
+        child.wait()
+
+
+def fault_of(path: str, status: int, errors: BinaryIO) -> str:
+    """What has gone wrong in a run of the program: what it told on standard error, or how it ended."""
+    errors.seek(0)
+    told = errors.read().decode("utf-8", "replace").strip()
+    ended = f"by signal {-status}" if status < 0 else f"with status {status}"
+    return told or (f"{os.path.basename(path)} ended {ended}" if status else "")
