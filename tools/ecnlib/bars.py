@@ -33,7 +33,7 @@ def step_of(span: Fraction, about: int, least: int = 1) -> Fraction:
 
 
 class Blocks:
-    """What the blocks of a trace brought, from rows that are totals so far. Ten parts become one where there are ten times more than bars."""
+    """What the blocks of a trace brought, from rows that are totals so far. Ten parts become one when there are ten times as many as bars."""
 
     def __init__(self):
         self.parts, self.each, self.rows = [], 1, 0
@@ -88,26 +88,26 @@ class Table:
     def __init__(self, path: str):
         self.name, self.rows, self.sources, self.several = shown(path), 0, [], False
         self.refusal: Optional[Refusal] = None
-        self.blocks, self.row = Blocks(), []
+        self.blocks, self.head, self.row = Blocks(), [], []
         with io.TextIOWrapper(io.BufferedReader(Input(path), 1 << 18), "utf-8-sig", newline="") as text:
             try:
                 self.read(csv.reader(whole_lines(text, self.name), strict=True))
             except (ValueError, csv.Error) as error:
-                raise Ended(REFUSED, f"{self.name}: row {self.rows + 1} is no row of a table") from error
+                what = f"row {self.rows + 1} is no row of a table" if self.head else "this is no table"
+                raise Ended(REFUSED, f"{self.name}: {what}") from error
         if not self.rows:
             raise Ended(REFUSED, f"{self.name}: no rows to draw" + (f"; {refused_words(*self.refusal)}" if self.refusal else ""))
 
     def read(self, rows: Iterator[list]) -> None:
         self.head = next(rows, [])
-        columns = ("ssrc", *COUNTS)
-        if not set(columns) < set(self.head):
-            raise Ended(REFUSED, f"{self.name} is no table: its first line does not name the columns")
-        chosen = operator.itemgetter(*map(self.head.index, columns))
+        if not {"label", "ssrc", *COUNTS} <= set(self.head):
+            raise Ended(REFUSED, f"{self.name}: this is no table, its first line does not name the columns")
+        chosen = operator.itemgetter(*map(self.head.index, ("ssrc", *COUNTS)))
         for row in rows:
             if len(row) == len(self.head) and not self.refusal:
                 self.add(*map(int, chosen(row)))
                 self.row = row
-            else:
+            elif row:
                 self.end(row)
 
     def add(self, ssrc: int, *counts: int) -> None:
@@ -122,9 +122,9 @@ class Table:
 
     def end(self, row: list) -> None:
         """The line of a refused block, which ends a table."""
-        line = REFUSED_LINE.fullmatch(",".join(row).encode())
         if self.refusal:
             raise Ended(REFUSED, f"{self.name}: something stands behind the line of the refused block {self.refusal.block}, so this is not one table")
+        line = REFUSED_LINE.fullmatch(",".join(row).encode())
         if not line:
             raise ValueError
         self.refusal = Refusal(int(line[1]), int(line[2]))

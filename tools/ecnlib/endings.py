@@ -1,5 +1,5 @@
-"""The signals that end ecn. One that comes while a command waits ends it there; at any other time it is kept until the next wait, so that no file and no
-process that was made just then is left behind. A signal that was ignored when ecn began stays ignored (nohup, a background job of a script)."""
+"""The signals that end ecn. One that comes while a command waits ends it there; at any other time it is kept until the next wait, so that no file
+and no process that was made just then is left behind. A signal that was ignored when ecn began stays ignored (nohup, a script's background job)."""
 import contextlib
 import os
 import signal

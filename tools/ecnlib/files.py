@@ -1,5 +1,5 @@
-"""The files that a command is given. `-` is standard input or output. A path that names an open file of this process (/dev/stdout, /dev/fd/3, a link to
-one) is that open file: it is read or written where it stands, and never opened anew, cut or replaced."""
+"""The files that a command is given. `-` is standard input or output. A path that names an open file of this process (/dev/stdout, /dev/fd/3, a
+link to one) is that open file: it is read or written where it stands, and never opened anew, cut or replaced."""
 import contextlib
 import errno
 import fcntl
@@ -58,11 +58,13 @@ def opened(path: str) -> int:
 
 
 def found(path: str, writing: bool = False) -> Optional[os.stat_result]:
-    """What a path leads to; None where that is nothing, or cannot be seen."""
+    """What a path leads to; None where that is nothing. What cannot be seen is nothing to a reader, who is told when it is opened."""
     try:
         number = descriptor(path, writing)
         return os.stat(path if number is None else number)
-    except OSError:
+    except OSError as error:
+        if writing and error.errno != errno.ENOENT:
+            raise
         return None
 
 
@@ -107,7 +109,7 @@ def put(handle: int, piece: bytes) -> None:
 class Output:
     """What is written to `file`, and comes to its place at `commit`.
 
-    A file is written beside its place and takes it as a whole; until then, and for ever behind `discard`, the place is as it was. An open file, a device
+    A file is written beside its place and takes it as a whole; until then, and behind `discard`, the place is as it was. An open file, a device
     and a pipe cannot be replaced: they get all bytes at `commit`, and none before.
     """
 

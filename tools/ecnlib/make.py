@@ -5,8 +5,8 @@ The CSV file has a head line that names its columns, in any order: time (whole m
 Other columns are passed over. Arrivals stand in the file in the order in which they came. A trace of several sources is for ecnstreams:
 each block has arrivals of one source in their order, and blocks are written as they fill.
 
-CSV `-` is standard input, and TRACE `-` standard output. That, /dev/stdout, /dev/fd/N, a device and a pipe are written to where they stand
-and never replaced: they get the trace when it is whole, and no byte before.
+CSV `-` is standard input, and TRACE `-` standard output. Standard output, /dev/stdout, /dev/fd/N, a device or a pipe is written to where it
+stands and never replaced: it gets the trace when that is whole, and no byte before.
 
 The blocks are written by the proved library where it is found ($FLASKNIB_LIBRARY, beside this script, or the system's path), else by this
 script. The trace is put in place only when the proved program takes it: ecntable for one source; for several ecnstreams, or where that is missing

@@ -4,8 +4,8 @@ A row of ecntable is the total so far, so what a block brought is its row less t
 columns begin at 0 again. With more than 240 blocks a bar stands for several and shows their mean, what one of them brought on average. A
 table of ecnstreams, with one row for each source, has a bar for each. A bar's counts are shown when the pointer rests on it.
 
-TABLE `-` is standard input, and OUT.svg `-` standard output. That, /dev/stdout, /dev/fd/N, a device and a pipe are written to where they
-stand and never replaced: they get the picture when it is whole, and no byte before.
+TABLE `-` is standard input, and OUT.svg `-` standard output. Standard output, /dev/stdout, /dev/fd/N, a device or a pipe is written to where
+it stands and never replaced: it gets the picture when that is whole, and no byte before.
 
 Exit status: 0 drawn; 1 the table ends with a refused block (the rows before it are drawn, and the picture says so), has no rows, or is no table; 2 a
 read or a write failed, or the arguments are wrong.
@@ -117,7 +117,7 @@ class Drawing:
 
     def axis(self, bottom: float) -> None:
         """The blocks' numbers, or the sources, below the last panel."""
-        centre, several = (LEFT + WIDTH - RIGHT) / 2, self.bars[0].blocks
+        centre, each = (LEFT + WIDTH - RIGHT) / 2, self.bars[0].blocks
         if self.table.several:
             for at, bar in enumerate(self.bars):
                 self.text(self.middle(at), bottom + 18 + 14 * (at % 2 if self.slot < 90 else 0), bar.name.removeprefix("SSRC "), "middle")
@@ -125,10 +125,10 @@ class Drawing:
             return
         step = int(step_of(Fraction(self.table.rows), 10))
         for block in range(step, self.table.rows + 1, step):
-            x = self.middle((block - 0.5) / several - 0.5)
+            x = self.middle((block - 0.5) / each - 0.5)
             self.line(x, bottom, x, bottom + 5, 'stroke="#333"')
             self.text(x, bottom + 19, f"{block:,}", "middle")
-        self.text(centre, bottom + 42, "block of the trace" + (f" (a bar is the mean of {several:,} blocks)" if several > 1 else ""), "middle")
+        self.text(centre, bottom + 42, "block of the trace" + (f" (a bar is the mean of {each:,} blocks)" if each > 1 else ""), "middle")
 
     def legend(self, y: float) -> None:
         x = LEFT
@@ -151,17 +151,22 @@ def tip_of(bar: Bar) -> str:
     return f"{bar.name}{', together' if bar.blocks > 1 else ''}: {counts}"
 
 
+def printable(text: str) -> str:
+    """XML has no place for some of the other characters."""
+    return "".join(each if each.isprintable() else " " for each in text.replace("\r\n", " "))
+
+
 def shortened(text: str, most: int) -> str:
     return text if len(text) <= most else text[: most - 1] + "\u2026"
 
 
 def heading(table: Table) -> tuple:
     """The picture's title, and what stands below it."""
-    last = table.last
-    label = "".join(each if each.isprintable() else " " for each in last.pop("label", "").replace("\r\n", " "))
+    last = {name: printable(value) for name, value in table.last.items()}
+    label, ssrc = last.pop("label"), last.pop("ssrc")
     if table.several:
         return shortened(label, 90), many(table.rows, "source")
-    ssrc, values = last.pop("ssrc"), ", ".join(f"{name} {value}" for name, value in last.items())
+    values = ", ".join(f"{name} {value}" for name, value in last.items())
     return f"{shortened(label, 70)} (SSRC {ssrc})", f"{many(table.rows, 'block')}; last row: {values}"
 
 

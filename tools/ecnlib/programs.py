@@ -71,12 +71,12 @@ def asked(path: str, pieces: Iterable[bytes]) -> Optional[Refusal]:
     """The first block that the program refuses of a trace that comes in pieces. Of its table only the end is kept."""
     with tempfile.TemporaryFile() as errors:
         child = subprocess.Popen([path], stdin=subprocess.PIPE, stdout=subprocess.PIPE, stderr=errors)
-        tail = Tail(child.stdout)
         try:
+            tail = Tail(child.stdout)
             status = feed(child, pieces)
         finally:
             stop(child)
-            tail.join()
+        tail.join()
         fault = fault_of(path, status, errors)
     if fault:
         raise Ended(FAILED, fault)

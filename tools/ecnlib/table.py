@@ -5,8 +5,8 @@ where it is missing) and each table is OUT/NAME.csv, NAME being the trace's file
 place and renamed at the end, so OUT is whole or as it was before. For a trace that is refused nothing is put in place; run the program
 itself for the rows before the refused block.
 
-A trace `-` is standard input, and OUT `-` standard output. These, /dev/stdout, /dev/fd/N, a device and a pipe are written to where they
-stand and never replaced: they get the table when it is whole, and no byte before.
+A trace `-` is standard input, and OUT `-` standard output, for the table of one trace. Standard output, /dev/stdout, /dev/fd/N, a device or
+a pipe is written to where it stands and never replaced: it gets the table when that is whole, and no byte before.
 
 Exit status: 0 all tables are in place; 1 a block was refused; 2 a read or a write failed, also where the program printed a refused
 line for it, a program is missing, or the arguments are wrong. With several traces the others go on, and the highest status counts.
@@ -30,7 +30,7 @@ from .common import FAILED, REFUSED, WELL, Ended, file_name, refused_words, say,
 
 def add_arguments(parser: argparse.ArgumentParser) -> None:
     parser.add_argument("traces", nargs="+", type=file_name, metavar="TRACE", help="a trace of either form; - is standard input")
-    parser.add_argument("-o", "--out", required=True, type=file_name, metavar="OUT", help="the table, or the folder for the tables; - is standard output")
+    parser.add_argument("-o", "--out", required=True, type=file_name, metavar="OUT", help="the table, or the tables' folder; - is standard output")
     parser.add_argument("-j", "--jobs", type=jobs, default=1, metavar="N", help="how many traces are converted at a time (1)")
     parser.add_argument("--streams", action="store_true", help="take ecnstreams: arrivals blocks may differ in SSRC, and there is one row for each")
 
