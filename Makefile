@@ -24,6 +24,7 @@ to := $(DESTDIR)$(PREFIX)
 
 all:
 	rt check $(PROGRAMS)
+	rm -f $(archive)
 	rt staticlib capi
 	$(MAKE) built
 
@@ -58,20 +59,20 @@ target/SHA256SUMS: $(binaries) $(static) $(shared) packaging/sums
 	cd target && ../packaging/sums $(PROGRAMS:%=bin/%) $(static:target/%=%) $(shared:target/%=%) >SHA256SUMS
 
 install: $(built)
-	install -d $(to)/bin $(to)/include $(to)/lib/pkgconfig $(to)/share/man/man1 $(to)/share/man/man3 $(to)/share/doc/flasknib \
-		$(to)/share/flasknib/ecnlib
-	install -m 755 $(binaries) $(to)/bin
-	install -m 644 include/flasknib.h $(to)/include
-	install -m 644 $(static) $(shared) $(to)/lib
-	ln -sf $(notdir $(shared)) $(to)/lib/$(soname)
-	ln -sf $(soname) $(to)/lib/libflasknib.so
-	sed 's|@PREFIX@|$(PREFIX)|; s|@VERSION@|$(VERSION)|' packaging/flasknib.pc.in >$(to)/lib/pkgconfig/flasknib.pc
-	chmod 644 $(to)/lib/pkgconfig/flasknib.pc
-	install -m 644 $(manual) $(to)/share/man/man1
-	install -m 644 target/man/flasknib.3 $(to)/share/man/man3
-	install -m 644 target/SHA256SUMS $(to)/share/doc/flasknib
-	install -m 644 tools/wireshark/ecn.lua $(to)/share/flasknib
-	install -m 644 tools/ecnlib/*.py $(to)/share/flasknib/ecnlib
-	install -m 755 tools/ecn $(to)/share/flasknib
-	ln -sf ../share/flasknib/ecn $(to)/bin/ecn
+	install -d "$(to)/bin" "$(to)/include" "$(to)/lib/pkgconfig" "$(to)/share/man/man1" "$(to)/share/man/man3" "$(to)/share/doc/flasknib" \
+		"$(to)/share/flasknib/ecnlib"
+	install -m 755 $(binaries) "$(to)/bin"
+	install -m 644 include/flasknib.h "$(to)/include"
+	install -m 644 $(static) $(shared) "$(to)/lib"
+	ln -sf $(notdir $(shared)) "$(to)/lib/$(soname)"
+	ln -sf $(soname) "$(to)/lib/libflasknib.so"
+	sed 's|@PREFIX@|$(PREFIX)|; s|@VERSION@|$(VERSION)|' packaging/flasknib.pc.in >"$(to)/lib/pkgconfig/flasknib.pc"
+	chmod 644 "$(to)/lib/pkgconfig/flasknib.pc"
+	install -m 644 $(manual) "$(to)/share/man/man1"
+	install -m 644 target/man/flasknib.3 "$(to)/share/man/man3"
+	install -m 644 target/SHA256SUMS "$(to)/share/doc/flasknib"
+	install -m 644 tools/wireshark/ecn.lua "$(to)/share/flasknib"
+	install -m 644 tools/ecnlib/*.py "$(to)/share/flasknib/ecnlib"
+	install -m 755 tools/ecn "$(to)/share/flasknib"
+	ln -sf ../share/flasknib/ecn "$(to)/bin/ecn"
 	@[ -n "$(DESTDIR)" ] || packaging/loader "$(PREFIX)/lib"

@@ -99,7 +99,7 @@ class Tried:
     """The runs of a program on a trace, and the checks that did not hold."""
 
     def __init__(self, program, path, library, folder):
-        self.program, self.command, self.library = program, path, library
+        self.program, self.command, self.library = program, os.path.abspath(path), os.path.abspath(library)
         self.path, self.out = pathlib.Path(folder, "faults.trace"), pathlib.Path(folder, "faults.out")
         self.path.write_bytes(trace(program.form, (BLOCKS - 1) * FORMS[program.form][0], program.ssrcs))
         self.runs, self.wrong = 0, []
@@ -112,9 +112,11 @@ class Tried:
     def run(self, name, faults="", words=(), **kept):
         """Standard output and error of a run; a file as standard input and a pipe as output unless the caller says otherwise."""
         self.runs += 1
-        environment = dict(os.environ, LC_ALL="C", LD_PRELOAD=os.path.abspath(self.library), FAULTS=faults)
+        # The loader parts its list at spaces and colons: the library is named from its own folder.
+        folder, library = os.path.split(self.library)
+        environment = dict(os.environ, LC_ALL="C", LD_PRELOAD=os.path.join(os.curdir, library), FAULTS=faults)
         with open(self.path, "rb") as opened:
-            options = dict(dict(stdin=opened, stdout=subprocess.PIPE, stderr=subprocess.PIPE), **kept)
+            options = dict(dict(stdin=opened, stdout=subprocess.PIPE, stderr=subprocess.PIPE, cwd=folder), **kept)
             with subprocess.Popen([self.command, *words], env=environment, **options) as child:
                 try:
                     out, told = child.communicate(timeout=30)
