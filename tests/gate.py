@@ -1,0 +1,228 @@
+"""tests/gate.py: .ci/run, tests/run and tests/edits where something is missing, fails, or was left by an earlier run.
+
+Each is tried on a small tree of its own, in a folder whose name has spaces and a letter outside ASCII, with an `rt` and a `rustc` of ours, as a job in
+the background: signals that such a job ignores are ignored. What an earlier run is to have left writes its name down where it is run. Each try that
+goes wrong is printed; the last line says how many there were.
+"""
+import importlib.machinery
+import importlib.util
+import json
+import os
+import pathlib
+import shutil
+import signal
+import subprocess
+import sys
+import tempfile
+
+TOP = pathlib.Path(__file__).resolve().parent.parent
+IGNORED = (signal.SIGINT, signal.SIGQUIT, signal.SIGPIPE, signal.SIGHUP, signal.SIGXFSZ)
+TOOLS = "sh env dirname mkdir rm ln cat sed sort cut diff wc grep tail nm python3".split()
+
+
+def script(path, text):
+    path.parent.mkdir(parents=True, exist_ok=True)
+    path.write_text("#!/bin/sh\n" + text)
+    path.chmod(0o755)
+
+
+class Tree:
+    """A folder with copies of scripts, and another with the programs that they find."""
+
+    def __init__(self, work, *names):
+        self.top, self.bin = pathlib.Path(work, "ward 3 ü"), pathlib.Path(work, "bin")
+        for name in names:
+            (self.top / name).parent.mkdir(parents=True, exist_ok=True)
+            shutil.copy(TOP / name, self.top / name)
+
+    def run(self, name, path, **variables):
+        """The status of a script, and what it prints."""
+        environment = dict(variables, PATH=path, TMPDIR=str(self.bin.parent), RAN=str(self.bin.parent / "ran"))
+        done = subprocess.run(
+            [self.top / name], env=environment, cwd="/", stdin=subprocess.DEVNULL, stdout=subprocess.PIPE, stderr=subprocess.STDOUT,
+            preexec_fn=lambda: [signal.signal(each, signal.SIG_IGN) for each in IGNORED],
+        )
+        return done.returncode, done.stdout.decode("utf-8", "replace")
+
+
+# ---- .ci/run
+
+# (what the three parts print last, the status of each), and the gate's last line; a part that must not be started prints None.
+ENDS = {
+    "all pass": (("3 passed, 0 failed", "2 passed, 0 failed", "1 passed, 0 failed"), (0, 0, 0), "6 passed, 0 failed"),
+    "a part without a last line": (("3 passed, 0 failed", "killed", "1 passed, 0 failed"), (0, 0, 0), "4 passed, 1 failed"),
+    "a part that ends with another status": (("3 passed, 0 failed", "2 passed, 0 failed", "1 passed, 0 failed"), (0, 0, 3), "6 passed, 1 failed"),
+    "a part that fails": (("3 passed, 0 failed", "1 passed, 2 failed", "1 passed, 0 failed"), (0, 1, 0), "5 passed, 2 failed"),
+    "a crate that is not proved": (("2 passed, 1 failed", None, None), (1, 0, 0), "2 passed, 1 failed"),
+}
+
+
+def sums(name, work):
+    """What is wrong with the gate's sums."""
+    said, ended, wanted = ENDS[name]
+    tree = Tree(work, ".ci/run")
+    for path, words, status in zip((tree.bin / "rt", tree.top / "tests/edits", tree.top / "tests/run"), said, ended):
+        script(path, f"echo '{words}'; exit {status}\n")
+    status, text = tree.run(".ci/run", f"{tree.bin}:{os.environ['PATH']}")
+    if text.splitlines()[-1] != wanted or (status == 0) != wanted.endswith(" 0 failed") or "None" in text:
+        yield f"it ends with {text.splitlines()[-1]!r} and status {status}"
+
+
+# ---- tests/run
+
+RUSTC = """for word; do out=$word; done
+case " $* " in *" tests/$BROKEN/main.rs "*) exit 1 ;; esac
+printf '#!/bin/sh\\necho built' >"$out" && chmod +x "$out"
+"""
+RT = 'case $1 in check) exit "$CHECK" ;; staticlib) echo built >target/staticlib/libcapi.a; exit "$LIBRARY" ;; esac\n'
+OVER_PROGRAMS = {"program", "tables", "faults", "installation", "tools"}
+OVER_LIBRARY = {"compare", "header", "languages", "capture", "dissector", "received", "examples", "installation", "tools"}
+# What fails (rustc is missing, the source of a part, the programs, the library), and the parts that must fail for it.
+FAILING = {
+    "no compiler": (None, 0, 0, {"program", "tables", "compare", "header", "capture", "dissector", "received", "examples"}),
+    "a test that does not compile": ("compare", 0, 0, {"compare", "header"}),
+    "programs that are not proved": ("nothing", 1, 0, OVER_PROGRAMS),
+    "a library that is not proved": ("nothing", 0, 1, OVER_LIBRARY),
+}
+
+
+def left(tree):
+    """What an earlier run left, each file of which tells where it is run."""
+    for name in "program compare capture received count breaker count_rust libmodel.rlib libdraw.rlib compare.table capture.lines".split():
+        script(tree.top / "target/tests" / name, f"echo {name} >>\"$RAN\"\n")
+    for name in ("ecntable", "ecnforms", "ecnstreams"):
+        script(tree.top / "target/bin" / name, f"echo {name} >>\"$RAN\"\n")
+    script(tree.top / "target/staticlib/libcapi.a", "")
+
+
+def failing(name, work):
+    """What is wrong where something cannot be built."""
+    broken, check, library, wanted = FAILING[name]
+    tree = Tree(work, "tests/run")
+    left(tree)
+    script(tree.bin / "rt", RT)
+    for tool in TOOLS:
+        (tree.bin / tool).symlink_to(sys.executable if tool == "python3" else shutil.which(tool))
+    if broken:
+        script(tree.bin / "rustc", RUSTC)
+    status, text = tree.run("tests/run", str(tree.bin), CHECK=str(check), LIBRARY=str(library), BROKEN=broken or "")
+    failed = {line.split()[1] for line in text.splitlines() if line.startswith("tests: ") and " FAILED" in line}
+    if status == 0 or not wanted <= failed or not text.splitlines()[-1].endswith(f" passed, {len(failed)} failed"):
+        yield f"it ends with {text.splitlines()[-1]!r} and status {status}, and these do not fail: {sorted(wanted - failed)}"
+    if (tree.bin.parent / "ran").exists():
+        yield f"what an earlier run left was run: {(tree.bin.parent / 'ran').read_text().split()}"
+
+
+# ---- tests/edits
+
+PROOF = "crates/one/proofs/f/Proof.antt:3:5: error: `returns`: "
+WALK = "Rattle.one.proofs.f.Lts.oantt"
+DIFFER = "computed as far as they go, the two types first differ where one has `{}`\n  (expected) and the other has `{}` (found)"
+PLACES = DIFFER.format("Rattle.one.proofs.f.Lts.After-g", "Rattle.one.proofs.f.Lts.After-h")
+# An error, and the kind of fact that it is of: None where it is of the proof's form, or of nothing that is known.
+SAMPLES = {
+    DIFFER.format("2147483648", "2147483649"): "terms differ",
+    DIFFER.format("c .args .time", "Rattle.one.proofs.f.Lts.m1 (Rattle.one.proofs.f.Lts.After-g·gave (c .before))"): "terms differ",
+    "expected type `fresh s ≡ false`, but this has type `fresh s ≡ t`\n  `t` is not in scope here, so what is shown does not paste back": "terms differ",
+    "`omega`: the goal does not follow from what it read. All of that holds, and the goal fails, at `c .n` = 3": "it fails at values",
+    "`search`: no proof of `Post c`": "a need is open",
+    "`rw`: no occurrence of the path's left endpoint in the goal: write the family yourself": "an equation is not there",
+    PLACES: None,
+    PLACES.replace("first differ", "differ only"): None,
+    "record `Rattle.one.proofs.f.Lts.After-g`\n  has no field `read16`": None,
+    "`returns-2` is not in scope": None,
+    "the solver gave up": None,
+}
+# rt dev of a copy with the edit: the error, and the names that its walk then has.
+TRIED = {
+    "refused": (DIFFER.format("1", "2"), ["After-g", "Need-returns"], ": refused, terms differ ("),
+    "an error of form": (PLACES, ["After-g", "Need-returns"], ": FAILED: the first error is of the proof's form"),
+    "another form": (DIFFER.format("1", "2"), ["After-h", "Need-returns"], ": FAILED: the proof's form is not that of the code any more (src/f)"),
+    "an error of no kind": ("the solver gave up", ["After-g", "Need-returns"], ": FAILED: the first error is of no known kind"),
+}
+DEV = f"""case $1 in
+check) [ "$CHECK" = 0 ] && echo 'rt: one proved (unchanged)'; exit "$CHECK" ;;
+esac
+[ "$CHECK" = 0 ] || echo dev >>"$RAN"
+if grep -q right crates/one/src/lib.rt; then
+    printf 'crate one: modules loaded=1 checked=0\\nlogic=proved \\n'
+    exit 0
+fi
+rm "target/inc/one/k/{WALK}"
+cp "$WALKED" "target/inc/one/k/{WALK}"
+cat "$SAID"
+exit 1
+"""
+
+
+def module(path, names):
+    """A checked module that declares these names; those of a walk's steps are no part of its form."""
+    path.parent.mkdir(parents=True, exist_ok=True)
+    names = [{"name": name, "kind": "def" if name.startswith("Need-") else "record"} for name in names] + [{"name": "m1", "kind": "def"}] * len(str(path))
+    path.write_text("--@ kernel k\n--@ interface " + json.dumps({"globals": names}) + "\n")
+
+
+def one_crate(work):
+    """A tree with one crate and one edit, and what an earlier run left."""
+    tree = Tree(work, "tests/edits")
+    for name, text in (("crates.txt", "one:\n"), ("crates/one/src/lib.rt", "fn f() {\n    right\n}\n"), ("target/stamp/one", ""), ("target/edits/one/old.log", "")):
+        (tree.top / name).parent.mkdir(parents=True, exist_ok=True)
+        (tree.top / name).write_text(text)
+    (tree.top / "crates/one/edits").mkdir()
+    (tree.top / "crates/one/edits/wrong.edit").write_text("file: src/lib.rt\nold: right\nnew: wrong\n")
+    module(tree.top / "target/rlib/one.rlib/toolchain/checked" / WALK, ["After-g", "Need-returns"])
+    script(tree.bin / "rt", DEV)
+    return tree
+
+
+def tried(name, work):
+    """What is wrong with the line of an edit."""
+    error, names, wanted = TRIED[name]
+    tree = one_crate(work)
+    said, walked = tree.bin / "said", tree.bin / "walked"
+    said.write_text(PROOF + error + "\nlogic=not-proved\n")
+    module(walked, names)
+    path = f"{tree.bin}:{os.path.dirname(sys.executable)}:{os.environ['PATH']}"
+    _, text = tree.run("tests/edits", path, CHECK="0", SAID=str(said), WALKED=str(walked))
+    if f"edits one/wrong{wanted}" not in text:
+        yield text
+    if (tree.top / "target/edits/one/old.log").exists():
+        yield "a log of an earlier run is left"
+
+
+def unproved(_, work):
+    """What is wrong where a crate is not proved as it stands: no edit of it may be tried over what was proved before."""
+    tree = one_crate(work)
+    status, text = tree.run("tests/edits", f"{tree.bin}:{os.path.dirname(sys.executable)}:{os.environ['PATH']}", CHECK="1")
+    if status == 0 or text.splitlines()[-1] != "0 passed, 1 failed" or (tree.bin.parent / "ran").exists():
+        yield text
+
+
+def told_apart(words, _):
+    """What is wrong with the kind that tests/edits gives an error."""
+    loader = importlib.machinery.SourceFileLoader("edits", str(TOP / "tests/edits"))
+    edits = importlib.util.module_from_spec(importlib.util.spec_from_loader("edits", loader))
+    loader.exec_module(edits)
+    (error,) = edits.errors(PROOF + words + "\nfn one::f: not proved\n")
+    if edits.fact(error) != SAMPLES[words]:
+        yield f"it is of the kind {edits.fact(error)!r}, not {SAMPLES[words]!r}"
+
+
+def main():
+    sys.dont_write_bytecode = True
+    wrong, count = [], 0
+    for part, names in ((sums, ENDS), (failing, FAILING), (tried, TRIED), (unproved, ["a crate that is not proved"]), (told_apart, SAMPLES)):
+        for name in names:
+            count += 1
+            with tempfile.TemporaryDirectory() as work:
+                wrong += [f"{part.__name__}, {name[:100]}: {fault}" for fault in part(name, work)]
+    for line in wrong:
+        print("gate: FAILED,", line)
+    if wrong:
+        return 1
+    print(f"gate: {count} tries of the gate's scripts where something is missing, fails or is left of an earlier run: each is told, and nothing left is used")
+    return 0
+
+
+if __name__ == "__main__":
+    sys.exit(main())
