@@ -129,6 +129,7 @@ SAMPLES = {
     "`rw`: no occurrence of the path's left endpoint in the goal: write the family yourself": "an equation is not there",
     PLACES: None,
     PLACES.replace("first differ", "differ only"): None,
+    "expected type `tie.After-g`, but this has type `Rattle.one.proofs.f.Lts.Then1 (c .before)`": None,
     "record `Rattle.one.proofs.f.Lts.After-g`\n  has no field `read16`": None,
     "`returns-2` is not in scope": None,
     "the solver gave up": None,
@@ -137,7 +138,7 @@ SAMPLES = {
 TRIED = {
     "refused": (DIFFER.format("1", "2"), ["After-g", "Need-returns"], ": refused, terms differ ("),
     "an error of form": (PLACES, ["After-g", "Need-returns"], ": FAILED: the first error is of the proof's form"),
-    "another form": (DIFFER.format("1", "2"), ["After-h", "Need-returns"], ": FAILED: the proof's form is not that of the code any more (src/f)"),
+    "another form": (DIFFER.format("1", "2"), ["After-h", "Need-returns"], ": FAILED: the proof's form is not that of the code any more (src/f: After-g)"),
     "an error of no kind": ("the solver gave up", ["After-g", "Need-returns"], ": FAILED: the first error is of no known kind"),
 }
 DEV = f"""case $1 in

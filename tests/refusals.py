@@ -31,7 +31,7 @@ def unnumbered(text, numbers):
 
 def main():
     numbers = dict(re.findall(r"^numberOf (\w+) = (\d+)$", read(TABLE), re.M))
-    files = sorted(os.path.relpath(path, TOP) for path in glob.glob(os.path.join(TOP, "crates/*/specs/*.antt")))
+    files = sorted(os.path.relpath(path, TOP) for path in glob.glob(os.path.join(glob.escape(TOP), "crates/*/specs/*.antt")))
     wrong = [f"{file}: {name} ({numbers[name]}) in {code}" for file in files if file != TABLE for name, code in unnumbered(read(file), numbers)]
     example = "use Rattle.answers.specs.declared.Refusal.the-variants.{Full}\n\n-- %s\nfault : Refusal\nfault = Full\n"
     if len(numbers) < 13 or not list(unnumbered(example % "full", numbers)) or list(unnumbered(example % "8 when full", numbers)):

@@ -90,7 +90,7 @@ def astray(top, page):
     for text, to in LINK.findall(page):
         if not os.path.isfile(os.path.normpath(os.path.join(top, "docs", to.partition("#")[0]))):
             yield f"a link leads to no file: {text}"
-    proofs = "".join(read(path) for path in glob.glob(os.path.join(top, "crates/*/proofs/**/*.antt"), recursive=True))
+    proofs = "".join(read(path) for path in glob.glob(os.path.join(glob.escape(top), "crates/*/proofs/**/*.antt"), recursive=True))
     for name in sorted(set(re.findall(r"`([a-z0-9]+(?:-[a-z0-9]+)+)`", page))):
         if not re.search(rf"^pub {name} : \w+$", proofs, re.M):
             yield f"{name} is not proved"
@@ -108,7 +108,7 @@ def miscounted(top, page):
         yield "no count of what was tested is found"
     for count in sorted(set(said) - set(tried)):
         yield f"docs/TESTS.md has no count of {count}"
-    edits = glob.glob(os.path.join(top, "crates/*/edits/*.edit")) + glob.glob(os.path.join(top, "crates/*/must-fail/*.edit"))
+    edits = glob.glob(os.path.join(glob.escape(top), "crates/*/edits/*.edit")) + glob.glob(os.path.join(glob.escape(top), "crates/*/must-fail/*.edit"))
     for what, there in (("wrong versions", len(edits)), ("public calls", promises.faults(os.path.join(top, "crates"))[1])):
         said = re.search(rf"over (\d+) {what}", page)
         if not said or there <= int(said.group(1)):
