@@ -138,7 +138,9 @@ SAMPLES = {
 TRIED = {
     "refused": (DIFFER.format("1", "2"), ["After-g", "Need-returns"], ": refused, terms differ ("),
     "an error of form": (PLACES, ["After-g", "Need-returns"], ": FAILED: the first error is of the proof's form"),
-    "another form": (DIFFER.format("1", "2"), ["After-h", "Need-returns"], ": FAILED: the proof's form is not that of the code any more (src/f: After-g)"),
+    "one need more": (DIFFER.format("1", "2"), ["After-g", "Need-add-n", "Need-returns"], ": refused, terms differ ("),
+    "another place": (DIFFER.format("1", "2"), ["After-h", "Need-returns"], ": FAILED: the proof's form is not that of the code any more (src/f: After-g)"),
+    "a need that is gone": (DIFFER.format("1", "2"), ["After-g"], ": FAILED: the proof's form is not that of the code any more (src/f: Need-returns)"),
     "an error of no kind": ("the solver gave up", ["After-g", "Need-returns"], ": FAILED: the first error is of no known kind"),
 }
 DEV = f"""case $1 in
@@ -156,22 +158,28 @@ exit 1
 """
 
 
-def module(path, names):
-    """A checked module that declares these names; those of a walk's steps are no part of its form."""
+def module(path, names, steps):
+    """A checked module that declares these names, and some of a walk's steps, which are no part of its form."""
     path.parent.mkdir(parents=True, exist_ok=True)
-    names = [{"name": name, "kind": "def" if name.startswith("Need-") else "record"} for name in names] + [{"name": "m1", "kind": "def"}] * len(str(path))
-    path.write_text("--@ kernel k\n--@ interface " + json.dumps({"globals": names}) + "\n")
+    named = [{"name": name, "kind": "record" if name.startswith("After-") else "def"} for name in steps + names]
+    path.write_text("--@ kernel k\n--@ interface " + json.dumps({"globals": named}) + "\n")
 
 
 def one_crate(work):
     """A tree with one crate and one edit, and what an earlier run left."""
     tree = Tree(work, "tests/edits")
-    for name, text in (("crates.txt", "one:\n"), ("crates/one/src/lib.rt", "fn f() {\n    right\n}\n"), ("target/stamp/one", ""), ("target/edits/one/old.log", "")):
+    files = {
+        "crates.txt": "one:\n",
+        "crates/one/src/lib.rt": "fn f() {\n    right\n}\n",
+        "crates/one/proofs/f/Proof.antt": "returns : tie.Need-returns\n",
+        "crates/one/edits/wrong.edit": "file: src/lib.rt\nold: right\nnew: wrong\n",
+        "target/stamp/one": "",
+        "target/edits/one/old.log": "",
+    }
+    for name, text in files.items():
         (tree.top / name).parent.mkdir(parents=True, exist_ok=True)
         (tree.top / name).write_text(text)
-    (tree.top / "crates/one/edits").mkdir()
-    (tree.top / "crates/one/edits/wrong.edit").write_text("file: src/lib.rt\nold: right\nnew: wrong\n")
-    module(tree.top / "target/rlib/one.rlib/toolchain/checked" / WALK, ["After-g", "Need-returns"])
+    module(tree.top / "target/rlib/one.rlib/toolchain/checked" / WALK, ["After-g", "Need-returns"], ["m1"])
     script(tree.bin / "rt", DEV)
     return tree
 
@@ -182,7 +190,7 @@ def tried(name, work):
     tree = one_crate(work)
     said, walked = tree.bin / "said", tree.bin / "walked"
     said.write_text(PROOF + error + "\nlogic=not-proved\n")
-    module(walked, names)
+    module(walked, names, ["m1", "m2"])
     path = f"{tree.bin}:{os.path.dirname(sys.executable)}:{os.environ['PATH']}"
     _, text = tree.run("tests/edits", path, CHECK="0", SAID=str(said), WALKED=str(walked))
     if f"edits one/wrong{wanted}" not in text:
