@@ -2,6 +2,7 @@
 
 It uses the proved programs of target/bin and, where target/staticlib/libcapi.a and a C compiler are there, the proved library.
 """
+import argparse
 import contextlib
 import csv
 import io
@@ -24,7 +25,7 @@ import xml.etree.ElementTree as xml
 
 TOP = pathlib.Path(__file__).resolve().parent.parent
 sys.path.insert(0, str(TOP / "tools"))
-from ecnlib import bars  # noqa: E402
+from ecnlib import bars, make  # noqa: E402
 from ecnlib.blocks import FORMS, Record, Script, header, records_in  # noqa: E402
 from ecnlib.common import Ended  # noqa: E402
 
@@ -568,9 +569,11 @@ class Make(Tried):
     def setUp(self):
         super().setUp()
         self.csv, self.made = self.folder / "in.csv", self.folder / "out.trace"
+        self.parser = argparse.ArgumentParser()
+        make.add_arguments(self.parser)
 
     def make(self, text: str, *words, **kept) -> subprocess.CompletedProcess:
-        self.csv.write_text(text, encoding="utf-8", errors="surrogateescape")
+        self.csv.write_text(text, encoding="utf-8")
         return self.ecn("make", self.csv, "-o", self.made, *words, **kept)
 
     def writers(self):
@@ -647,7 +650,12 @@ class Make(Tried):
             (head, ["--ssrc", "1", "--label", "x" * 503], "the label has to be"),
             (head, ["--ssrc", "1", "--label", "sör"], "the label has to be"),
         ):
-            self.assertIn(told, self.make(text, *words, status=1).stderr)
+            self.csv.write_text(text, encoding="utf-8", errors="surrogateescape")
+            options = self.parser.parse_args([str(self.csv), "-o", str(self.made), *words])
+            with self.assertRaisesRegex(Ended, re.escape(told)) as ended:
+                make.run(options)
+            self.assertEqual(ended.exception.status, 1)
+        self.assertIn(told, self.ecn("make", self.csv, "-o", self.made, *words, status=1).stderr)
         self.alone("in.csv")
 
     def test_failures(self):
