@@ -127,6 +127,8 @@ SAMPLES = {
     "`omega`: the goal does not follow from what it read. All of that holds, and the goal fails, at `c .n` = 3": "it fails at values",
     "`search`: no proof of `Post c`": "a need is open",
     "`rw`: no occurrence of the path's left endpoint in the goal: write the family yourself": "an equation is not there",
+    "`rw`: no occurrence of the path's left endpoint in the hypothesis's type: write the family": "an equation is not there",
+    "`reading b Compound`\n  ≟ `reading b ReducedSize`\n  does not hold (this comparison, made at this position, had to wait)": "terms differ",
     PLACES: None,
     PLACES.replace("first differ", "differ only"): None,
     "expected type `tie.After-g`, but this has type `Rattle.one.proofs.f.Lts.Then1 (c .before)`": None,
