@@ -124,6 +124,7 @@ SAMPLES = {
     DIFFER.format("2147483648", "2147483649"): "terms differ",
     DIFFER.format("c .args .time", "Rattle.one.proofs.f.Lts.m1 (Rattle.one.proofs.f.Lts.After-g·gave (c .before))"): "terms differ",
     "expected type `fresh s ≡ false`, but this has type `fresh s ≡ t`\n  `t` is not in scope here, so what is shown does not paste back": "terms differ",
+    "computed as far as they go, the two values are `record {ssrc = 0}` (found) and `record {ssrc = 1}` (required)": "terms differ",
     "`omega`: the goal does not follow from what it read. All of that holds, and the goal fails, at `c .n` = 3": "it fails at values",
     "`search`: no proof of `Post c`": "a need is open",
     "`rw`: no occurrence of the path's left endpoint in the goal: write the family yourself": "an equation is not there",
