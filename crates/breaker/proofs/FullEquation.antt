@@ -1,9 +1,10 @@
--- The setting of the full equation: off it changes nothing, and on it triggers only where the exact equation does. Assumes nothing.
+-- The setting of the full equation: off it changes nothing; on it triggers where that equation says, and only where the exact one does. Assumes nothing.
 use mathlib.Core.Path.{_≡_, refl, sym, _∙_, ap}
 use mathlib.Core.Bool.{Bool}
 use Prim.Native.Nat.{ℕ}
 use native.Mathlib.Nat.{div-eq-of-lt}
-use Rattle.roots.specs.FullCondition.{conditionAt}
+use Rattle.roots.specs.FullCondition.{lossOf, conditionAt}
+use Rattle.roots.proofs.Equation.{full-above-ten-times}
 use Rattle.roots.proofs.Exact.{exact-triggers-too, full-example}
 use Rattle.roots.proofs.Losses.{never-at-zero}
 use Rattle.breaker.specs.declared.Settings.{Settings}
@@ -12,7 +13,7 @@ use Rattle.breaker.specs.declared.Report.{Report}
 use Rattle.breaker.specs.Windows.{W, P}
 use Rattle.breaker.specs.Condition.{conditionBy}
 use Rattle.breaker.specs.Rules.{lastIntervals, holds}
-use Rattle.breaker.specs.FullEquation.{SettingOff, PresetOff, TriggersExactToo, NeverWithoutLoss, ReactsEarlier}
+use Rattle.breaker.specs.FullEquation.{SettingOff, PresetOff, SettingOn, TriggersExactToo, NeverWithoutLoss, ReactsEarlier}
 
 -- the condition by the setting
 by-setting : (s : Settings) (w : Window) (r : Report) (full : Bool) → s .full ≡ full
@@ -25,6 +26,10 @@ setting-off s w r e = by-setting s w r _ e
 
 pub preset-off : PresetOff
 preset-off = refl
+
+pub setting-on : SettingOn
+setting-on s w r e =
+    by-setting s w r _ e ∙ full-above-ten-times (r .rate) (r .rtt) (lossOf (P (lastIntervals s w)) (W (lastIntervals s w))) (r .size)
 
 pub triggers-exact-too : TriggersExactToo
 triggers-exact-too s w r e h =

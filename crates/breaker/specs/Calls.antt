@@ -1,4 +1,4 @@
--- Document 01, "The breaker" and "Refusal numbers", and 02, request L4: the calls, each with its answers in their order.
+-- Document 01, "The breaker" and "Refusal numbers", and 02, requests L4 and L9: the calls, each with its answers in their order.
 use mathlib.Core.Bool.{Bool, false, _||_, not, cond}
 use Prim.Native.Nat.{ℕ}
 use lib.Dec.{leb, ltb}

@@ -3,7 +3,8 @@ use mathlib.Core.Path.{_≡_}
 use mathlib.Core.Bool.{Bool, true, false}
 use mathlib.Core.List.{[], _∷_}
 use Prim.Native.Nat.{ℕ, _*_, _<_}
-use Rattle.roots.specs.Theorems.{exactCondition}
+use Rattle.roots.specs.FullCondition.{lossOf}
+use Rattle.roots.specs.Theorems.{aboveTenTimes, exactCondition}
 use Rattle.breaker.specs.declared.Settings.{Settings}
 use Rattle.breaker.specs.declared.Interval.{Interval}
 use Rattle.breaker.specs.declared.Window.{Window}
@@ -31,6 +32,12 @@ abbrev pub SettingsKept : Type 0
 SettingsKept = (b : Breaker) (c : Call) → called b c .breaker .settings ≡ b .settings
 
 -- ---- on
+
+-- the condition is "rate above ten times the full equation", with b = 1, t_RTO = 4 · Tr, the roots rounded down to 2^20ths and p = P / (256 · W) to n / 1024
+abbrev pub SettingOn : Type 0
+SettingOn =
+    (s : Settings) (w : Window) (r : Report) → s .full ≡ true
+    → holds s w r ≡ aboveTenTimes (r .rate) (r .rtt) (lossOf (P (lastIntervals s w)) (W (lastIntervals s w))) (r .size)
 
 -- where the condition holds, rate is above ten times the exact equation at the exact p = P / (256 · W), over the same intervals
 abbrev pub TriggersExactToo : Type 0

@@ -1,4 +1,4 @@
--- Document 01, "The breaker", and 02, requests L4 and L9: the rules for a report that is not refused.
+-- Document 01, "The breaker", and 02, requests L2, L4 and L9: the rules for a report that is not refused.
 use mathlib.Core.Bool.{Bool, true, false, _&&_, _||_, not, cond}
 use mathlib.Core.List.{List}
 use Prim.Native.Nat.{ℕ, _+_, _-_, _^_, min}

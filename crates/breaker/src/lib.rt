@@ -1,4 +1,4 @@
-// The sender's circuit breaker (document 01, "The breaker", and 02, request L2; RFC 8083, sections 4.1 to 4.3 and 5).
+// The sender's circuit breaker (document 01, "The breaker"; 02, requests L2, L4 and L9; RFC 8083, sections 4.1 to 4.3 and 5).
 ghost use mathlib.Core.Path.{_≡_};
 ghost use Rattle.breaker.specs.Answers.{reasonNumber, answers, stops};
 ghost use Rattle.breaker.specs.Rules.{stored};

@@ -1,5 +1,5 @@
-// One run of the program ecntable, block by block (document 01, "Trace file" and "Table"). Block 0 holds the label; the caller keeps it, and
-// lends it again with each later block.
+// One run of the program ecntable, block by block (document 01, "Trace file" and "Table"; 02, requests L5 and L10). Block 0 holds the label; the
+// caller keeps it, and lends it again with each later block.
 use answers::Refusal;
 use format::Form;
 use source::Totals;

@@ -1,4 +1,4 @@
-// What packets and traces carry, and the one place of a trace block's numbers (document 01, "Trace file").
+// What packets and traces carry, and the one place of a trace block's numbers (document 01, "Trace file"; 02, request L10).
 ghost use mathlib.Core.Path.{_≡_};
 ghost use Rattle.format.specs.Forms.{shapeOf, width, timeLimit, otherForm, kindOf};
 

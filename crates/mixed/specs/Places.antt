@@ -1,4 +1,4 @@
--- Lines in rising order of SSRC, each line something that has one (document 02, L1: "the table holds up to 16 sources in rising order of SSRC").
+-- Lines in rising order of SSRC, each line something that has one (document 02, L1: "in rising order of SSRC with no SSRC twice").
 use Prim.Native.Nat.{ℕ, suc}
 use mathlib.Core.Bool.{cond}
 use mathlib.Core.List.{List, [], _∷_}

@@ -32,13 +32,15 @@ seconds Tr = record { top = Tr; bottom = 1000 }
 abbrev pub unscaled : ℕ → Fraction
 unscaled r = record { top = r; bottom = 2 ^ 20 }
 
--- the condition is "rate above ten times the full equation", with p rounded down to n / 1024 and the roots rounded down to 2^20ths
-abbrev pub FullAboveTenTimes : Type 0
-FullAboveTenTimes =
-    (rate Tr n s : ℕ)
-    → conditionAt rate Tr n s
-    ≡ above (whole rate)
+-- rate above ten times the full equation, with p rounded down to n / 1024 and the roots rounded down to 2^20ths
+abbrev pub aboveTenTimes : ℕ → ℕ → ℕ → ℕ → Bool
+aboveTenTimes rate Tr n s =
+    above (whole rate)
     (whole 10 times throughput (whole s) (seconds Tr) (whole 4 times seconds Tr) (loss n) (unscaled (roundTripRoot n)) (unscaled (timeoutRoot n)))
+
+-- the condition is just that
+abbrev pub FullAboveTenTimes : Type 0
+FullAboveTenTimes = (rate Tr n s : ℕ) → conditionAt rate Tr n s ≡ aboveTenTimes rate Tr n s
 
 -- √(3bp/8) is 3/4 · √(2bp/3), over squares: 3/8 = (3/4)² · 2/3
 abbrev pub RatioOfRoots : Type 0

@@ -1,5 +1,5 @@
-// The two roots of the full throughput equation (RFC 8083, section 4.3), from tables, and its denominator with them; docs/BREAKER.md
-// derives both. p is taken in 1024ths: p = n / 1024.
+// The two roots of the full throughput equation (document 02, request L9; RFC 8083, section 4.3), from tables, and its denominator with them;
+// docs/BREAKER.md derives both. p is taken in 1024ths: p = n / 1024.
 ghost use mathlib.Core.Path.{_≡_};
 ghost use Prim.Native.Nat.{min};
 ghost use Rattle.roots.specs.Roots.{roundTripRoot, timeoutRoot};

@@ -1,5 +1,5 @@
-// Compound RTCP (RFC 3550, section 6.1; RFC 5506), read for one media source: its report block, its ECN feedback and its ECN summary entry
-// (RFC 6679, section 5).
+// Compound RTCP (document 01, "Packets"; 02, request L4; RFC 3550, section 6.1; RFC 5506), read for one media source: its report block, its ECN feedback
+// and its ECN summary entry (RFC 6679, section 5).
 ghost use mathlib.Core.Path.{_≡_};
 ghost use mathlib.Core.List.{flatMap};
 ghost use Rattle.rtcp.specs.Packets.{firstFault};

@@ -1,4 +1,4 @@
--- The record of one source and when it is sound (document 01, "Counting arrivals").
+-- The record of one source and when it is sound (document 01, "Counting arrivals"; 02, request L5).
 use Prim.Native.Nat.{ℕ, _+_, _-_, _*_, _^_}
 use mathlib.Core.Bool.{Bool, true, false, not, cond, _||_}
 use mathlib.Core.List.{List, [], _∷_}

@@ -1,4 +1,4 @@
-// One RTP source: its arrivals counted by ECN mark (document 01, "Counting arrivals"). A record goes in and comes back by value.
+// One RTP source: its arrivals counted by ECN mark (document 01, "Counting arrivals"; 02, request L5). A record goes in and comes back by value.
 ghost use mathlib.Core.Path.{_≡_};
 ghost use Rattle.source.specs.Record.{freshRecord, sound, lostAnswer};
 ghost use Rattle.source.specs.Arrivals.{arrival};

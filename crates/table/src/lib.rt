@@ -1,5 +1,5 @@
-// The table (document 01, "Table"): the head line, a row of one source's record, and the line of a refused block. Each writer knows its
-// length before it stores a byte.
+// The table (document 01, "Table"; 02, requests L3 and L5): the head line, a row of one source's record, and the line of a refused block. Each writer
+// knows its length before it stores a byte.
 use answers::Refusal;
 use answers::Written;
 use answers::copy::put_bytes;

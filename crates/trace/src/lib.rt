@@ -1,4 +1,4 @@
-// One block of a trace (document 01, "Trace file"): 512 bytes, read or written by one call.
+// One block of a trace of either form (document 01, "Trace file"; 02, request L10): 512 bytes, read or written by one call.
 use answers::Refusal;
 use format::Form;
 use format::Wire;

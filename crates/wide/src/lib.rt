@@ -1,4 +1,5 @@
-// Exact products of two 64-bit numbers, in two words, and their order. docs/BREAKER.md does the same on paper, under these names.
+// Exact products of two 64-bit numbers, in two words, with each half-product named, and their order (document 02, request L6). docs/BREAKER.md does the
+// same on paper, under these names.
 ghost use mathlib.Core.Path.{_≡_};
 ghost use Prim.Native.Nat.{_*_};
 ghost use lib.Dec.{ltb};
