@@ -5,6 +5,7 @@ use mathlib.Core.List.{List, [], _∷_, _++_}
 use mathlib.Core.Option.{none}
 use Prim.Native.Nat.{ℕ, suc, _^_, _≤_, _<_}
 use native.Mathlib.Omega.{arith}
+use borrow.Author.Tests.{eq-eqb}
 use lib.ListN.{length, take, drop, length-append}
 use lib.Seq.{take-at, drop-at}
 use Rattle.answers.specs.Refusals.{numberOf}
@@ -16,7 +17,7 @@ use Rattle.format.specs.declared.Form.the-variants.{One, Two}
 use Rattle.trace.specs.Contents.{every, isTime}
 use Rattle.trace.specs.Layout.{labelBlock, bodyOf}
 use Rattle.trace.specs.Reading.{blockOf}
-use Rattle.trace.specs.Theorems.{listOf}
+use Rattle.trace.specs.Theorems.{recordsIn, listOf}
 use Rattle.trace.specs.Writing.{labelFault}
 use Rattle.trace.specs.declared.Block.the-variants.{Label}
 use Rattle.trace.specs.declared.Record.{Record}
@@ -30,14 +31,14 @@ use Rattle.walk.specs.Blocks.{cut, blocksOf, joined}
 use Rattle.walk.specs.Programs.{Printed}
 use Rattle.walk.proofs.Cuts.{Each, cut-joined, joined-long}
 use Rattle.forms.specs.Packing.{full, packed}
-use Rattle.forms.specs.Conversions.{allTimes, Next, goes, refuses, nextOf}
+use Rattle.forms.specs.Conversions.{allTimes, Next, goes, refuses, timed, nextOf}
 use Rattle.forms.specs.Converted.{Kept, converted}
-use Rattle.forms.specs.Theorems.{takenFrom, recordsTaken, Reads, ConvertedReads, Returns, SameRecords}
+use Rattle.forms.specs.Theorems.{takenFrom, recordsTaken, Convertible, ConvertsWhole, Reads, ConvertedReads, Returns, SameRecords}
 use Rattle.forms.proofs.Gathered.{Fine, fine-append, fine-other, every-append}
 use Rattle.forms.proofs.Whole.{brings, fine-brought, next, rest, rest-none, rest-ends, rest-goes, converted-started, packs}
 use Rattle.forms.proofs.Calls.{octets-blocks}
 use Rattle.forms.proofs.Written.{octets-packed}
-use Rattle.forms.proofs.Traces.{blocksIn, packed-joined, Goes, Brought, packed-brought}
+use Rattle.forms.proofs.Traces.{same-self, blocksIn, packed-joined, Goes, Brought, packed-brought}
 
 -- ---- a run that tells of no refused block has none
 
@@ -57,6 +58,18 @@ going-on i (b ∷ bs) k h = go (nextOf (k .form) (k .ssrc) b) refl (λ records. 
 nothing-told : (i : ℕ) (bs : List (List ℕ)) (k : Kept) → Each (Goes (k .form) (k .ssrc)) bs → rest i bs k .err ≡ []
 nothing-told i [] k g = ap (λ (p : Printed). p .err) (rest-none i k)
 nothing-told i (b ∷ bs) k g = ap (λ (p : Printed). p .err) (rest-goes i b bs k (g .0 .goes-on)) ∙ nothing-told (suc i) bs (next k (g .0 .records)) (g .1)
+
+-- blocks that hold what the other form has bytes for go on
+can-go : (form : Form) (ssrc : ℕ) (bs : List (List ℕ)) → Convertible form ssrc bs → Each (Goes form ssrc) bs
+unfolding nextOf timed
+can-go form ssrc [] c = tt
+can-go form ssrc (b ∷ bs) c =
+    (record { records = recordsIn (shapeOf form) (c .0) (bodyOf b); goes-on = rw (c .1, same-self form, eq-eqb ssrc ssrc refl, c .2) }, can-go form ssrc bs (c .3))
+
+pub converts-whole : ConvertsWhole
+converts-whole trace form n ssrc label c =
+    ap (λ (p : Printed). p .err) (converted-started trace label)
+    ∙ nothing-told 1 (blocksOf trace .others) (record { form = form; ssrc = ssrc; held = [] }) (can-go form ssrc (blocksOf trace .others) c)
 
 -- ---- both forms have bytes for the records of a trace
 

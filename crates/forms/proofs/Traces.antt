@@ -46,7 +46,7 @@ numbers-below shape [] h i = omega arith
 numbers-below shape (r ∷ rs) h zero = h .0 .number
 numbers-below shape (r ∷ rs) h (suc i) = numbers-below shape rs (h .1) i
 
-same-self : (form : Form) → sameForm form form ≡ true
+pub same-self : (form : Form) → sameForm form form ≡ true
 same-self One = refl
 same-self Two = refl
 

@@ -1,5 +1,6 @@
 -- Request L10: what holds between the calls, the packing and the two forms.
 use mathlib.Core.Path.{_≡_}
+use mathlib.Core.Bool.{true}
 use mathlib.Core.List.{List, [], _∷_, _++_}
 use Prim.Native.Nat.{ℕ, suc, _*_, _≤_, _<_}
 use lib.ListN.{length, take, drop}
@@ -10,14 +11,14 @@ use Rattle.format.specs.Forms.{shapeOf, otherForm}
 use Rattle.format.specs.declared.Form.{Form}
 use Rattle.trace.specs.Layout.{labelBlock, bodyOf}
 use Rattle.trace.specs.Reading.{countIn, blockOf}
-use Rattle.trace.specs.Theorems.{Below}
-use Rattle.trace.specs.declared.Block.the-variants.{Label}
+use Rattle.trace.specs.Theorems.{Below, recordsIn}
+use Rattle.trace.specs.declared.Block.the-variants.{Label, Arrivals}
 use Rattle.trace.specs.declared.Record.{Record}
 use Rattle.table.specs.Lines.{refusedLine}
 use Rattle.walk.specs.Blocks.{Blocks, blocksOf}
 use Rattle.walk.specs.Programs.{Printed, both}
 use Rattle.forms.specs.Packing.{packed}
-use Rattle.forms.specs.Conversions.{beginBytes, beginOf, beginStored, Next, goes, refuses, nextOf, callNext, bytesIn, stepOf, storedOf, keptBy, closeFault, closeBytes}
+use Rattle.forms.specs.Conversions.{beginBytes, beginOf, beginStored, Next, goes, refuses, nextOf, callNext, bytesIn, stepOf, storedOf, keptBy, closeFault, closeBytes, allTimes}
 use Rattle.forms.specs.Converted.{toOutput, converted}
 use Rattle.forms.specs.declared.Conversion.{Conversion}
 use Rattle.forms.specs.declared.Begin.{Begin}
@@ -108,6 +109,21 @@ pub record RoomForBlocks (c : Conversion) (part : List ℕ) (next : Next) (n : �
 abbrev pub BlocksRoomIsExact : Type 0
 BlocksRoomIsExact =
     (c same : Conversion) (part : List ℕ) (next : Next) (old : List ℕ) (n : ℕ) → stepOf c part next old ≡ step.Room n same → RoomForBlocks c part next n
+
+-- ---- a trace that is converted whole
+
+-- each block holds arrivals of this form and SSRC, with times that the other form has bytes for
+abbrev pub Convertible : Form → ℕ → List (List ℕ) → Type 0
+Convertible form ssrc [] = Unit {0}
+Convertible form ssrc (b ∷ bs) =
+    (n : ℕ) × (blockOf b ≡ Arrivals form n ssrc) × (allTimes (shapeOf (otherForm form)) (recordsIn (shapeOf form) n (bodyOf b)) ≡ true)
+    × Convertible form ssrc bs
+
+-- then no block is refused
+abbrev pub ConvertsWhole : Type 0
+ConvertsWhole =
+    (trace : List ℕ) (form : Form) (n ssrc : ℕ) → blockOf (blocksOf trace .zeroth) ≡ Label form n ssrc → Convertible form ssrc (blocksOf trace .others)
+    → converted trace .err ≡ []
 
 -- ---- what was converted reads as the same label, SSRC and records, those before the first block that was refused
 

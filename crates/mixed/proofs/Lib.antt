@@ -14,4 +14,5 @@ pub mod Onward
 pub mod Beside
 pub mod Whole
 pub mod Rises
+pub mod Suffice
 pub mod Witnesses

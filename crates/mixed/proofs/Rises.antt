@@ -30,10 +30,10 @@ use Rattle.mixed.proofs.Standing.{length-added}
 
 -- ---- SSRCs by themselves
 
-abbrev self : ℕ → ℕ
+abbrev pub self : ℕ → ℕ
 self ssrc = ssrc
 
-renewed-same : (new : ℕ) (ss : List ℕ) → renewedBy self new ss ≡ ss
+pub renewed-same : (new : ℕ) (ss : List ℕ) → renewedBy self new ss ≡ ss
 unfolding renewedBy
 renewed-same new [] = refl
 renewed-same new (s ∷ ss) = go (eqb s new) refl (renewed-same new ss)
@@ -72,7 +72,7 @@ module _ (new : ℕ) where
 
 -- ---- the lines behind a block
 
-abbrev ssrcOf : Line → ℕ
+abbrev pub ssrcOf : Line → ℕ
 ssrcOf l = l .ssrc
 
 abbrev Keeps : Next Line → Type 0

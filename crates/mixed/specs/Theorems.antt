@@ -1,12 +1,18 @@
 -- What holds between the calls and the whole run.
 use mathlib.Core.Path.{_≡_}
+use mathlib.Core.Bool.{Bool, true, false, _||_}
 use mathlib.Core.List.{List, [], _∷_, _++_, map}
+use mathlib.Core.Option.{none}
 use Prim.Native.Nat.{ℕ, zero, suc, _*_, _≤_, _<_}
+use lib.Dec.{eqb}
 use lib.ListN.{length, take, drop, getD}
 use Rattle.answers.specs.Refusals.{numberOf}
 use Rattle.answers.specs.Writers.{written, stored, lengthIn}
 use Rattle.answers.specs.declared.Refusal.{Refusal}
 use Rattle.format.specs.Blocks.{blockBytes}
+use Rattle.format.specs.declared.Form.{Form}
+use Rattle.trace.specs.Reading.{blockOf}
+use Rattle.trace.specs.declared.Block.the-variants.{Label, Arrivals}
 use Rattle.table.specs.Lines.{headBytes, refusedLine}
 use Rattle.walk.specs.Blocks.{Blocks, blocksOf}
 use Rattle.walk.specs.Programs.{both, walked, printedBy}
@@ -93,3 +99,22 @@ LinesRise = (bs : Blocks) → InOrder (walked ecnstreams bs .state .lines)
 -- what is printed for any blocks is the head line and what the end prints: the row of each of these lines, in this order, or the refused line alone
 abbrev pub HeadThenRows : Type 0
 HeadThenRows = (bs : Blocks) → printedBy ecnstreams bs ≡ both (toOutput headBytes) (ended (walked ecnstreams bs .state) (walked ecnstreams bs .ended))
+
+-- ---- a trace that is taken whole
+
+-- whether an SSRC is in a list
+abbrev pub among : ℕ → List ℕ → Bool
+among ssrc [] = false
+among ssrc (s ∷ ss) = eqb s ssrc || among ssrc ss
+
+-- each block holds arrivals of this form, of a source in the list
+abbrev pub OfSources : Form → List ℕ → List (List ℕ) → Type 0
+OfSources form ssrcs [] = Unit {0}
+OfSources form ssrcs (b ∷ bs) =
+    (n : ℕ) × (ssrc : ℕ) × (blockOf b ≡ Arrivals form n ssrc) × (among ssrc ssrcs ≡ true) × OfSources form ssrcs bs
+
+-- behind a label of that form, and with at most 16 in the list, no block is refused
+abbrev pub SixteenSuffice : Type 0
+SixteenSuffice =
+    (trace ssrcs : List ℕ) (form : Form) (n ssrc : ℕ) → blockOf (blocksOf trace .zeroth) ≡ Label form n ssrc
+    → OfSources form ssrcs (blocksOf trace .others) → length ssrcs ≤ mostLines → walked ecnstreams (blocksOf trace) .ended ≡ none

@@ -98,7 +98,7 @@ sound-of : (s : Source) → Facts s → sound s ≡ true
 sound-of s f = has-counted-sound s (facts-count s f)
 
 -- what is remembered is not judged in a record that has counted
-remembering-sound : (s : Source) (number : Wire) → hasCounted s ≡ true → sound (remembering s number) ≡ true
+pub remembering-sound : (s : Source) (number : Wire) → hasCounted s ≡ true → sound (remembering s number) ≡ true
 unfolding remembering hasCounted
 remembering-sound s number e = has-counted-sound (remembering s number) e
 
