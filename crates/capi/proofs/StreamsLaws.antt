@@ -9,6 +9,7 @@ use lib.Dec.{eqb}
 use lib.ListN.{length, getD}
 use lib.Seq.{take-all}
 use Rattle.answers.proofs.Conditions.{and-left, and-right}
+use Rattle.format.specs.declared.Form.the-variants.{Two}
 use Rattle.mixed.specs.declared.Run.{Run}
 use Rattle.lent.specs.FormWords.{isForm}
 use Rattle.lent.proofs.SourceLaws.{elements, elements-are}
@@ -44,3 +45,8 @@ streams-words-back words run e =
     let h = held words e in
     let form = form-word (getD words 0 0) (and-right (eqb (length words) 3) (isForm (getD words 0 0)) (h .1)) in
     ap runWords (h .2) ∙ ap (λ (n : ℕ). n ∷ getD words 1 0 ∷ getD words 2 0 ∷ []) form ∙ sym (elements-are words 0 3 (omega (arith, h .0))) ∙ take-all 3 words (omega (arith, h .0))
+
+-- form 2, a label of 13 bytes, 3 lines held
+used : Unit {0}
+unfolding loaded
+used = let back = streams-words-back (2 ∷ 13 ∷ 3 ∷ []) (record { form = Two; length = 13; held = 3 }) refl in tt

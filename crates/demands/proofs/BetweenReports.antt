@@ -13,16 +13,18 @@ use Rattle.source.specs.Distances.{reachOf}
 use Rattle.source.specs.Arrivals.{counted, first, ahead, behind, distance, arrival}
 use Rattle.report.specs.Carried.{highestOf, countsOf}
 use Rattle.between.specs.Differences.{signalsOf, expectingOf}
-use Rattle.between.proofs.Exact.{between-exact}
-use Rattle.demands.specs.BetweenReports.{truthOf, BetweenReports, expectedBy, ExpectedBetween, BetweenC1}
+use Rattle.between.specs.Theorems.{Carry}
+use Rattle.between.proofs.Exact.{signals-exact, between-exact, given-in-limits}
+use Rattle.demands.specs.BetweenReports.{truthOf, BetweenReports, expectedBy, ExpectedBetween, second, last, BetweenC1}
+
+-- a report's counters carry those of its record
+carry : (s : Source) → Carry (countsOf s) (truthOf s)
+unfolding countsOf
+carry s = record { ce = refl; lost = refl }
 
 pub between-reports : BetweenReports
-unfolding countsOf
 between-reports s t sender told ahead =
-    between-exact (truthOf s) (truthOf t) (countsOf s) (countsOf t) (highestOf s) (highestOf t)
-    (record { ce = refl; lost = refl })
-    (record { ce = refl; lost = refl })
-    refl refl told ahead
+    between-exact (truthOf s) (truthOf t) (countsOf s) (countsOf t) (highestOf s) (highestOf t) (carry s) (carry t) refl refl told ahead
 
 -- the same number more on both sides
 shifted : (x y k : ℤ) → (x +ℤ k) -ℤ (y +ℤ k) ≡ x -ℤ y
@@ -53,3 +55,14 @@ between-c1 =
       ahead = record { some = leZ-yes tt; few = ltZ-yes tt };
       counts = refl;
     }
+
+-- each theorem at C1's reports, those of `between` too
+used : Unit {0}
+used =
+    let c = between-c1 in
+    let reports = between-reports second last 9 (c .told) (c .ahead) in
+    let expected = expected-between second last (c .counted .0) (c .counted .1) (c .counted .2) in
+    let signals = signals-exact (truthOf second) (truthOf last) (countsOf second) (countsOf last) (carry second) (carry last) (c .told) in
+    let exact = between-exact (truthOf second) (truthOf last) (countsOf second) (countsOf last) (highestOf second) (highestOf last) (carry second) (carry last) refl refl (c .told) (c .ahead) in
+    let limits = given-in-limits (countsOf second) (countsOf last) (highestOf second) (highestOf last) (record { lost = pos 2; marked = 2; expected = 4 }) (c .counts) in
+    tt

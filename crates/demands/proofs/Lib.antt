@@ -23,5 +23,6 @@ pub mod BetweenReports
 pub mod WorseLoss
 pub mod Witnesses
 pub mod Uses
+pub mod WitnessesBreaker
 pub mod WitnessesBetween
 pub mod WitnessesSources

@@ -1,14 +1,13 @@
 -- Each theorem that has hypotheses, at the values that meet them: what `Met` says is what the theorems ask. Assumes nothing.
 use mathlib.Core.Path.{_≡_, refl}
-use mathlib.Core.Bool.{true}
 use mathlib.Core.List.{[], _∷_}
 use mathlib.Core.Option.{none}
-use Prim.Native.Nat.{ℕ, _+_}
+use Prim.Native.Nat.{ℕ}
 use native.Mathlib.Omega.{arith}
 use lib.IntN.{pos}
 use lib.ListN.{length, take, replicate}
-use Rattle.answers.specs.declared.Refusal.the-variants.{PacketSize, Time}
-use Rattle.answers.proofs.Stores.{room-is-exact}
+use Rattle.answers.specs.declared.Refusal.the-variants.{PacketSize}
+use Rattle.answers.proofs.Stores.{room-is-exact, room-is-asked}
 use Rattle.numbers.proofs.Differences.{since-exact, signed-exact}
 use Rattle.format.specs.declared.Form.the-variants.{One}
 use Rattle.source.proofs.Kept.{sound-stays}
@@ -23,21 +22,13 @@ use Rattle.table.specs.Texts.{codes}
 use Rattle.table.proofs.RowFits.{row-fits}
 use Rattle.table.proofs.RowSplits.{row-splits}
 use Rattle.table.proofs.Splitting.{line-splits}
-use Rattle.breaker.specs.Calls.{preset}
-use Rattle.breaker.specs.Runs.{tick}
-use Rattle.breaker.specs.declared.Reason.the-variants.{Timeout}
-use Rattle.breaker.specs.FullEquation.{settingsC10, windowC10, reportC10}
-use Rattle.breaker.proofs.FullEquation.{setting-off, preset-off, triggers-exact-too, never-without-loss, reacts-earlier}
-use Rattle.breaker.proofs.HeardPackets.{heard-holds, heard-unseen}
-use Rattle.breaker.proofs.AsBefore.{call-as-before, run-as-before}
-use Rattle.breaker.proofs.Runs.{sound-start, sound-call, sound-run, typed-call, refused-keeps, stays-stopped}
 use Rattle.walk.proofs.Walks.{nothing-follows}
 use Rattle.convert.specs.Runs.{callNext}
 use Rattle.convert.specs.Tables.{ecntable}
 use Rattle.convert.proofs.Steps.{row-room-is-exact}
 use Rattle.convert.proofs.Whole.{calls-print}
 use Rattle.demands.specs.Calls.{run}
-use Rattle.demands.specs.Witnesses.{wrapped, reordered, c1Packets, text, label, c1Block, block, whole, cut, begun, reported, notLater, heardOn}
+use Rattle.demands.specs.Witnesses.{wrapped, reordered, c1Packets, text, label, c1Block, whole, cut, begun}
 use Rattle.forms.specs.Witnesses.{trace}
 use Rattle.forms.proofs.Witnesses.{met as forms-met}
 use Rattle.demands.proofs.BothForms.{both-forms}
@@ -52,6 +43,7 @@ used =
     let order = d .order reordered (met .again .0) (met .again .1) (met .again .2) in
     let row = d .row text 1 3 2 (met .label-ok) (met .few-jumped) (met .few-restarts) in
     let table = table-holds-count whole text 1 c1Packets (met .c1-described) (met .held) in
+    let table-last = table .last (omega arith) in
     let last = same-last-row whole cut text 1 c1Packets c1Packets (met .c1-described) (met .c1-described) (met .held) (met .recut) (λ p. refl) refl (omega arith) in
     let calls = calls-print (λ _. replicate 100 0) whole (met .bytes) (met .enough) in
     let follows = nothing-follows _ ecntable 1 (record { run = begun; zeroth = label }) ([] ∷ []) (c1Block ∷ []) _ (met .ends) in
@@ -62,28 +54,24 @@ used =
     let line = line-splits text (codes "a \"b\"" ∷ []) [] (met .plain) in
     let arrivals-back = arrivals-read-back One (0 ∷ 20 ∷ []) (65534 ∷ 65535 ∷ []) (2 ∷ 2 ∷ []) 1 (met .lists-fit) (met .numbers-fit) (met .ssrcs .1) in
     let arrivals-written = arrivals-are-written One c1Block 5 1 (met .arrivals-bytes) (met .arrivals-read) in
+    let found-back = arrivals-back .1 0 (omega arith) in
+    let found-written = arrivals-written .1 0 (record { time = 0; number = record { 0 = 0 }; mark = 0 }) (omega arith) in
     let since = since-exact 16 (pos 65540) (pos 65530) (met .since .0) (met .since .1) in
     let signed = signed-exact 15 (pos 2) (pos 7) (met .signed .0) (met .signed .1) in
     let stays = sound-stays (run c1Packets) (record { 0 = 4 }) 1 (omega arith) (met .c1-sound) in
-    let start = sound-start preset 0 (met .starts) in
-    let runs = sound-run preset 0 (notLater ∷ []) (met .starts) in
-    let call = sound-call reported notLater (met .breaker-typed .places) (met .breaker-sound) in
-    let typed = typed-call reported notLater (met .breaker-typed) (met .number-fits) in
-    let keeps = refused-keeps reported notLater Time (met .refuses) in
-    let stops = stays-stopped reported (tick 20001) Timeout (notLater ∷ []) (met .stops) in
-    let holds = heard-holds reported 6000 (met .hears) in
-    let unseen = heard-unseen reported 5001 6000 heardOn (met .untimed-reported) (met .untimed-heard) in
-    let before = call-as-before reported notLater refl (met .unheard) in
-    let run-before = run-as-before preset 0 (notLater ∷ []) (met .starts) (met .none-heard) in
-    let off = setting-off preset windowC10 (reportC10 31607) preset-off in
-    let exact = triggers-exact-too (settingsC10 true) windowC10 (reportC10 31607) refl (reacts-earlier .triggers) in
-    let quiet = never-without-loss (settingsC10 true) (record { used = 1; intervals = record { length = 5000; fraction = 0 } ∷ [] }) (reportC10 31607) refl (omega arith) in
     let feedback = feedback-reads-back (run c1Packets) 5 9 1 Profile.ReducedSize (met .ssrcs .0) (met .ssrcs .1) in
     let summary = summary-reads-back (run c1Packets) 5 1 Profile.ReducedSize (met .ssrcs .1) in
     let accepted = profiles-agree (receiverReport 5) 1 .accepted _ (met .rr-read) in
     let refused = profiles-agree (take 6 (receiverReport 5)) 1 .refused PacketSize (λ e. let z : _≡_ {A = ℕ} 0 1 = cc in absurd (omega arith)) (met .rr-cut) in
     let fits = row-fits text 1 (record { source = run c1Packets; jumped = 3; restarts = 2 }) (met .ssrcs .1) (met .row-accepted) in
     let room = room-is-exact none (feedbackBytes 9 1 (run c1Packets)) (replicate 31 0) 32 (met .room) in
+    let room-given = room .given (replicate 32 0) refl in
+    let room-changed = room .changed (replicate 32 0) refl in
+    let room-fewer = room .fewer (replicate 31 0) (omega arith) in
+    let room-asked = room-is-asked (feedbackBytes 9 1 (run c1Packets)) (replicate 31 0) (omega (arith, room .long)) in
     let row-room = row-room-is-exact begun begun (callNext begun label c1Block) label (replicate 40 0) 41 (met .row-room) in
+    let row-given = row-room .given (replicate 41 0) refl in
+    let row-changed = row-room .changed (replicate 41 0) refl in
+    let row-fewer = row-room .fewer (replicate 40 0) (omega arith) in
     let forms = both-forms trace One 2 1 (forms-met .octets) (forms-met .label) (forms-met .taken) (forms-met .some) in
     tt

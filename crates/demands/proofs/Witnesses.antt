@@ -1,18 +1,17 @@
 -- The hypotheses are met. Assumes nothing.
 use mathlib.Core.Path.{_≡_, refl}
-use mathlib.Core.Bool.{Bool, true, false}
-use mathlib.Core.List.{List, [], _∷_, map, flatMap}
+use mathlib.Core.Bool.{true}
+use mathlib.Core.List.{[], _∷_, flatMap}
 use mathlib.Core.Option.{none}
-use Prim.Native.Nat.{ℕ, zero, suc, _^_, _≤_, _<_}
+use Prim.Native.Nat.{_^_, _≤_}
 use lib.ListN.{length, take, drop, replicate}
 use native.Mathlib.Omega.{arith}
 use lib.Count.{ones, onesIn}
 use lib.Dec.{leb→le}
 use lib.Signed.{leZ-yes, ltZ-yes}
 use Rattle.answers.specs.Writers.{written}
-use Rattle.answers.specs.declared.Refusal.the-variants.{PacketSize, Time}
+use Rattle.answers.specs.declared.Refusal.the-variants.{PacketSize}
 use Rattle.answers.specs.declared.Written.the-variants.{Room}
-use Rattle.answers.specs.Conditions.{all}
 use Rattle.numbers.specs.BigEndian.{word, bytes}
 use Rattle.numbers.specs.Since.{since}
 use Rattle.format.specs.Blocks.{blockBytes}
@@ -36,22 +35,11 @@ use Rattle.trace.specs.Reading.{rightCheck, contentsOf, blockOf}
 use Rattle.trace.specs.Writing.{labelFault, recordsOf, arrivalsOk, arrivalsFault}
 use Rattle.trace.specs.Theorems.{recordsIn}
 use Rattle.trace.proofs.Limits.{below}
-use Rattle.trace.specs.declared.Block.the-variants.{Label, Arrivals}
+use Rattle.trace.specs.declared.Block.the-variants.{Label}
 use Rattle.table.specs.Decimal.{digitsOf, decimal, signed}
 use Rattle.table.specs.Field.{special, anySpecial, doubledByte, doubled, asField, line}
 use Rattle.table.specs.Lines.{rowFault, rowBytes}
 use Rattle.table.specs.Theorems.{plain, allPlain}
-use Rattle.breaker.specs.Calls.{startOf, reportOf, timed, tickOf, holding, heardOf}
-use Rattle.breaker.specs.Limits.{settingsOk, reportOk}
-use Rattle.breaker.specs.Rules.{runAfter, windowAfter, holds, ruledBy, ruled}
-use Rattle.breaker.specs.Runs.{tick, called, answersOf, after}
-use Rattle.breaker.specs.WithoutHeard.{soundBefore}
-use Rattle.breaker.specs.HeardPackets.{untimed, Unheard}
-use Rattle.breaker.specs.Soundness as Breakers
-use Rattle.breaker.specs.Theorems.{Typed}
-use Rattle.breaker.specs.Windows.{emptyWindow}
-use Rattle.breaker.specs.declared.Answer.the-variants.{Go, Stop, Refused}
-use Rattle.breaker.specs.declared.Reason.the-variants.{Timeout}
 use Rattle.walk.specs.Blocks as Blocks
 use Rattle.walk.specs.Blocks.{blocksOf}
 use Rattle.walk.specs.Programs.{onward, walk, walked}
@@ -65,7 +53,7 @@ use Rattle.mixed.specs.Tables.{ecnstreams}
 use Rattle.mixed.specs.Witnesses.{trace as sources}
 use Rattle.demands.specs.Calls.{run}
 use Rattle.demands.specs.PrintedTable.{Holds}
-use Rattle.demands.specs.Witnesses.{Met, c1Packets, text, label, c1Block, whole, cut, begun, reported, notLater, heardOn}
+use Rattle.demands.specs.Witnesses.{Met, c1Packets, text, label, c1Block, whole, cut, begun}
 use Rattle.demands.proofs.ReadBack.{nothing-made-up}
 
 -- ---- blocks, computed
@@ -99,7 +87,7 @@ row-room : stepOf begun (callNext begun label c1Block) label (replicate 40 0) �
 unfolding labelBlock arrivalsBlock recordsOf recordBytes recordsBytes header filled checked bytes words onesAdd onesSum word blockOf rightCheck contentsOf labelBody labelByte every arrivalsBody countOk goodRecords callNext soundRun labelOk nextOf arrived blockCount sound fresh hasCounted packets countAll arrival first counted distance reachOf ahead behind pack marks place moved added rowOf rowBytes asField anySpecial special doubled doubledByte decimal digitsOf signed line lost places ones onesIn written
 row-room = refl
 
--- ---- C1's record, and a breaker's, computed
+-- ---- C1's record, computed
 
 c1-sound : sound (run c1Packets) ≡ true
 unfolding arrival first counted distance reachOf ahead behind pack marks place moved added sound fresh hasCounted places ones onesIn
@@ -117,33 +105,10 @@ rr-cut : reading (take 6 (receiverReport 5)) 1 Profile.Compound ≡ Reading.Refu
 unfolding reading flatMap beginsIn blocks headerAt padding paddingRight mayStand word bytes receiverReport
 rr-cut = refl
 
-record Breaking : Type 0 where
-  sound : Breakers.sound reported ≡ true
-  typed : Typed reported
-  refuses : called reported notLater .answer ≡ Refused Time
-  stops : called reported (tick 20001) .answer ≡ Stop Timeout
-  hears : heardOf reported 6000 .answer ≡ Go
-  untimed-reported : all (map untimed (answersOf (holding reported 5001) heardOn)) ≡ true
-  untimed-heard : all (map untimed (answersOf (holding reported 6000) heardOn)) ≡ true
-  unheard : Unheard reported
-
-breaking : Breaking
-unfolding since settingsOk reportOk emptyWindow Breakers.sound runAfter windowAfter holds ruledBy ruled startOf reportOf timed tickOf heardOf called answersOf after soundBefore
-breaking = record {
-  sound = refl;
-  typed = record { number = omega arith; places = refl };
-  refuses = refl;
-  stops = refl;
-  hears = refl;
-  untimed-reported = refl;
-  untimed-heard = refl;
-  unheard = record { isSound = refl; held = refl; places = refl };
-}
-
 -- ---- all
 
 pub met : Met
-unfolding labelBlock arrivalsBlock recordsOf recordBytes recordsBytes header filled checked bytes words onesAdd onesSum word blockOf rightCheck contentsOf labelBody labelByte every arrivalsBody countOk goodRecords walk onward nextOf labelFault labelOk arrivalsFault arrivalsOk plain allPlain special startOf settingsOk
+unfolding labelBlock arrivalsBlock recordsOf recordBytes recordsBytes header filled checked bytes words onesAdd onesSum word blockOf rightCheck contentsOf labelBody labelByte every arrivalsBody countOk goodRecords walk onward nextOf labelFault labelOk arrivalsFault arrivalsOk plain allPlain special
 met = record {
   described = record { few = omega arith; steady = (leZ-yes tt, leZ-yes tt, (leZ-yes tt, leZ-yes tt, (leZ-yes tt, leZ-yes tt, (leZ-yes tt, leZ-yes tt, tt)))) };
   again = (
@@ -177,17 +142,6 @@ met = record {
   since = (leZ-yes tt, ltZ-yes tt);
   signed = (leZ-yes tt, ltZ-yes tt);
   c1-sound = c1-sound;
-  starts = refl;
-  breaker-sound = breaking .sound;
-  breaker-typed = breaking .typed;
-  number-fits = refl;
-  refuses = breaking .refuses;
-  stops = breaking .stops;
-  hears = breaking .hears;
-  untimed-reported = breaking .untimed-reported;
-  untimed-heard = breaking .untimed-heard;
-  unheard = breaking .unheard;
-  none-heard = refl;
   ssrcs = (omega arith, omega arith);
   rr-read = nothing-made-up 5 1 Profile.Compound;
   rr-cut = rr-cut;

@@ -10,7 +10,7 @@ use Rattle.source.specs.Blocks.{countAll}
 use Rattle.source.specs.Between.{came, expected}
 use Rattle.source.specs.Distances.{reachOf}
 use Rattle.source.specs.Places.{pack, marks, place, places, moved, added}
-use Rattle.source.proofs.Afresh.{typed-stays, restarts-afresh, refusal-keeps}
+use Rattle.source.proofs.Afresh.{typed-stays, restarts-afresh, second-restarts, refusal-keeps}
 use Rattle.source.proofs.Between.{grows-by-between}
 use Rattle.demands.specs.WitnessesBetween.{wire, onward, earlier, later, MetBetween}
 use Rattle.demands.proofs.Between.{tells-between}
@@ -27,6 +27,7 @@ met-between = record {
   duplicates = refl;
   lost = refl;
   jumps = refl;
+  far = refl;
   typed = refl;
   restarts = refl;
 }
@@ -45,6 +46,7 @@ used =
     let duplicates = told .duplicates (omega arith) in
     let lost = told .lost (rw (m .lost) (leZ-yes tt)) (rw (m .lost) (ltZ-yes tt)) in
     let keeps = refusal-keeps earlier (remembering earlier (wire 30001)) (wire 30000) 2 Jump (m .jumps) in
+    let second = second-restarts earlier (remembering earlier (wire 30001)) (wire 30000) 2 3 (m .jumps) (m .far) (omega arith) in
     let typed = typed-stays (remembering earlier (wire 30001)) (wire 30001) 3 (m .typed) in
     let afresh = restarts-afresh (remembering earlier (wire 30001)) (first freshRecord (wire 30001) 3) (wire 30001) 3 (m .restarts) in
     tt

@@ -41,7 +41,7 @@ use Rattle.breaker.specs.Theorems.{withLoss}
 use Rattle.breaker.proofs.Chains.{by-test}
 use Rattle.breaker.proofs.Calls.{Held, Halted}
 use Rattle.breaker.proofs.Runs.{start-held, call-held, settings-kept, halted-after}
-use Rattle.demands.specs.WorseLoss.{NoBetter, NoBetterCall, NoBetterCalls, isStopped, stoppedBy, WorseLossNeverBuysTime, NoBetterPlaces, withIntervals, InStep, InStepUntilStopped, reportWith, WorseLossExample}
+use Rattle.demands.specs.WorseLoss.{NoBetter, NoBetterCall, NoBetterCalls, isStopped, stoppedBy, WorseLossNeverBuysTime, NoBetterPlaces, withIntervals, InStep, InStepUntilStopped, reportWith, better, worse, overTwo, WorseLossExample}
 
 -- ---- places
 
@@ -290,6 +290,7 @@ worse-loss-example =
     record {
       started = refl;
       stopped = refl;
+      running = refl;
       noBetter =
           NoBetterCalls.more (same-loss 1 (Fraction 0) refl)
           (NoBetterCalls.more (one 2 (Fraction 0) (Counts (record { lost = pos 0; marked = 1000; expected = 1000 })) marked)
@@ -302,3 +303,10 @@ worse-loss-example =
       reducedFirst = refl;
       reducedSecond = refl;
     }
+
+used : Unit {0}
+used =
+    let e = worse-loss-example in
+    let never = worse-loss-never-buys-time (overTwo false) 0 4 better worse (e .started) refl (e .noBetter) (e .stopped) in
+    let step = in-step-until-stopped (overTwo false) 0 (take 2 better) (take 2 worse) (e .started) refl (firsts 2 (e .noBetter)) (e .running) in
+    tt

@@ -13,5 +13,6 @@ pub mod BetweenReports
 pub mod EachSource
 pub mod WorseLoss
 pub mod Witnesses
+pub mod WitnessesBreaker
 pub mod WitnessesBetween
 pub mod WitnessesSources

@@ -4,12 +4,11 @@ use mathlib.Core.Bool.{true}
 use mathlib.Core.List.{List, [], _∷_, _++_, map}
 use mathlib.Core.Option.{none, some}
 use Prim.Native.Nat.{ℕ, _^_, _≤_, _<_}
-use lib.IntN.{ℤ, pos, negℤ, _-ℤ_}
+use lib.IntN.{pos, negℤ, _-ℤ_}
 use lib.ListN.{length, take, drop, replicate}
 use lib.Signed.{_≤ℤ_, _<ℤ_}
-use Rattle.answers.specs.Conditions.{all}
 use Rattle.answers.specs.Writers.{written}
-use Rattle.answers.specs.declared.Refusal.the-variants.{Incomplete, PacketSize, Time}
+use Rattle.answers.specs.declared.Refusal.the-variants.{Incomplete, PacketSize}
 use Rattle.answers.specs.declared.Written.the-variants.{Room}
 use Rattle.format.specs.Blocks.{blockBytes}
 use Rattle.format.specs.Forms.{shapeOf}
@@ -33,15 +32,6 @@ use Rattle.trace.specs.declared.Block.the-variants.{Label, Arrivals}
 use Rattle.table.specs.Lines.{rowFault}
 use Rattle.table.specs.Texts.{codes}
 use Rattle.table.specs.Theorems.{allPlain}
-use Rattle.breaker.specs.declared.Answer.the-variants.{Go, Stop, Refused}
-use Rattle.breaker.specs.declared.Breaker.{Breaker}
-use Rattle.breaker.specs.declared.Reason.the-variants.{Timeout}
-use Rattle.breaker.specs.Calls.{startOf, preset, holding, heardOf}
-use Rattle.breaker.specs.Runs.{Call, tick, heard, called, answersOf, after}
-use Rattle.breaker.specs.WithoutHeard.{noHeard}
-use Rattle.breaker.specs.HeardPackets.{untimed, Unheard}
-use Rattle.breaker.specs.Soundness as Breakers
-use Rattle.breaker.specs.Theorems.{Typed, numberFits}
 use Rattle.walk.specs.Blocks.{blocksOf}
 use Rattle.walk.specs.Programs.{walk, walked}
 use Rattle.convert.specs.declared.Run.{Run}
@@ -54,7 +44,7 @@ use Rattle.mixed.specs.Witnesses.{trace as sources}
 use Rattle.demands.specs.Calls.{TruePacket, wireOf, arrivals, run, Described}
 use Rattle.demands.specs.Count.{baseOf, SameArrivals}
 use Rattle.demands.specs.PrintedTable.{Holds}
-use Rattle.demands.specs.Examples.{c1, reportNumber}
+use Rattle.demands.specs.Examples.{c1}
 
 -- ---- lists of calls
 
@@ -96,18 +86,6 @@ cut = label ++ (block (0 ∷ 20 ∷ []) (65534 ∷ 65535 ∷ []) (2 ∷ 2 ∷ []
 -- the run that the label block begins
 abbrev pub begun : Run
 begun = record { form = One; length = length text; ssrc = 1; totals = freshTotals }
-
--- ---- a breaker with an interval in its window, and a report at the time of its last
-
-abbrev pub reported : Breaker
-reported = after (startOf preset 0 .breaker) (reportNumber 0 20 100 1000 5000 ∷ reportNumber 1 20 100 1000 5000 ∷ [])
-
-abbrev pub notLater : Call
-notLater = reportNumber 1 20 100 1000 5000
-
--- a packet heard after it, and the next report
-abbrev pub heardOn : List Call
-heardOn = heard 7000 ∷ reportNumber 2 20 100 1000 5000 ∷ []
 
 -- ---- what they meet, by theorem
 
@@ -153,19 +131,6 @@ pub record Met : Type 0 where
   pub signed : (negℤ (pos (2 ^ 15)) ≤ℤ (pos 2 -ℤ pos 7)) × ((pos 2 -ℤ pos 7) <ℤ pos (2 ^ 15))
   -- SoundStays
   pub c1-sound : sound (run c1Packets) ≡ true
-  -- SoundStart, SoundRun; SoundCall, TypedCall; RefusedKeeps, by 11; StaysStopped
-  pub starts : startOf preset 0 .answer ≡ Go
-  pub breaker-sound : Breakers.sound reported ≡ true
-  pub breaker-typed : Typed reported
-  pub number-fits : numberFits notLater ≡ true
-  pub refuses : called reported notLater .answer ≡ Refused Time
-  pub stops : called reported (tick 20001) .answer ≡ Stop Timeout
-  -- HeardHolds; HeardUnseen, with the time held of the last report and a later one; CallAsBefore, RunAsBefore
-  pub hears : heardOf reported 6000 .answer ≡ Go
-  pub untimed-reported : all (map untimed (answersOf (holding reported 5001) heardOn)) ≡ true
-  pub untimed-heard : all (map untimed (answersOf (holding reported 6000) heardOn)) ≡ true
-  pub unheard : Unheard reported
-  pub none-heard : all (map noHeard (notLater ∷ [])) ≡ true
   -- FeedbackReadsBack, SummaryReadsBack: the sender's SSRC and the media SSRC
   pub ssrcs : (9 < 2 ^ 32) × (1 < 2 ^ 32)
   -- ProfilesAgree: an RR is read, and refused with 4 where its last bytes are cut off

@@ -9,8 +9,10 @@ use Rattle.format.specs.declared.Wire.{Wire}
 use Rattle.source.specs.declared.Source.{Source}
 use Rattle.source.specs.declared.Remembered.the-variants.{Nothing}
 use Rattle.source.specs.declared.Arrival.the-variants.{Restarted, Refused}
+use Rattle.source.specs.declared.distances.Reach.the-variants as reach
+use Rattle.source.specs.Distances.{reachOf}
 use Rattle.source.specs.Record.{wireNumber, freshRecord}
-use Rattle.source.specs.Arrivals.{extended, first, remembering, arrival}
+use Rattle.source.specs.Arrivals.{extended, first, distance, remembering, arrival}
 use Rattle.source.specs.Blocks.{Packet}
 use Rattle.source.specs.Between.{Leads, came, withMark, arrivedBefore}
 use Rattle.demands.specs.Between.{lostBetween}
@@ -64,7 +66,8 @@ pub record MetBetween : Type 0 where
   pub ce : came (withMark 3) earlier onward ≡ 0
   pub duplicates : came arrivedBefore earlier onward ≡ 1
   pub lost : lostBetween earlier onward later ≡ negsuc 0
-  -- RefusalKeeps: a jump, which is 7; TypedStays, RestartsAfresh: the number after it
+  -- RefusalKeeps: a jump, which is 7; SecondRestarts, TypedStays, RestartsAfresh: the number after it
   pub jumps : arrival earlier (wire 30000) 2 ≡ Refused Jump (remembering earlier (wire 30001))
+  pub far : reachOf (distance (earlier .highest) (wire 30001)) ≡ reach.Jump
   pub typed : wireNumber (remembering earlier (wire 30001) .remembered) ≡ true
   pub restarts : arrival (remembering earlier (wire 30001)) (wire 30001) 3 ≡ Restarted (first freshRecord (wire 30001) 3)

@@ -129,6 +129,8 @@ pub record WorseLossExample : Type 0 where
   pub started : startOf (overTwo false) 0 .answer ≡ Go
   pub noBetter : NoBetterCalls better worse
   pub stopped : stoppedBy (overTwo false) 0 4 better ≡ true
+  -- behind two calls the second has not stopped
+  pub running : stoppedBy (overTwo false) 0 2 worse ≡ false
   -- the second stops earlier, so not at the same call
   pub first : answersWith false better ≡ Go ∷ Go ∷ Go ∷ Stop Congestion ∷ Stop Congestion ∷ Stop Congestion ∷ []
   pub second : answersWith false worse ≡ Go ∷ Go ∷ Stop Congestion ∷ Stop Congestion ∷ Stop Congestion ∷ Stop Congestion ∷ []

@@ -14,7 +14,7 @@ use Rattle.trace.specs.declared.Record.{Record}
 use Rattle.walk.specs.Blocks.{blocksOf}
 use Rattle.forms.specs.Conversions.{beginOf, goes, stepOf}
 use Rattle.forms.specs.Converted.{converted}
-use Rattle.forms.specs.Theorems.{FullButLast}
+use Rattle.forms.specs.Theorems.{Convertible, FullButLast}
 use Rattle.forms.specs.declared.Conversion.{Conversion}
 use Rattle.forms.specs.declared.Begin.the-variants as begin
 use Rattle.forms.specs.declared.Step.the-variants as step
@@ -42,10 +42,11 @@ zeros n = replicate n 0
 
 -- what they meet, by theorem
 pub record Met : Type 0 where
-  -- Packs, ConvertedReads, SameRecords, SameBytes
+  -- Packs, ConvertsWhole, ConvertedReads, SameRecords, SameBytes
   pub label : blockOf (blocksOf trace .zeroth) ≡ Label One 2 1
   pub octets : Below 256 trace
   pub taken : converted trace .err ≡ []
+  pub convertible : Convertible One 1 (blocksOf trace .others)
   pub some : 1 ≤ length (blocksOf trace .others)
   pub full : FullButLast (shapeOf One .most) (blocksOf trace .others)
   -- CallsConvert

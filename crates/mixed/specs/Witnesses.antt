@@ -1,4 +1,5 @@
--- The hypotheses of CallsPrint can be met: a trace of two sources, lent words and outputs that meet them all.
+-- The hypotheses of the theorems can be met: a trace of two sources, lent words and outputs that meet them all.
+use mathlib.Core.Path.{_≡_}
 use mathlib.Core.List.{List, [], _∷_, _++_}
 use Prim.Native.Nat.{ℕ, _*_, _≤_}
 use lib.ListN.{length, drop, replicate}
@@ -6,11 +7,13 @@ use Rattle.format.specs.Blocks.{blockBytes}
 use Rattle.format.specs.Forms.{shapeOf}
 use Rattle.format.specs.declared.Form.the-variants.{One}
 use Rattle.trace.specs.Layout.{labelBlock, arrivalsBlock}
+use Rattle.trace.specs.Reading.{blockOf}
 use Rattle.trace.specs.Theorems.{Below}
+use Rattle.trace.specs.declared.Block.the-variants.{Label}
 use Rattle.trace.specs.Writing.{recordsOf}
 use Rattle.walk.specs.Blocks.{blocksOf}
 use Rattle.mixed.specs.Blocks.{mostLines}
-use Rattle.mixed.specs.Theorems.{callsOver, EnoughBy}
+use Rattle.mixed.specs.Theorems.{callsOver, EnoughBy, OfSources}
 
 -- the label of SSRC 9, then arrivals of SSRC 2, of SSRC 1, with a jump, and of SSRC 2 again
 abbrev pub trace : List ℕ
@@ -27,6 +30,10 @@ abbrev pub outs : ℕ → List ℕ
 outs i = replicate 100 0
 
 pub record Met : Type 0 where
+  -- CallsPrint
   pub bytes : Below 256 (drop blockBytes trace)
   pub room : 13 * mostLines ≤ length words
   pub enough : EnoughBy outs (blocksOf trace .zeroth) (callsOver trace words)
+  -- SixteenSuffice
+  pub label : blockOf (blocksOf trace .zeroth) ≡ Label One 1 9
+  pub sources : OfSources One (1 ∷ 2 ∷ []) (blocksOf trace .others)
