@@ -95,7 +95,8 @@ def main():
     for line in wrong:
         print("statements: FAILED,", line)
     if not wrong:
-        print(f"statements: {PAGE} names every public call, every wrong program, and what stands in the tree; {len(BROKEN)} broken copies are found")
+        programs = sum(len(wrong_programs(TOP, crate)) for crate in promises.libraries(promises.CRATES))
+        print(f"statements: {PAGE} names {programs} wrong programs, all of them, every public call, and only what stands in the tree; {len(BROKEN)} broken copies are found")
     return 1 if wrong else 0
 
 
