@@ -19,7 +19,7 @@ PAGE = "docs/STATEMENTS.md"
 
 
 def wrong_programs(top, crate):
-    found = [glob.glob(os.path.join(top, "crates", crate, folder, "*.edit")) for folder in ("edits", "must-fail")]
+    found = [glob.glob(os.path.join(glob.escape(top), "crates", crate, folder, "*.edit")) for folder in ("edits", "must-fail")]
     return {os.path.basename(path)[:-5] for path in sum(found, [])}
 
 
@@ -42,7 +42,7 @@ def misnamed(top, crate, text):
             for name in re.findall(r"`([a-z0-9_]+)`", part[: other.start()] if other else part):
                 if name not in there:
                     yield f"{crate}: {name} is no wrong program"
-    proofs = "".join(read(path) for path in glob.glob(os.path.join(top, "crates", crate, "proofs/**/*.antt"), recursive=True))
+    proofs = "".join(read(path) for path in glob.glob(os.path.join(glob.escape(top), "crates", crate, "proofs/**/*.antt"), recursive=True))
     for name, statement in re.findall(r"`([a-z0-9-]+) : (\w+)`", text):
         if not re.search(rf"^pub {name} : {statement}$", proofs, re.M):
             yield f"{crate}: {name} : {statement} is not proved"
