@@ -32,7 +32,7 @@ static uint16_t report(uint64_t *breaker, uint64_t time, uint32_t highest, uint6
 static uint16_t report_marked(uint64_t *breaker, uint64_t time, uint32_t highest, uint64_t rate)
 {
     uint64_t counts[FLASKNIB_ECN_WORDS];
-    uint8_t refusal = flasknib_ecn_between(2000, 250, 0, highest, 500, 0, counts, FLASKNIB_ECN_WORDS);
+    uint8_t refusal = flasknib_ecn_between(highest, 500, 0, 2000, 250, 0, counts, FLASKNIB_ECN_WORDS);
 
     if (refusal != 0)
         return FLASKNIB_REFUSED + refusal;

@@ -250,14 +250,14 @@ uint8_t flasknib_read_compound(const uint8_t *bytes, size_t length, uint32_t med
 /* The places of the words. */
 enum { FLASKNIB_ECN_LOST = 0, FLASKNIB_ECN_MARKED = 1, FLASKNIB_ECN_EXPECTED = 2 };
 
-/* What came between two ECN reports of one receiver about one source, the earlier and the later one, each with the highest number, the packets
+/* What came between two ECN reports of one receiver about one source, the later and the earlier one, each with the highest number, the packets
  * marked with CE and the packets lost as the packets carry them: of ECN feedback words 9, 12 and 14 of the compound; of a summary entry words 19
  * and 21, with the highest number of the report block beside it, word 3. Gives 0 and 3 words at the front of `counts`, as
  * flasknib_breaker_report_ecn takes them, or refusal 10 where the highest number went back (a difference of 2^31 or more), or 12 where `counts`
  * has fewer words. They are the true numbers where at most 65,535 packets were marked and -32,768 to 32,767 lost in between; not where the
  * receiver began to count anew. */
-uint8_t flasknib_ecn_between(uint32_t earlier_highest, uint16_t earlier_ce, uint16_t earlier_lost, uint32_t later_highest, uint16_t later_ce,
-                             uint16_t later_lost, uint64_t *counts, size_t words);
+uint8_t flasknib_ecn_between(uint32_t later_highest, uint16_t later_ce, uint16_t later_lost, uint32_t earlier_highest, uint16_t earlier_ce,
+                             uint16_t earlier_lost, uint64_t *counts, size_t words);
 
 /* What came between two reports, counter by counter: the later one minus the earlier one, modulo its width. Reports carry the highest number,
  * ECT(0) and ECT(1) in 32 bits, CE, not-ECT, lost and duplicates in 16. It is the true count where that is from 0 to 2^16 - 1, or to 2^32 - 1. */

@@ -167,8 +167,8 @@ static void ecn_counts(void)
 {
     uint64_t counts[FLASKNIB_ECN_WORDS];
 
-    CHECK(flasknib_ecn_between(5, 6, 7, 8, 8, 8, counts, FLASKNIB_ECN_WORDS - 1) == FLASKNIB_REFUSAL_ROOM);
-    CHECK(flasknib_ecn_between(5, 6, 7, 8, 8, 8, counts, FLASKNIB_ECN_WORDS) == 0);
+    CHECK(flasknib_ecn_between(8, 8, 8, 5, 6, 7, counts, FLASKNIB_ECN_WORDS - 1) == FLASKNIB_REFUSAL_ROOM);
+    CHECK(flasknib_ecn_between(8, 8, 8, 5, 6, 7, counts, FLASKNIB_ECN_WORDS) == 0);
     CHECK(counts[FLASKNIB_ECN_LOST] == 1);
     CHECK(counts[FLASKNIB_ECN_MARKED] == 2);
     CHECK(counts[FLASKNIB_ECN_EXPECTED] == 3);

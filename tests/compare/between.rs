@@ -17,7 +17,7 @@ pub fn calls(compare: &Compare, draw: &Draw) -> usize {
         let earlier = Carried { highest, ..earlier };
         let later = Carried { highest: breakers::number(draw, highest), ..any(draw) };
         let counts: Vec<u64> = (0..draw.room(WORDS)).map(|_| draw.u64()).collect();
-        between(compare, &earlier, &later, &counts);
+        between(compare, &later, &earlier, &counts);
     }
     (0..1_500).filter(|_| cut(compare, draw)).count()
 }
@@ -28,10 +28,10 @@ fn any(draw: &Draw) -> Carried {
 }
 
 /// Gives the answer and the words of `counts` after the call.
-fn between(compare: &Compare, earlier: &Carried, later: &Carried, counts: &[u64]) -> (i64, Vec<u64>) {
+fn between(compare: &Compare, later: &Carried, earlier: &Carried, counts: &[u64]) -> (i64, Vec<u64>) {
     let mut lent = Lent::new(counts);
     let answer =
-        compare.call("flasknib_ecn_between", &mut lent, |calls, counts| i64::from(calls.ecn_between(earlier, later, counts.part_mut())));
+        compare.call("flasknib_ecn_between", &mut lent, |calls, counts| i64::from(calls.ecn_between(later, earlier, counts.part_mut())));
     (answer, lent.part().to_vec())
 }
 
@@ -39,7 +39,7 @@ fn between(compare: &Compare, earlier: &Carried, later: &Carried, counts: &[u64]
 fn cut(compare: &Compare, draw: &Draw) -> bool {
     let list = arrivals::list(draw);
     let front = &list[..draw.within(1, list.len() as u64) as usize];
-    let (answer, told) = between(compare, &carried(compare, front), &carried(compare, &list), &[9; WORDS]);
+    let (answer, told) = between(compare, &carried(compare, &list), &carried(compare, front), &[9; WORDS]);
     let (first, last) = (counted(front), counted(&list));
     let in_between = lost(&list) - lost(front);
     if !(-32_768..=32_767).contains(&in_between) {

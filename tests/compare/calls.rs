@@ -11,7 +11,7 @@ pub trait Calls {
     fn write_feedback(&self, source: &[u64], sender: u32, media: u32, out: &mut [u8]) -> i64;
     fn write_summary(&self, source: &[u64], media: u32, out: &mut [u8]) -> i64;
     fn read_compound(&self, bytes: &[u8], media: u32, profile: u8, found: &mut [u64]) -> u8;
-    fn ecn_between(&self, earlier: &model::between::Carried, later: &model::between::Carried, counts: &mut [u64]) -> u8;
+    fn ecn_between(&self, later: &model::between::Carried, earlier: &model::between::Carried, counts: &mut [u64]) -> u8;
     fn since16(&self, later: u16, earlier: u16) -> u16;
     fn since32(&self, later: u32, earlier: u32) -> u32;
     fn lost_since(&self, later: u16, earlier: u16) -> i16;

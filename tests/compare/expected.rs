@@ -142,8 +142,8 @@ impl Calls for Expected {
         put_words(read.map(|reports| reports.to_words()), found)
     }
 
-    fn ecn_between(&self, earlier: &Carried, later: &Carried, counts: &mut [u64]) -> u8 {
-        put_words(between(earlier, later), counts)
+    fn ecn_between(&self, later: &Carried, earlier: &Carried, counts: &mut [u64]) -> u8 {
+        put_words(between(later, earlier), counts)
     }
 
     fn since16(&self, later: u16, earlier: u16) -> u16 {

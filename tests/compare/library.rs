@@ -15,7 +15,7 @@ extern "C" {
     fn flasknib_write_feedback(source: *const u64, words: usize, sender: u32, media: u32, out: *mut u8, room: usize) -> i64;
     fn flasknib_write_summary(source: *const u64, words: usize, media: u32, out: *mut u8, room: usize) -> i64;
     fn flasknib_read_compound(bytes: *const u8, length: usize, media: u32, profile: u8, found: *mut u64, words: usize) -> u8;
-    fn flasknib_ecn_between(earlier_highest: u32, earlier_ce: u16, earlier_lost: u16, later_highest: u32, later_ce: u16, later_lost: u16,
+    fn flasknib_ecn_between(later_highest: u32, later_ce: u16, later_lost: u16, earlier_highest: u32, earlier_ce: u16, earlier_lost: u16,
                             counts: *mut u64, words: usize) -> u8;
     fn flasknib_since16(later: u16, earlier: u16) -> u16;
     fn flasknib_since32(later: u32, earlier: u32) -> u32;
@@ -94,10 +94,10 @@ impl Calls for Library {
         unsafe { flasknib_read_compound(bytes.as_ptr(), bytes.len(), media, profile, found.as_mut_ptr(), found.len()) }
     }
 
-    fn ecn_between(&self, earlier: &Carried, later: &Carried, counts: &mut [u64]) -> u8 {
-        let &Carried { highest, ce, lost } = earlier;
+    fn ecn_between(&self, later: &Carried, earlier: &Carried, counts: &mut [u64]) -> u8 {
+        let &Carried { highest, ce, lost } = later;
         let (at, words) = (counts.as_mut_ptr(), counts.len());
-        unsafe { flasknib_ecn_between(highest, ce, lost, later.highest, later.ce, later.lost, at, words) }
+        unsafe { flasknib_ecn_between(highest, ce, lost, earlier.highest, earlier.ce, earlier.lost, at, words) }
     }
 
     fn since16(&self, later: u16, earlier: u16) -> u16 {

@@ -22,7 +22,7 @@ pub fn lost_since(later: u16, earlier: u16) -> i64 {
 }
 
 /// Lost (-32,768 to 32,767), marked and expected; 10 where the highest number went back.
-pub fn between(earlier: &Carried, later: &Carried) -> Result<[u64; WORDS], Refusal> {
+pub fn between(later: &Carried, earlier: &Carried) -> Result<[u64; WORDS], Refusal> {
     let expected = since(32, later.highest.into(), earlier.highest.into());
     require(expected < 1 << 31, LIMITS)?;
     let marked = since(16, later.ce.into(), earlier.ce.into());

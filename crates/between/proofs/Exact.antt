@@ -24,10 +24,10 @@ use Rattle.between.specs.Theorems.{SignalsExact, BetweenExact, GivenInLi
 
 pub signals-exact : SignalsExact
 unfolding signalsOf
-signals-exact earlier later c d f g t =
+signals-exact later earlier c d f g t =
     record {
-      lostIs = (λ i. signed 16 (since 16 (g .lost i) (f .lost i))) ∙ signed-exact 15 (later .lost) (earlier .lost) (t .someLost) (t .fewLost);
-      markedIs = (λ i. pos (since 16 (g .ce i) (f .ce i))) ∙ since-exact 16 (later .ce) (earlier .ce) (t .someMarked) (t .fewMarked);
+      lostIs = (λ i. signed 16 (since 16 (f .lost i) (g .lost i))) ∙ signed-exact 15 (later .lost) (earlier .lost) (t .someLost) (t .fewLost);
+      markedIs = (λ i. pos (since 16 (f .ce i) (g .ce i))) ∙ since-exact 16 (later .ce) (earlier .ce) (t .someMarked) (t .fewMarked);
     }
 
 -- a difference below 2^31
@@ -36,15 +36,15 @@ below n e h = ltb→lt n (2 ^ 31) (subst⁻¹ (λ (z : ℤ). z <ℤ pos (2 ^ 31)
 
 pub between-exact : BetweenExact
 unfolding expectingOf
-between-exact earlier later c d m n f g p q t a =
-    let e = since 32 n m in
+between-exact later earlier c d m n f g p q t a =
+    let e = since 32 m n in
     let is : pos e ≡ later .highest -ℤ earlier .highest =
-    (λ i. pos (since 32 (q i) (p i))) ∙ since-exact 32 (later .highest) (earlier .highest) (a .some) (<ℤ-≤ℤ-trans (a .few) (leZ-yes tt)) in
+    (λ i. pos (since 32 (p i) (q i))) ∙ since-exact 32 (later .highest) (earlier .highest) (a .some) (<ℤ-≤ℤ-trans (a .few) (leZ-yes tt)) in
     let given : EcnCounts = record { lost = signalsOf c d .lost; marked = signalsOf c d .marked; expected = e } in
     record {
       counts = given;
       given = ap (λ (b : Bool). cond b (Between.Refused Limits) (Between.Counts given)) (lt-leb (2 ^ 31) e (below e is (a .few)));
-      signals = signals-exact earlier later c d f g t;
+      signals = signals-exact later earlier c d f g t;
       expectedIs = is;
     }
 
@@ -65,16 +65,16 @@ signed-size n h = go (decLe (2 ^ 15) n)
 all-ok : (c d : Counts) (n : ℕ) → n < 2 ^ 31 → countsOk (record { lost = signalsOf c d .lost; marked = signalsOf c d .marked; expected = n }) ≡ true
 unfolding signalsOf countsOk
 all-ok c d n h =
-    let marked : since 16 (d .ce) (c .ce) ≤ 2 ^ 31 = omega (arith, since-below 16 (d .ce) (c .ce)) in
-    λ i. le-leb (natAbs (signed 16 (since 16 (d .lost) (c .lost)))) (2 ^ 31) (signed-size _ (since-below 16 (d .lost) (c .lost))) i
-    && (le-leb (since 16 (d .ce) (c .ce)) (2 ^ 31) marked i && (le-leb n (2 ^ 31) (omega arith) i && true))
+    let marked : since 16 (c .ce) (d .ce) ≤ 2 ^ 31 = omega (arith, since-below 16 (c .ce) (d .ce)) in
+    λ i. le-leb (natAbs (signed 16 (since 16 (c .lost) (d .lost)))) (2 ^ 31) (signed-size _ (since-below 16 (c .lost) (d .lost))) i
+    && (le-leb (since 16 (c .ce) (d .ce)) (2 ^ 31) marked i && (le-leb n (2 ^ 31) (omega arith) i && true))
 
 pub given-in-limits : GivenInLimits
 unfolding expectingOf
 given-in-limits c d m n given = go (leb (2 ^ 31) e) refl
   where
     e : ℕ
-    e = since 32 n m
+    e = since 32 m n
 
     x : EcnCounts
     x = record { lost = signalsOf c d .lost; marked = signalsOf c d .marked; expected = e }

@@ -1,5 +1,5 @@
 -- Document 02, request L2: lost L, marked C and expected E between two ECN reports; each by document 01's rule, "Counting arrivals", on what came
--- between two reports.
+-- between two reports, "the later counter minus the earlier one": the later report stands first.
 use mathlib.Core.Bool.{cond}
 use Prim.Native.Nat.{ℕ, _^_}
 use lib.Dec.{leb}
@@ -12,15 +12,15 @@ use Rattle.between.specs.declared.Between.{Between}
 
 -- L, read as signed since lost can fall, and C
 unfoldable pub signalsOf : Counts → Counts → Signals
-signalsOf earlier later =
+signalsOf later earlier =
     record { lost = signed 16 (since 16 (later .lost) (earlier .lost)); marked = since 16 (later .ce) (earlier .ce) }
 
 -- E is how far the highest number went; 10 where it went back, its difference being 2^31 or more
 unfoldable pub expectingOf : Signals → ℕ → ℕ → Between
-expectingOf s earlier later =
+expectingOf s later earlier =
     cond (leb (2 ^ 31) (since 32 later earlier)) (Between.Refused Limits)
     (Between.Counts (record { lost = s .lost; marked = s .marked; expected = since 32 later earlier }))
 
 -- two feedbacks, each with its highest number
 abbrev pub betweenOf : Feedback → Feedback → Between
-betweenOf earlier later = expectingOf (signalsOf (earlier .counts) (later .counts)) (earlier .highest) (later .highest)
+betweenOf later earlier = expectingOf (signalsOf (later .counts) (earlier .counts)) (later .highest) (earlier .highest)

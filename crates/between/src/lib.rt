@@ -1,6 +1,7 @@
 // What came between two ECN reports of one receiver about one source, as the breaker's report takes it (document 01, "Counting arrivals"; 02,
 // request L2): L packets lost, C marked with CE, of E expected. A report carries totals from the source's first packet on, modulo their width;
-// their differences are the true ones where these are in range and the receiver did not begin to count anew in between.
+// their differences are the true ones where these are in range and the receiver did not begin to count anew in between. The later report stands
+// first, as in "the later counter minus the earlier one".
 ghost use mathlib.Core.Path.{_≡_};
 ghost use Rattle.between.specs.Differences.{signalsOf, expectingOf, betweenOf};
 use answers::Refusal;
@@ -27,8 +28,8 @@ const BACK: u32 = 2147483648;
 impl Signals {
     // L, C and E, by the highest numbers that go with the two reports: of a feedback its own, of a summary that of the report block beside it
     // (RFC 6679, section 5.2).
-    pub fn expecting(self, earlier: u32, later: u32) -> Between
-        ensures { λ r. ⌜ r ≡ expectingOf self earlier later ⌝ }
+    pub fn expecting(self, later: u32, earlier: u32) -> Between
+        ensures { λ r. ⌜ r ≡ expectingOf self later earlier ⌝ }
     {
         let expected = since::since32(later, earlier);
         if BACK <= expected {
@@ -43,8 +44,8 @@ impl Signals {
 }
 
 // L and C between the counters of two reports, summaries or feedbacks.
-pub fn counters(earlier: Counts, later: Counts) -> Signals
-    ensures { λ r. ⌜ r ≡ signalsOf earlier later ⌝ }
+pub fn counters(later: Counts, earlier: Counts) -> Signals
+    ensures { λ r. ⌜ r ≡ signalsOf later earlier ⌝ }
 {
     Signals {
         lost: since::lost_since(later.lost, earlier.lost) as i64,
@@ -53,10 +54,10 @@ pub fn counters(earlier: Counts, later: Counts) -> Signals
 }
 
 // L, C and E between two feedbacks.
-pub fn feedbacks(earlier: Feedback, later: Feedback) -> Between
-    ensures { λ r. ⌜ r ≡ betweenOf earlier later ⌝ }
+pub fn feedbacks(later: Feedback, earlier: Feedback) -> Between
+    ensures { λ r. ⌜ r ≡ betweenOf later earlier ⌝ }
 {
-    let old = earlier.counts;
     let new = later.counts;
-    counters(old, new).expecting(earlier.highest, later.highest)
+    let old = earlier.counts;
+    counters(new, old).expecting(later.highest, earlier.highest)
 }

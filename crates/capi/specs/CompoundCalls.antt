@@ -67,7 +67,7 @@ Tells b old r out =
     (betweenWords b)
     old r out
 
--- of two reports, each with its highest number, packets marked with CE and packets lost
+-- of two reports, the later one first, each with its highest number, packets marked with CE and packets lost
 abbrev pub TellsBetween : ℕ → ℕ → ℕ → ℕ → ℕ → ℕ → List ℕ → ℕ → List ℕ → Type 0
 TellsBetween highest ce lost highest₂ ce₂ lost₂ old r out =
     Tells (expectingOf (signalsOf (countersGiven ce lost) (countersGiven ce₂ lost₂)) highest highest₂) old r out

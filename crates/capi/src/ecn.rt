@@ -20,22 +20,23 @@ fn counters_of(ce: u16, lost: u16) -> Counts
     }
 }
 
-// What came between two ECN reports. Gives 0 and 3 words at the front of `counts`, or refusal 10, or 12 where `counts` has fewer words.
+// What came between two ECN reports, the later and the earlier one. Gives 0 and 3 words at the front of `counts`, or refusal 10, or 12 where
+// `counts` has fewer words.
 #[no_mangle]
 pub extern "C" fn flasknib_ecn_between(
-    earlier_highest: u32,
-    earlier_ce: u16,
-    earlier_lost: u16,
     later_highest: u32,
     later_ce: u16,
     later_lost: u16,
+    earlier_highest: u32,
+    earlier_ce: u16,
+    earlier_lost: u16,
     counts: &mut [u64],
 ) -> u8
-    ensures { λ r. ⌜ TellsBetween «earlier_highest» «earlier_ce» «earlier_lost» «later_highest» «later_ce» «later_lost» (now (counts .entry)) r (now (counts .exit)) ⌝ }
+    ensures { λ r. ⌜ TellsBetween «later_highest» «later_ce» «later_lost» «earlier_highest» «earlier_ce» «earlier_lost» (now (counts .entry)) r (now (counts .exit)) ⌝ }
 {
-    let earlier = counters_of(earlier_ce, earlier_lost);
     let later = counters_of(later_ce, later_lost);
-    match between::counters(earlier, later).expecting(earlier_highest, later_highest) {
+    let earlier = counters_of(earlier_ce, earlier_lost);
+    match between::counters(later, earlier).expecting(later_highest, earlier_highest) {
         Between::Refused(refusal) => refusal.number(),
         Between::Counts(c) => {
             if counts.len() < ecn_words::WORDS {

@@ -23,8 +23,8 @@ unfolding countsOf
 carry s = record { ce = refl; lost = refl }
 
 pub between-reports : BetweenReports
-between-reports s t sender told ahead =
-    between-exact (truthOf s) (truthOf t) (countsOf s) (countsOf t) (highestOf s) (highestOf t) (carry s) (carry t) refl refl told ahead
+between-reports t s sender told ahead =
+    between-exact (truthOf t) (truthOf s) (countsOf t) (countsOf s) (highestOf t) (highestOf s) (carry t) (carry s) refl refl told ahead
 
 -- the same number more on both sides
 shifted : (x y k : ℤ) → (x +ℤ k) -ℤ (y +ℤ k) ≡ x -ℤ y
@@ -39,10 +39,10 @@ expected-is s e =
     ap (λ (b : Bool). cond b (pos 0) (all -ℤ pos (distinct s)) +ℤ pos (distinct s)) e ∙ -ℤ-+ℤ-cancel all (pos (distinct s))
 
 pub expected-between : ExpectedBetween
-expected-between s t p q same =
+expected-between t s q p same =
     let b = s .base .0 in
     sym
-    ((λ i. (expected-is t q ∙ ap (λ (z : ℤ). t .highest .0 -ℤ z +ℤ pos 1) (sym (ap (λ e. e .0) same))) i -ℤ expected-is s p i)
+    ((λ i. (expected-is t q ∙ ap (λ (z : ℤ). t .highest .0 -ℤ z +ℤ pos 1) (ap (λ e. e .0) same)) i -ℤ expected-is s p i)
     ∙ shifted (t .highest .0 -ℤ b) (s .highest .0 -ℤ b) (pos 1)
     ∙ shifted (t .highest .0) (s .highest .0) (negℤ b))
 
@@ -60,9 +60,9 @@ between-c1 =
 used : Unit {0}
 used =
     let c = between-c1 in
-    let reports = between-reports second last 9 (c .told) (c .ahead) in
-    let expected = expected-between second last (c .counted .0) (c .counted .1) (c .counted .2) in
-    let signals = signals-exact (truthOf second) (truthOf last) (countsOf second) (countsOf last) (carry second) (carry last) (c .told) in
-    let exact = between-exact (truthOf second) (truthOf last) (countsOf second) (countsOf last) (highestOf second) (highestOf last) (carry second) (carry last) refl refl (c .told) (c .ahead) in
-    let limits = given-in-limits (countsOf second) (countsOf last) (highestOf second) (highestOf last) (record { lost = pos 2; marked = 2; expected = 4 }) (c .counts) in
+    let reports = between-reports last second 9 (c .told) (c .ahead) in
+    let expected = expected-between last second (c .counted .0) (c .counted .1) (c .counted .2) in
+    let signals = signals-exact (truthOf last) (truthOf second) (countsOf last) (countsOf second) (carry last) (carry second) (c .told) in
+    let exact = between-exact (truthOf last) (truthOf second) (countsOf last) (countsOf second) (highestOf last) (highestOf second) (carry last) (carry second) refl refl (c .told) (c .ahead) in
+    let limits = given-in-limits (countsOf last) (countsOf second) (highestOf last) (highestOf second) (record { lost = pos 2; marked = 2; expected = 4 }) (c .counts) in
     tt

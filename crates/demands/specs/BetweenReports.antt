@@ -26,8 +26,8 @@ feedbackFrom sender s = record { sender = sender; highest = highestOf s; counts 
 -- L, C and E are the differences of the records, where these are in range
 abbrev pub BetweenReports : Type 0
 BetweenReports =
-    (s t : Source) (sender : ℕ) → Told (truthOf s) (truthOf t) → Ahead (truthOf s) (truthOf t)
-    → TrueCounts (truthOf s) (truthOf t) (betweenOf (feedbackFrom sender s) (feedbackFrom sender t))
+    (later earlier : Source) (sender : ℕ) → Told (truthOf later) (truthOf earlier) → Ahead (truthOf later) (truthOf earlier)
+    → TrueCounts (truthOf later) (truthOf earlier) (betweenOf (feedbackFrom sender later) (feedbackFrom sender earlier))
 
 -- the packets expected so far: those lost, and the different ones that came (RFC 6679, section 5.1)
 abbrev pub expectedBy : Source → ℤ
@@ -36,8 +36,8 @@ expectedBy s = lost s +ℤ pos (distinct s)
 -- E is how many more are expected, of two records that have counted from the same base; the fresh record has no highest number
 abbrev pub ExpectedBetween : Type 0
 ExpectedBetween =
-    (s t : Source) → fresh s ≡ false → fresh t ≡ false → s .base ≡ t .base
-    → t .highest .0 -ℤ s .highest .0 ≡ expectedBy t -ℤ expectedBy s
+    (later earlier : Source) → fresh later ≡ false → fresh earlier ≡ false → later .base ≡ earlier .base
+    → later .highest .0 -ℤ earlier .highest .0 ≡ expectedBy later -ℤ expectedBy earlier
 
 abbrev pub second : Source
 second = after (answerTo (Accepted freshRecord) ((65534, 2) ∷ (65535, 2) ∷ []))
@@ -47,7 +47,7 @@ last = after (answerTo (Accepted freshRecord) c1)
 
 -- C1's reports behind its second and its last packet: of 4 packets expected 2 are lost and 2 marked
 pub record BetweenC1 : Type 0 where
-  pub counted : (fresh second ≡ false) × (fresh last ≡ false) × (second .base ≡ last .base)
-  pub told : Told (truthOf second) (truthOf last)
-  pub ahead : Ahead (truthOf second) (truthOf last)
-  pub counts : betweenOf (feedbackFrom 9 second) (feedbackFrom 9 last) ≡ Between.Counts (record { lost = pos 2; marked = 2; expected = 4 })
+  pub counted : (fresh last ≡ false) × (fresh second ≡ false) × (last .base ≡ second .base)
+  pub told : Told (truthOf last) (truthOf second)
+  pub ahead : Ahead (truthOf last) (truthOf second)
+  pub counts : betweenOf (feedbackFrom 9 last) (feedbackFrom 9 second) ≡ Between.Counts (record { lost = pos 2; marked = 2; expected = 4 })

@@ -9,7 +9,7 @@ use Rattle.between.proofs.feedbacks.Tie as tie
 returns : tie.Need-returns
 returns c =
     let a = c .before .before .before .before .args in
-    c .expecting .ensures ∙ ap (λ (s : Signals). expectingOf s (a .earlier .highest) (a .later .highest)) (c .before .counters .ensures)
+    c .expecting .ensures ∙ ap (λ (s : Signals). expectingOf s (a .later .highest) (a .earlier .highest)) (c .before .counters .ensures)
 
 pub feedbacks-spec : {M : Type 1} → statement M
 feedbacks-spec = tie.close (tie.spec (λ c κs. search needs) (λ c κs. search needs) returns)

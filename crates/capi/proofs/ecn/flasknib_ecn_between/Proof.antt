@@ -18,13 +18,13 @@ use Rattle.capi.proofs.ecn.flasknib_ecn_between.Tie as tie
 abbrev told : tie.After-expecting → Between
 told c =
     let a = c .before .before .before .before .before .args in
-    expectingOf (signalsOf (countersGiven (a .earlier-ce) (a .earlier-lost)) (countersGiven (a .later-ce) (a .later-lost))) (a .earlier-highest) (a .later-highest)
+    expectingOf (signalsOf (countersGiven (a .later-ce) (a .later-lost)) (countersGiven (a .earlier-ce) (a .earlier-lost))) (a .later-highest) (a .earlier-highest)
 
 given : (c : tie.After-expecting) → c .expecting .result ≡ told c
 given c =
     let a = c .before .before .before .before .before .args in
     let signals = c .before .counters .ensures ∙ (λ i. signalsOf (c .before .before .before .counters-of .ensures i) (c .before .before .counters-of2 .ensures i)) in
-    c .expecting .ensures ∙ ap (λ (s : Signals). expectingOf s (a .earlier-highest) (a .later-highest)) signals
+    c .expecting .ensures ∙ ap (λ (s : Signals). expectingOf s (a .later-highest) (a .earlier-highest)) signals
 
 returns : tie.Need-returns
 returns c =
