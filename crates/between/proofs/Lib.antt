@@ -1,2 +1,3 @@
 -- The proofs of the theorems.
 pub mod Exact
+pub mod InLimits

@@ -1,2 +1,3 @@
 pub mod Differences
+pub mod PacketCalls
 pub mod Theorems

@@ -10,6 +10,14 @@ use format::Counts;
 use numbers::since;
 use rtcp::Feedback;
 
+mod calls;
+
+pub use calls::Call;
+pub use calls::Kept;
+pub use calls::MaybeKept;
+pub use calls::PacketCall;
+pub use calls::call_for;
+
 // The signs of congestion between two reports: L and C. There is no E here, since a summary has no highest number.
 pub struct Signals {
     pub lost: i64,

@@ -9,9 +9,9 @@ use Rattle.answers.specs.declared.Refusal.the-variants.{Limits}
 use Rattle.rtcp.specs.declared.Profile.{Profile}
 use Rattle.rtcp.specs.declared.Reading.{Reading}
 use Rattle.rtcp.specs.Compound.{reading}
-use Rattle.format.specs.declared.Counts.{Counts}
 use Rattle.between.specs.declared.Between.{Between}
-use Rattle.between.specs.Differences.{signalsOf, expectingOf}
+use Rattle.between.specs.declared.calls.Kept.{Kept}
+use Rattle.between.specs.PacketCalls.{sinceKept}
 use Rattle.lent.specs.CompoundWords.{compoundWords}
 use Rattle.lent.specs.EcnWords.{ecnWords}
 use Rattle.capi.specs.Codes.{refusalCode, Gives}
@@ -46,10 +46,6 @@ ReadsCompound bytes media profile old r found =
 
 -- ---- flasknib_ecn_between
 
--- the counters that tell of congestion; the others play no part
-abbrev pub countersGiven : ℕ → ℕ → Counts
-countersGiven ce lost = record { ect0 = 0; ect1 = 0; ce = ce; notect = 0; lost = lost; duplicates = 0 }
-
 -- the refusal, 10
 abbrev pub betweenFault : Between → Option Refusal
 betweenFault (Between.Refused refusal) = some refusal
@@ -67,7 +63,11 @@ Tells b old r out =
     (betweenWords b)
     old r out
 
--- of two reports, the later one first, each with its highest number, packets marked with CE and packets lost
+-- an ECN report by its highest number, packets marked with CE and packets lost
+abbrev pub reportGiven : ℕ → ℕ → ℕ → Kept
+reportGiven highest ce lost = record { highest = highest; ce = ce; lost = lost }
+
+-- of two of them, the later one first
 abbrev pub TellsBetween : ℕ → ℕ → ℕ → ℕ → ℕ → ℕ → List ℕ → ℕ → List ℕ → Type 0
 TellsBetween highest ce lost highest₂ ce₂ lost₂ old r out =
-    Tells (expectingOf (signalsOf (countersGiven ce lost) (countersGiven ce₂ lost₂)) highest highest₂) old r out
+    Tells (sinceKept (reportGiven highest ce lost) (reportGiven highest₂ ce₂ lost₂)) old r out

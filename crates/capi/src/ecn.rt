@@ -1,24 +1,10 @@
 // What came between two ECN reports, for C.
 ghost use mathlib.Core.Path.{_≡_};
-ghost use Rattle.capi.specs.CompoundCalls.{countersGiven, TellsBetween};
+ghost use Rattle.capi.specs.CompoundCalls.{TellsBetween};
 use answers::ROOM;
 use between::Between;
-use format::Counts;
+use between::Kept;
 use lent::ecn_words;
-
-// The counters of an ECN report that tell of congestion; the others play no part.
-fn counters_of(ce: u16, lost: u16) -> Counts
-    ensures { λ r. ⌜ r ≡ countersGiven ce lost ⌝ }
-{
-    Counts {
-        ect0: 0,
-        ect1: 0,
-        ce,
-        notect: 0,
-        lost,
-        duplicates: 0,
-    }
-}
 
 // What came between two ECN reports, the later and the earlier one. Gives 0 and 3 words at the front of `counts`, or refusal 10, or 12 where
 // `counts` has fewer words.
@@ -34,9 +20,17 @@ pub extern "C" fn flasknib_ecn_between(
 ) -> u8
     ensures { λ r. ⌜ TellsBetween «later_highest» «later_ce» «later_lost» «earlier_highest» «earlier_ce» «earlier_lost» (now (counts .entry)) r (now (counts .exit)) ⌝ }
 {
-    let later = counters_of(later_ce, later_lost);
-    let earlier = counters_of(earlier_ce, earlier_lost);
-    match between::counters(later, earlier).expecting(later_highest, earlier_highest) {
+    let later = Kept {
+        highest: later_highest,
+        ce: later_ce,
+        lost: later_lost,
+    };
+    let earlier = Kept {
+        highest: earlier_highest,
+        ce: earlier_ce,
+        lost: earlier_lost,
+    };
+    match later.since(earlier) {
         Between::Refused(refusal) => refusal.number(),
         Between::Counts(c) => {
             if counts.len() < ecn_words::WORDS {
