@@ -279,9 +279,7 @@ int16_t flasknib_lost_since(uint16_t later, uint16_t earlier);
  *   - both times are below 2^48; the highest number is below 2^32, and 0 where there was no report;
  *   - at most k intervals are in the window, each with a length of 1 to 10,000,000 and a fraction of 0 to 255; the words of all others are 0.
  *
- * Which call is for which packet: one with an SR or an RR and a report block about us (words 23 and 0 of the compound are 1) is a report, any
- * other is heard. A packet without an SR or an RR never enters the congestion rule, nor may its ECN feedback feed the counts of
- * flasknib_breaker_report_ecn (RFC 8083, section 5).
+ * Which call is for which packet: flasknib_breaker_call says it, by the words of flasknib_read_compound.
  */
 #define FLASKNIB_BREAKER_WORDS 77
 
@@ -371,6 +369,50 @@ uint16_t flasknib_breaker_tick(uint64_t *breaker, size_t words, uint64_t time);
 /* A packet that is no report was heard: a Go moves the time from which the timeout is measured to `time`, and nothing else. Refusals 9, 10, 11. A
  * stopped breaker answers its stop. */
 uint16_t flasknib_breaker_heard(uint64_t *breaker, size_t words, uint64_t time);
+
+/* ---- which call is for which packet ----------------------------------------------------------------------------------------------
+ * A packet with an ECN report is one with ECN feedback, or with a summary entry and a report block beside it, which has its highest number. By RFC
+ * 8083, section 5, the first of these that holds:
+ *   1. no SR or RR: heard. It keeps the link alive, and nothing else;
+ *   2. an ECN report, an earlier one of the same receiver, and a highest number that did not go back: a report with what came between the two;
+ *   3. a report block: a report with its fraction;
+ *   4. an ECN report alone, the first or one whose highest number went back: a report of which nothing was lost, marked or expected;
+ *   5. an SR or an RR alone: heard.
+ * The highest number is the report block's where there is one, else the feedback's. The packet's ECN report is then kept of its receiver; where it has
+ * none, or no SR or RR, the earlier one stays.
+ */
+
+/* 4 words kept of one receiver between its packets: whether an ECN report is kept (0 or 1), its highest number, packets marked with CE and packets
+ * lost. All are 0 where none is kept, as before the first packet. */
+#define FLASKNIB_KEPT_WORDS 4
+
+/* The places of the words. */
+enum { FLASKNIB_KEPT_THERE = 0, FLASKNIB_KEPT_HIGHEST = 1, FLASKNIB_KEPT_CE = 2, FLASKNIB_KEPT_LOST = 3 };
+
+/* 6 words of the call that a packet is for; what that call does not take is 0. */
+#define FLASKNIB_CALL_WORDS 6
+
+/* The places of the words. WHICH says which call; HIGHEST and FRACTION are for flasknib_breaker_report; HIGHEST, LOST (signed), MARKED and EXPECTED for
+ * flasknib_breaker_report_ecn. */
+enum {
+    FLASKNIB_CALL_WHICH = 0,
+    FLASKNIB_CALL_HIGHEST = 1,
+    FLASKNIB_CALL_FRACTION = 2,
+    FLASKNIB_CALL_LOST = 3,
+    FLASKNIB_CALL_MARKED = 4,
+    FLASKNIB_CALL_EXPECTED = 5
+};
+
+/* Which call: flasknib_breaker_heard, flasknib_breaker_report, flasknib_breaker_report_ecn. */
+enum { FLASKNIB_CALL_HEARD = 0, FLASKNIB_CALL_REPORT = 1, FLASKNIB_CALL_REPORT_ECN = 2 };
+
+/* The call for a packet, by the 24 words that flasknib_read_compound gave of it and the 4 words kept of its receiver. Gives 0, the 6 words of the call
+ * at the front of `call`, and what is kept then in the place of what was. Refusal 9 for another number of words than 24 or 4, for a yes-or-no word above
+ * 1 (words 0, 7, 16 and 23 of the compound), for a fraction past 8 bits, a highest number past 32 or CE or lost past 16 of what is there, and for kept
+ * words that are not 0 where none is kept; no other word is looked at. Then 12 where `call` has fewer than 6 words. The words that the reader gave and
+ * that an earlier call kept are never refused with 9, and a breaker takes the losses that they give: time, round trip, packet size and rate are the
+ * caller's. Where the breaker refuses the call, put the kept words back to what they were before, so that the next report counts from there. */
+uint8_t flasknib_breaker_call(const uint64_t *found, size_t found_words, uint64_t *kept, size_t kept_words, uint64_t *call, size_t call_words);
 
 /* ---- trace blocks and table rows -------------------------------------------------------------------------------------------------
  * A trace is a row of blocks of 512 bytes: kind (2), count (2), SSRC (4), body (502) and a checksum (2), big-endian. Block 0 has the trace's label,

@@ -174,6 +174,48 @@ static void ecn_counts(void)
     CHECK(counts[FLASKNIB_ECN_EXPECTED] == 3);
 }
 
+/* A packet with an RR and a block of fraction 33 and highest number 10, then two with the feedback: the first alone, the second 3 numbers on. */
+static void packet_calls(void)
+{
+    uint64_t found[FLASKNIB_COMPOUND_WORDS + 1] = {0}, kept[FLASKNIB_KEPT_WORDS + 1] = {0}, call[FLASKNIB_CALL_WORDS];
+
+    CHECK(flasknib_breaker_call(found, FLASKNIB_COMPOUND_WORDS - 1, kept, FLASKNIB_KEPT_WORDS, call, FLASKNIB_CALL_WORDS) == FLASKNIB_REFUSAL_MALFORMED);
+    CHECK(flasknib_breaker_call(found, FLASKNIB_COMPOUND_WORDS + 1, kept, FLASKNIB_KEPT_WORDS, call, FLASKNIB_CALL_WORDS) == FLASKNIB_REFUSAL_MALFORMED);
+    CHECK(flasknib_breaker_call(found, FLASKNIB_COMPOUND_WORDS, kept, FLASKNIB_KEPT_WORDS - 1, call, FLASKNIB_CALL_WORDS) == FLASKNIB_REFUSAL_MALFORMED);
+    CHECK(flasknib_breaker_call(found, FLASKNIB_COMPOUND_WORDS, kept, FLASKNIB_KEPT_WORDS + 1, call, FLASKNIB_CALL_WORDS) == FLASKNIB_REFUSAL_MALFORMED);
+    CHECK(flasknib_breaker_call(found, FLASKNIB_COMPOUND_WORDS, kept, FLASKNIB_KEPT_WORDS, call, FLASKNIB_CALL_WORDS - 1) == FLASKNIB_REFUSAL_ROOM);
+    CHECK(flasknib_breaker_call(found, FLASKNIB_COMPOUND_WORDS, kept, FLASKNIB_KEPT_WORDS, call, FLASKNIB_CALL_WORDS) == 0);
+    CHECK(call[FLASKNIB_CALL_WHICH] == FLASKNIB_CALL_HEARD);
+    found[FLASKNIB_COMPOUND_SR_OR_RR] = found[FLASKNIB_COMPOUND_REPORT] = 1;
+    found[FLASKNIB_COMPOUND_REPORT_FRACTION] = 33;
+    found[FLASKNIB_COMPOUND_REPORT_HIGHEST] = 10;
+    CHECK(flasknib_breaker_call(found, FLASKNIB_COMPOUND_WORDS, kept, FLASKNIB_KEPT_WORDS, call, FLASKNIB_CALL_WORDS) == 0);
+    CHECK(call[FLASKNIB_CALL_WHICH] == FLASKNIB_CALL_REPORT);
+    CHECK(call[FLASKNIB_CALL_HIGHEST] == 10);
+    CHECK(call[FLASKNIB_CALL_FRACTION] == 33);
+    CHECK(kept[FLASKNIB_KEPT_THERE] == 0);
+    found[FLASKNIB_COMPOUND_REPORT] = 0;
+    found[FLASKNIB_COMPOUND_FEEDBACK] = 1;
+    found[FLASKNIB_COMPOUND_FEEDBACK_HIGHEST] = 11;
+    found[FLASKNIB_COMPOUND_FEEDBACK_CE] = 6;
+    found[FLASKNIB_COMPOUND_FEEDBACK_LOST] = 7;
+    CHECK(flasknib_breaker_call(found, FLASKNIB_COMPOUND_WORDS, kept, FLASKNIB_KEPT_WORDS, call, FLASKNIB_CALL_WORDS) == 0);
+    CHECK(call[FLASKNIB_CALL_WHICH] == FLASKNIB_CALL_REPORT_ECN);
+    CHECK(call[FLASKNIB_CALL_HIGHEST] == 11);
+    CHECK(call[FLASKNIB_CALL_EXPECTED] == 0);
+    CHECK(kept[FLASKNIB_KEPT_THERE] == 1);
+    CHECK(kept[FLASKNIB_KEPT_HIGHEST] == 11);
+    CHECK(kept[FLASKNIB_KEPT_CE] == 6);
+    CHECK(kept[FLASKNIB_KEPT_LOST] == 7);
+    found[FLASKNIB_COMPOUND_FEEDBACK_HIGHEST] = 14;
+    found[FLASKNIB_COMPOUND_FEEDBACK_CE] = 8;
+    found[FLASKNIB_COMPOUND_FEEDBACK_LOST] = 8;
+    CHECK(flasknib_breaker_call(found, FLASKNIB_COMPOUND_WORDS, kept, FLASKNIB_KEPT_WORDS, call, FLASKNIB_CALL_WORDS) == 0);
+    CHECK(call[FLASKNIB_CALL_LOST] == 1);
+    CHECK(call[FLASKNIB_CALL_MARKED] == 2);
+    CHECK(call[FLASKNIB_CALL_EXPECTED] == 3);
+}
+
 static uint16_t started(uint64_t k, uint64_t m, uint64_t timeout, uint8_t reduce, uint8_t full, uint64_t time)
 {
     uint64_t breaker[FLASKNIB_BREAKER_WORDS];
@@ -505,6 +547,7 @@ int main(void)
     compound_words();
     compound_refusals();
     ecn_counts();
+    packet_calls();
     start_limits();
     report_limits();
     breaker_words();

@@ -1,6 +1,6 @@
 //! The same calls answered by the model.
 use crate::calls::{Calls, Settings, GO, REDUCE, REFUSED, RESTART, RESTARTED, STOP};
-use model::between::{between, lost_since, since, Carried};
+use model::between::{between, kept_from_words, kept_to_words, lost_since, since, Carried, Packet};
 use model::breaker::{Answer, Breaker, Report};
 use model::compound::Profile;
 use model::converter::Run;
@@ -178,6 +178,15 @@ impl Calls for Expected {
 
     fn breaker_heard(&self, words: &mut [u64], time: u64) -> u16 {
         step(words, |breaker| breaker.heard(time))
+    }
+
+    fn breaker_call(&self, found: &[u64], kept: &mut [u64], call: &mut [u64]) -> u8 {
+        let told = Packet::from_words(found).and_then(|packet| Ok(packet.call(kept_from_words(kept)?)));
+        let answer = put_words(told.as_ref().map(|(words, _)| words).map_err(|&refusal| refusal), call);
+        if let (Ok((_, then)), 0) = (told, answer) {
+            kept.copy_from_slice(&kept_to_words(then));
+        }
+        answer
     }
 
     fn read_block(&self, block: &[u8], found: &mut [u64]) -> u8 {

@@ -27,6 +27,7 @@ extern "C" {
                                    size: u64, rate: u64) -> u16;
     fn flasknib_breaker_tick(breaker: *mut u64, words: usize, time: u64) -> u16;
     fn flasknib_breaker_heard(breaker: *mut u64, words: usize, time: u64) -> u16;
+    fn flasknib_breaker_call(found: *const u64, found_words: usize, kept: *mut u64, kept_words: usize, call: *mut u64, call_words: usize) -> u8;
     fn flasknib_read_block(block: *const u8, length: usize, found: *mut u64, words: usize) -> u8;
     fn flasknib_record_at(block: *const u8, length: usize, i: usize, found: *mut u64, words: usize) -> u8;
     fn flasknib_write_label(form: u8, label: *const u8, length: usize, ssrc: u32, out: *mut u8, room: usize) -> i64;
@@ -138,6 +139,10 @@ impl Calls for Library {
 
     fn breaker_heard(&self, breaker: &mut [u64], time: u64) -> u16 {
         unsafe { flasknib_breaker_heard(breaker.as_mut_ptr(), breaker.len(), time) }
+    }
+
+    fn breaker_call(&self, found: &[u64], kept: &mut [u64], call: &mut [u64]) -> u8 {
+        unsafe { flasknib_breaker_call(found.as_ptr(), found.len(), kept.as_mut_ptr(), kept.len(), call.as_mut_ptr(), call.len()) }
     }
 
     fn read_block(&self, block: &[u8], found: &mut [u64]) -> u8 {

@@ -61,10 +61,11 @@ fn main() {
     conversions::calls(compare, draw);
     streams::calls(compare, draw);
     let (lists, orders) = lists::lists(compare, draw);
+    let [heard, reports, with_counts] = between::packets(compare, draw);
     compare.close(table.as_deref());
     let (calls, functions) = (compare.calls(), compare.functions());
     println!(
         "compare: {calls} calls of {functions} functions, {mutations} mutations of compounds, {lists} lists and {orders} other orders of them, \
-         {cuts} lists cut in two, seed {seed}: as the model"
+         {cuts} lists cut in two, packets for {heard} heard calls, {reports} reports and {with_counts} with counts, seed {seed}: as the model"
     );
 }

@@ -7,12 +7,11 @@ use Rattle.breaker.specs.declared.EcnCounts.{EcnCounts}
 use Rattle.breaker.specs.Limits.{countsOk}
 use Rattle.rtcp.specs.declared.MaybeReport.{MaybeReport}
 use Rattle.between.specs.declared.Between.{Between}
-use Rattle.between.specs.declared.calls.Kept.{Kept}
 use Rattle.between.specs.declared.calls.MaybeKept.{MaybeKept}
 use Rattle.between.specs.declared.calls.MaybeCounts.{MaybeCounts}
 use Rattle.between.specs.declared.calls.Call.{Call}
-use Rattle.between.specs.Differences.{signalsOf, expectingOf}
-use Rattle.between.specs.PacketCalls.{ecnReportOf, countersOf, sinceKept, countsIn, countsSince, highestIn, byCounts, byBlock, alone, callOf}
+use Rattle.between.specs.Differences.{signalsOf}
+use Rattle.between.specs.PacketCalls.{ecnReportOf, countersGiven, sinceKept, countsIn, countsSince, highestIn, byCounts, byBlock, alone, callOf}
 use Rattle.between.specs.Theorems.{KeptIsEnough, fractionFits, lossFits, CallInLimits, someBlock, SomeCall}
 use Rattle.between.proofs.Exact.{given-in-limits}
 
@@ -27,7 +26,7 @@ unfolding sinceKept
 since-fits (MaybeKept.Present a) (MaybeKept.Present b) x e = go (sinceKept a b) refl e
   where
     go : (w : Between) → sinceKept a b ≡ w → countsIn w ≡ MaybeCounts.Present x → countsOk x ≡ true
-    go (Between.Counts y) q f = let same : y ≡ x = cc in given-in-limits (countersOf a) (countersOf b) (a .highest) (b .highest) x (q ∙ ap Between.Counts same)
+    go (Between.Counts y) q f = let same : y ≡ x = cc in given-in-limits (countersGiven (a .ce) (a .lost)) (countersGiven (b .ce) (b .lost)) (a .highest) (b .highest) x (q ∙ ap Between.Counts same)
     go (Between.Refused refusal) q f = let z : _≡_ {A = ℕ} 0 1 = cc in absurd (omega arith)
 since-fits (MaybeKept.Present a) MaybeKept.Absent x e = let z : _≡_ {A = ℕ} 0 1 = cc in absurd (omega arith)
 since-fits MaybeKept.Absent earlier x e = let z : _≡_ {A = ℕ} 0 1 = cc in absurd (omega arith)

@@ -6,7 +6,6 @@ use mathlib.Core.Bool.{not, cond}
 use Prim.Native.Nat.{ℕ}
 use lib.IntN.{pos}
 use Rattle.format.specs.declared.Counts.{Counts}
-use Rattle.breaker.specs.declared.EcnCounts.{EcnCounts}
 use Rattle.breaker.specs.declared.Loss.the-variants as loss
 use Rattle.rtcp.specs.declared.Compound.{Compound}
 use Rattle.rtcp.specs.declared.MaybeReport.{MaybeReport}
@@ -48,12 +47,13 @@ keptAfter c earlier = cond (not (c .reporting)) earlier (orEarlier (ecnReportOf 
 -- ---- what came since the earlier one
 
 -- the counters that tell of congestion; the others play no part
-abbrev pub countersOf : Kept → Counts
-countersOf k = record { ect0 = 0; ect1 = 0; ce = k .ce; notect = 0; lost = k .lost; duplicates = 0 }
+abbrev pub countersGiven : ℕ → ℕ → Counts
+countersGiven ce lost = record { ect0 = 0; ect1 = 0; ce = ce; notect = 0; lost = lost; duplicates = 0 }
 
 -- L, C and E, or 10 where the highest number went back
 unfoldable pub sinceKept : Kept → Kept → Between
-sinceKept later earlier = expectingOf (signalsOf (countersOf later) (countersOf earlier)) (later .highest) (earlier .highest)
+sinceKept later earlier =
+    expectingOf (signalsOf (countersGiven (later .ce) (later .lost)) (countersGiven (earlier .ce) (earlier .lost))) (later .highest) (earlier .highest)
 
 abbrev pub countsIn : Between → MaybeCounts
 countsIn (Between.Counts counts) = MaybeCounts.Present counts

@@ -1,6 +1,6 @@
 // Which of the breaker's calls a packet is for (RFC 8083, section 5; document 02, requests L2 and L4), and what is kept of its receiver.
 ghost use mathlib.Core.Path.{_≡_};
-ghost use Rattle.between.specs.PacketCalls.{countersOf, sinceKept, ecnReportOf, keptAfter, countsSince, highestIn, callOf, callFor};
+ghost use Rattle.between.specs.PacketCalls.{countersGiven, sinceKept, ecnReportOf, keptAfter, countsSince, highestIn, callOf, callFor};
 use crate::Between;
 use crate::counters;
 use breaker::EcnCounts;
@@ -48,26 +48,28 @@ const NONE: EcnCounts = EcnCounts {
     expected: 0,
 };
 
-impl Kept {
-    // The counters that tell of congestion; the others play no part.
-    fn counts(self) -> Counts
-        ensures { λ r. ⌜ r ≡ countersOf self ⌝ }
-    {
-        Counts {
-            ect0: 0,
-            ect1: 0,
-            ce: self.ce,
-            notect: 0,
-            lost: self.lost,
-            duplicates: 0,
-        }
+// The counters of an ECN report that tell of congestion; the others play no part.
+pub fn counters_of(ce: u16, lost: u16) -> Counts
+    ensures { λ r. ⌜ r ≡ countersGiven ce lost ⌝ }
+{
+    Counts {
+        ect0: 0,
+        ect1: 0,
+        ce,
+        notect: 0,
+        lost,
+        duplicates: 0,
     }
+}
 
+impl Kept {
     // L, C and E since an earlier report.
     pub fn since(self, earlier: Kept) -> Between
         ensures { λ r. ⌜ r ≡ sinceKept self earlier ⌝ }
     {
-        counters(self.counts(), earlier.counts()).expecting(self.highest, earlier.highest)
+        let new = counters_of(self.ce, self.lost);
+        let old = counters_of(earlier.ce, earlier.lost);
+        counters(new, old).expecting(self.highest, earlier.highest)
     }
 }
 

@@ -17,6 +17,7 @@ pub use calls::Kept;
 pub use calls::MaybeKept;
 pub use calls::PacketCall;
 pub use calls::call_for;
+pub use calls::counters_of;
 
 // The signs of congestion between two reports: L and C. There is no E here, since a summary has no highest number.
 pub struct Signals {

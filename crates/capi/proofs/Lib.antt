@@ -12,3 +12,4 @@ pub mod RunSteps
 pub mod FormsSteps
 pub mod StreamsLaws
 pub mod StreamsSteps
+pub mod PacketSteps

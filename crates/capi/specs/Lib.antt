@@ -2,6 +2,7 @@ pub mod Codes
 pub mod Sources
 pub mod CompoundCalls
 pub mod BreakerCalls
+pub mod PacketWords
 pub mod Blocks
 pub mod Chains
 pub mod Tables

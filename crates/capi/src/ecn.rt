@@ -1,5 +1,4 @@
 // What came between two ECN reports, for C.
-ghost use mathlib.Core.Path.{_≡_};
 ghost use Rattle.capi.specs.CompoundCalls.{TellsBetween};
 use answers::ROOM;
 use between::Between;

@@ -8,6 +8,7 @@ pub mod conversions;
 pub mod differences;
 pub mod ecn;
 pub mod losses;
+pub mod packet_calls;
 pub mod rows;
 pub mod runs;
 pub mod sources;

@@ -10,3 +10,6 @@ pub mod PlaceRuns
 pub mod Alike
 pub mod Taking
 pub mod TableLaws
+pub mod FitLaws
+pub mod KeptLaws
+pub mod CompoundLaws

@@ -9,3 +9,6 @@ pub mod LostWords
 pub mod FormWords
 pub mod RunWords
 pub mod ConversionWords
+pub mod KeptWords
+pub mod CallWords
+pub mod Widths

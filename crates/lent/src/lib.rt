@@ -2,11 +2,14 @@
 // not stored.
 mod access;
 pub mod breaker_words;
+pub mod call_words;
 pub mod compound_words;
 pub mod conversion_words;
 pub mod ecn_words;
 pub mod form_words;
+pub mod kept_words;
 pub mod lost_words;
 pub mod run_words;
 pub mod source_words;
 pub mod table_words;
+mod widths;

@@ -1,6 +1,6 @@
 -- `between::calls::counts_since` meets its contract. Assumes nothing.
 use borrow.Author.Needs.{needs}
-use mathlib.Core.Path.{_≡_, sym, _∙_}
+use mathlib.Core.Path.{sym, _∙_}
 use Rattle.between.proofs.calls.counts_since.Statement.{statement}
 use Rattle.between.proofs.calls.counts_since.Tie as tie
 

@@ -1,7 +1,7 @@
 -- `between::calls::kept_after` meets its contract. Assumes nothing.
 use borrow.Author.Needs.{needs}
-use mathlib.Core.Path.{_≡_, sym, _∙_}
-use Rattle.between.specs.PacketCalls.{ecnReportOf, keptAfter}
+use mathlib.Core.Path.{sym, _∙_}
+use Rattle.between.specs.PacketCalls.{keptAfter}
 use Rattle.between.proofs.calls.kept_after.Statement.{statement}
 use Rattle.between.proofs.calls.kept_after.Tie as tie
 

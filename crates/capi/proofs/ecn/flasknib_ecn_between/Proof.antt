@@ -1,7 +1,6 @@
 -- `capi::ecn::flasknib_ecn_between` meets its contract. Assumes nothing.
 use borrow.Author.Needs.{needs}
 use mathlib.Core.Path.{refl, sym, ap, _∙_}
-use native.Mathlib.Omega.{arith}
 use denote.Ref.{now}
 use Rattle.answers.proofs.Stores.{wrote-refused, wrote-short, wrote-all}
 use Rattle.between.specs.PacketCalls.{sinceKept}

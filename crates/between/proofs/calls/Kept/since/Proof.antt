@@ -11,7 +11,7 @@ returns : tie.Need-returns
 unfolding sinceKept
 returns c =
     let a = c .before .before .before .before .args in
-    let signals = c .before .counters .ensures ∙ (λ i. signalsOf (c .before .before .before .counts .ensures i) (c .before .before .counts2 .ensures i)) in
+    let signals = c .before .counters .ensures ∙ (λ i. signalsOf (c .before .before .before .counters-of .ensures i) (c .before .before .counters-of2 .ensures i)) in
     c .expecting .ensures ∙ ap (λ (s : Signals). expectingOf s (a .self .highest) (a .earlier .highest)) signals
 
 pub since-spec : {M : Type 1} → statement M
