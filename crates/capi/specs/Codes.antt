@@ -1,4 +1,4 @@
--- The answers of include/flasknib.h as numbers: a refusal is its number in document 01's table, negative where a length could stand.
+-- The answers of include/flasknib.h as numbers: a refusal is its number in documents 01 and 02, negative where a length could stand.
 use mathlib.Core.Path.{_≡_}
 use Prim.Native.Nat.{ℕ, _+_, _*_}
 use mathlib.Core.List.{List}
