@@ -1,7 +1,10 @@
 /* Two intervals of 5,000 ms with a quarter of the packets lost, packets of 1,000 bytes and a round trip of 100 ms: at 244,948 bytes per
- * second the sender goes on, at 244,949 it stops for congestion (document 01, C9 and C10). The same where no packet is lost and a quarter of
- * them is marked with CE (document 02, L2). A packet that is no report moves the time from which the timeout is measured, and a report earlier
- * than it is refused (L4). With the full throughput equation the sender goes on at 31,606 bytes per second and stops at 31,607 (L9).
+ * second the sender goes on, at 244,949 it stops for congestion (document 01, C9 and C10). A packet that is no report moves the time from which
+ * the timeout is measured, and a report earlier than it is refused (document 02, L4). With the full throughput equation the sender goes on at
+ * 31,606 bytes per second and stops at 31,607 (L9).
+ *
+ * Then what a sender does with each RTCP packet that it gets: on a path that marks every packet with CE and drops none, it stops at the fourth
+ * compound (L2; RFC 8083, section 5). And what it does with what is refused.
  *
  *   rt staticlib capi
  *   cc -Iinclude examples/breaker.c target/staticlib/libcapi.a -o breaker
@@ -10,6 +13,8 @@
 #include <string.h>
 
 #include "flasknib.h"
+
+enum { SENDER = 9, MEDIA = 1 }; /* the SSRCs of the receiver and of our own stream */
 
 static void print_answer(const char *call, uint16_t answer)
 {
@@ -27,34 +32,20 @@ static uint16_t report(uint64_t *breaker, uint64_t time, uint32_t highest, uint6
     return flasknib_breaker_report(breaker, FLASKNIB_BREAKER_WORDS, time, highest, 64, 100, 1000, rate);
 }
 
-/* The same report with what came since the report before it: by the feedback of then the highest number was 2,000 and 250 packets were marked, by
- * that of now it is 3,000 and 500 are marked; none is lost. */
-static uint16_t report_marked(uint64_t *breaker, uint64_t time, uint32_t highest, uint64_t rate)
-{
-    uint64_t counts[FLASKNIB_ECN_WORDS];
-    uint8_t refusal = flasknib_ecn_between(highest, 500, 0, 2000, 250, 0, counts, FLASKNIB_ECN_WORDS);
-
-    if (refusal != 0)
-        return FLASKNIB_REFUSED + refusal;
-    printf("lost %d, marked %d, expected %d\n", (int)counts[FLASKNIB_ECN_LOST], (int)counts[FLASKNIB_ECN_MARKED], (int)counts[FLASKNIB_ECN_EXPECTED]);
-    return flasknib_breaker_report_ecn(breaker, FLASKNIB_BREAKER_WORDS, time, highest, (int64_t)counts[FLASKNIB_ECN_LOST],
-                                       counts[FLASKNIB_ECN_MARKED], counts[FLASKNIB_ECN_EXPECTED], 100, 1000, rate);
-}
-
 /* Three reports at `rate` bytes per second with the full throughput equation; the last answer. */
 static uint16_t with_full_equation(uint64_t rate)
 {
     uint64_t breaker[FLASKNIB_BREAKER_WORDS];
+    uint16_t answer = flasknib_breaker_start(2, 3, 15000, 0, 1, 0, breaker, FLASKNIB_BREAKER_WORDS);
 
-    flasknib_breaker_start(2, 3, 15000, 0, 1, 0, breaker, FLASKNIB_BREAKER_WORDS);
-    report(breaker, 5000, 1000, rate);
-    report(breaker, 10000, 2000, rate);
-    return report(breaker, 15000, 3000, rate);
+    for (int i = 1; i <= 3 && answer == FLASKNIB_GO; i++)
+        answer = report(breaker, 5000 * i, 1000 * i, rate);
+    return answer;
 }
 
-int main(void)
+static void worked_examples(void)
 {
-    uint64_t breaker[FLASKNIB_BREAKER_WORDS], faster[FLASKNIB_BREAKER_WORDS], marked[FLASKNIB_BREAKER_WORDS];
+    uint64_t breaker[FLASKNIB_BREAKER_WORDS], faster[FLASKNIB_BREAKER_WORDS];
 
     /* k = 2 intervals, m = 3 reports with no new number, 15,000 ms, no reduction, the simplified equation. */
     print_answer("start at 0", flasknib_breaker_start(2, 3, 15000, 0, 0, 0, breaker, FLASKNIB_BREAKER_WORDS));
@@ -62,11 +53,8 @@ int main(void)
     print_answer("report at 10000", report(breaker, 10000, 2000, 244948));
 
     memcpy(faster, breaker, sizeof breaker);
-    memcpy(marked, breaker, sizeof breaker);
     print_answer("report at 15000, 244948 bytes/s", report(breaker, 15000, 3000, 244948));
     print_answer("report at 15000, 244949 bytes/s", report(faster, 15000, 3000, 244949));
-    print_answer("the same, marked and not lost", report_marked(marked, 15000, 3000, 244949));
-    print_answer("a highest number that went back", report_marked(marked, 15000, 1999, 244949));
 
     print_answer("heard at 29000", flasknib_breaker_heard(breaker, FLASKNIB_BREAKER_WORDS, 29000));
     print_answer("report at 28999", report(breaker, 28999, 4000, 244948));
@@ -79,5 +67,116 @@ int main(void)
 
     faster[FLASKNIB_BREAKER_STATE] = 4;
     print_answer("tick in state 4", flasknib_breaker_tick(faster, FLASKNIB_BREAKER_WORDS, 30000));
+}
+
+/* ---- a sender and the packets that it gets */
+
+struct path {
+    uint64_t breaker[FLASKNIB_BREAKER_WORDS]; /* the sender's */
+    uint64_t kept[FLASKNIB_KEPT_WORDS];       /* what it keeps of the receiver */
+    uint64_t size, rtt, rate;                 /* its packets' bytes, the round trip in ms as it was measured, and the bytes it sends per second */
+    uint64_t table[FLASKNIB_PLACE_WORDS];     /* what the receiver counts */
+};
+
+static void print_call(const uint64_t *call)
+{
+    if (call[FLASKNIB_CALL_WHICH] == FLASKNIB_WHICH_REPORT_ECN)
+        printf("  a report: lost %d, marked %d, expected %d\n", (int)(int64_t)call[FLASKNIB_CALL_LOST], (int)call[FLASKNIB_CALL_MARKED],
+               (int)call[FLASKNIB_CALL_EXPECTED]);
+    else if (call[FLASKNIB_CALL_WHICH] == FLASKNIB_WHICH_REPORT)
+        printf("  a report: fraction %d\n", (int)call[FLASKNIB_CALL_FRACTION]);
+    else
+        printf("  heard\n");
+}
+
+/* The breaker's call for a packet. A round trip or a rate above the limit is taken as the limit: a slow path must not hide behind a refusal. */
+static uint16_t called(struct path *path, const uint64_t *call, uint64_t time)
+{
+    uint64_t rtt = path->rtt < FLASKNIB_BREAKER_MOST_RTT ? path->rtt : FLASKNIB_BREAKER_MOST_RTT;
+    uint64_t rate = path->rate < FLASKNIB_BREAKER_MOST_RATE ? path->rate : FLASKNIB_BREAKER_MOST_RATE;
+    uint32_t highest = (uint32_t)call[FLASKNIB_CALL_HIGHEST];
+
+    if (call[FLASKNIB_CALL_WHICH] == FLASKNIB_WHICH_REPORT_ECN)
+        return flasknib_breaker_report_ecn(path->breaker, FLASKNIB_BREAKER_WORDS, time, highest, (int64_t)call[FLASKNIB_CALL_LOST],
+                                           call[FLASKNIB_CALL_MARKED], call[FLASKNIB_CALL_EXPECTED], rtt, path->size, rate);
+    if (call[FLASKNIB_CALL_WHICH] == FLASKNIB_WHICH_REPORT)
+        return flasknib_breaker_report(path->breaker, FLASKNIB_BREAKER_WORDS, time, highest, call[FLASKNIB_CALL_FRACTION], rtt, path->size, rate);
+    return flasknib_breaker_heard(path->breaker, FLASKNIB_BREAKER_WORDS, time);
+}
+
+/* What a sender does with an RTCP packet: the breaker's answer, or the refusal of the packet. Where the breaker refuses, what was kept is put back,
+ * so that the next report counts this one's packets too. */
+static uint16_t packet(struct path *path, uint64_t time, const uint8_t *bytes, size_t length)
+{
+    uint64_t found[FLASKNIB_COMPOUND_WORDS], call[FLASKNIB_CALL_WORDS], before[FLASKNIB_KEPT_WORDS];
+    uint8_t refusal = flasknib_read_compound(bytes, length, MEDIA, FLASKNIB_PROFILE_REDUCED_SIZE, found, FLASKNIB_COMPOUND_WORDS);
+    uint16_t answer;
+
+    if (refusal != 0)
+        return FLASKNIB_REFUSED + refusal;
+    memcpy(before, path->kept, sizeof before);
+    refusal = flasknib_breaker_call(found, FLASKNIB_COMPOUND_WORDS, path->kept, FLASKNIB_KEPT_WORDS, call, FLASKNIB_CALL_WORDS);
+    if (refusal != 0)
+        return FLASKNIB_REFUSED + refusal;
+    print_call(call);
+    answer = called(path, call, time);
+    if (answer >= FLASKNIB_REFUSED)
+        memcpy(path->kept, before, sizeof before);
+    return answer;
+}
+
+/* 125 packets more with CE, and the receiver's compound about them, an RR without blocks and the feedback: its length. */
+static size_t marked_second(struct path *path, uint16_t *next, uint8_t *bytes, size_t room)
+{
+    int64_t length;
+
+    for (int i = 0; i < 125; i++) {
+        uint8_t refusal = flasknib_sources_arrive(path->table, FLASKNIB_PLACE_WORDS, MEDIA, (*next)++, FLASKNIB_MARK_CE);
+        if (refusal != 0)
+            printf("an arrival: refused, %d\n", refusal);
+    }
+    length = flasknib_sources_write_compound(path->table, FLASKNIB_PLACE_WORDS, SENDER, bytes, room);
+    if (length < 0)
+        printf("a compound: refused, %d\n", (int)(-length % 256));
+    return length < 0 ? 0 : (size_t)length;
+}
+
+/* A compound a second: three of them and the first, which closes no interval, make k = 3 intervals. */
+static void marked_path(void)
+{
+    struct path path = {{0}, {0}, 1000, 100, 125000, {0}};
+    uint8_t bytes[FLASKNIB_SOURCES_COMPOUND_MOST_BYTES];
+    uint16_t next = 0;
+
+    print_answer("a path that marks every packet", flasknib_breaker_start_preset(0, path.breaker, FLASKNIB_BREAKER_WORDS));
+    for (int second = 1; second <= 4; second++)
+        print_answer("its compound", packet(&path, 1000 * second, bytes, marked_second(&path, &next, bytes, sizeof bytes)));
+}
+
+static void refusals(void)
+{
+    struct path path = {{0}, {0}, 1000, 70000, 200000000, {0}};
+    uint8_t bytes[FLASKNIB_SOURCES_COMPOUND_MOST_BYTES];
+    uint16_t next = 0;
+    size_t length;
+
+    print_answer("the same path", flasknib_breaker_start_preset(0, path.breaker, FLASKNIB_BREAKER_WORDS));
+    length = marked_second(&path, &next, bytes, sizeof bytes);
+    print_answer("a round trip of 70000 ms, 200000000 bytes/s", packet(&path, 1000, bytes, length));
+    length = marked_second(&path, &next, bytes, sizeof bytes);
+    print_answer("a second compound in the same ms", packet(&path, 1000, bytes, length));
+    print_answer("its feedback without the RR", packet(&path, 1500, bytes + 8, length - 8));
+    length = marked_second(&path, &next, bytes, sizeof bytes);
+    print_answer("the next compound", packet(&path, 2000, bytes, length));
+    print_answer("a packet that is cut off", packet(&path, 2500, bytes, length - 1));
+    path.kept[FLASKNIB_KEPT_THERE] = 2;
+    print_answer("words that are no receiver's", packet(&path, 3000, bytes, length));
+}
+
+int main(void)
+{
+    worked_examples();
+    marked_path();
+    refusals();
     return 0;
 }

@@ -86,7 +86,7 @@ abbrev pub byBlock : ℕ → MaybeReport → Call → Call
 byBlock highest (MaybeReport.Present r) next = Call.Report highest (loss.Fraction (r .fraction))
 byBlock highest MaybeReport.Absent next = next
 
--- an ECN report with nothing to compare: no counts, so that f is 0 (L2), or what the later rules say
+-- an ECN report with nothing to compare: a report with the counts 0, 0, 0, of which f is 0 (L2), or what the later rules say
 abbrev pub alone : ℕ → MaybeKept → Call → Call
 alone highest (MaybeKept.Present new) next = Call.Report highest (loss.Counts (record { lost = pos 0; marked = 0; expected = 0 }))
 alone highest MaybeKept.Absent next = next
@@ -94,7 +94,7 @@ alone highest MaybeKept.Absent next = next
 -- 1. no SR or RR: heard
 -- 2. an ECN report, and counts since the earlier one: a report with them
 -- 3. a report block: a report with its fraction
--- 4. an ECN report alone, the first or one whose number went back: a report with no counts
+-- 4. an ECN report alone, the first or one whose number went back: a report with the counts 0, 0, 0
 -- 5. an SR or RR alone: heard
 unfoldable pub callOf : Compound → MaybeKept → Call
 callOf c earlier =
