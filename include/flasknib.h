@@ -371,15 +371,15 @@ uint16_t flasknib_breaker_tick(uint64_t *breaker, size_t words, uint64_t time);
 uint16_t flasknib_breaker_heard(uint64_t *breaker, size_t words, uint64_t time);
 
 /* ---- which call is for which packet ----------------------------------------------------------------------------------------------
- * A packet with an ECN report is one with ECN feedback, or with a summary entry and a report block beside it, which has its highest number. By RFC
- * 8083, section 5, the first of these that holds:
+ * A packet with an ECN report is one with ECN feedback, or with a summary entry and a report block beside it, which has its highest number. By
+ * RFC 8083, section 5, the first of these that holds:
  *   1. no SR or RR: heard. It keeps the link alive, and nothing else;
  *   2. an ECN report, an earlier one of the same receiver, and a highest number that did not go back: a report with what came between the two;
  *   3. a report block: a report with its fraction;
  *   4. an ECN report alone, the first or one whose highest number went back: a report of which nothing was lost, marked or expected;
  *   5. an SR or an RR alone: heard.
- * The highest number is the report block's where there is one, else the feedback's. The packet's ECN report is then kept of its receiver; where it has
- * none, or no SR or RR, the earlier one stays.
+ * The highest number is the report block's where there is one, else the feedback's. The packet's ECN report is then kept of its receiver; where it
+ * has none, or no SR or RR, the earlier one stays.
  */
 
 /* 4 words kept of one receiver between its packets: whether an ECN report is kept (0 or 1), its highest number, packets marked with CE and packets
@@ -392,7 +392,7 @@ enum { FLASKNIB_KEPT_THERE = 0, FLASKNIB_KEPT_HIGHEST = 1, FLASKNIB_KEPT_CE = 2,
 /* 6 words of the call that a packet is for; what that call does not take is 0. */
 #define FLASKNIB_CALL_WORDS 6
 
-/* The places of the words. WHICH says which call; HIGHEST and FRACTION are for flasknib_breaker_report; HIGHEST, LOST (signed), MARKED and EXPECTED for
+/* The places of the words. HIGHEST and FRACTION are for flasknib_breaker_report; HIGHEST, LOST (signed), MARKED and EXPECTED are for
  * flasknib_breaker_report_ecn. */
 enum {
     FLASKNIB_CALL_WHICH = 0,
@@ -403,15 +403,18 @@ enum {
     FLASKNIB_CALL_EXPECTED = 5
 };
 
-/* Which call: flasknib_breaker_heard, flasknib_breaker_report, flasknib_breaker_report_ecn. */
-enum { FLASKNIB_CALL_HEARD = 0, FLASKNIB_CALL_REPORT = 1, FLASKNIB_CALL_REPORT_ECN = 2 };
+/* Which call it is: flasknib_breaker_heard, flasknib_breaker_report or flasknib_breaker_report_ecn. */
+enum { FLASKNIB_WHICH_HEARD = 0, FLASKNIB_WHICH_REPORT = 1, FLASKNIB_WHICH_REPORT_ECN = 2 };
 
-/* The call for a packet, by the 24 words that flasknib_read_compound gave of it and the 4 words kept of its receiver. Gives 0, the 6 words of the call
- * at the front of `call`, and what is kept then in the place of what was. Refusal 9 for another number of words than 24 or 4, for a yes-or-no word above
- * 1 (words 0, 7, 16 and 23 of the compound), for a fraction past 8 bits, a highest number past 32 or CE or lost past 16 of what is there, and for kept
- * words that are not 0 where none is kept; no other word is looked at. Then 12 where `call` has fewer than 6 words. The words that the reader gave and
- * that an earlier call kept are never refused with 9, and a breaker takes the losses that they give: time, round trip, packet size and rate are the
- * caller's. Where the breaker refuses the call, put the kept words back to what they were before, so that the next report counts from there. */
+/* The call for a packet, by the 24 words that flasknib_read_compound gave of it and the 4 words kept of its receiver. Gives 0, the 6 words of the
+ * call at the front of `call`, and what is kept then in the place of what was; or refusal 9, or 12 where `call` has fewer than 6 words. 9 is for
+ *   - another number of words than 24 or 4; a word 0, 7, 16 or 23 of the compound, or a first one of what is kept, above 1;
+ *   - where a report block is there, a fraction past 8 bits or a highest number past 32; where feedback is there, a highest number past 32 bits,
+ *     CE or lost past 16; where a summary entry is there, CE or lost past 16; the same of what is kept;
+ *   - kept words that are not 0 where none is kept.
+ * No other word is looked at. What the reader gave and an earlier call kept is never refused with 9, and the breaker takes the losses that it
+ * gives: time, round trip, packet size and rate are the caller's. Where the breaker refuses the call, put the kept words back to what they were
+ * before, so that the next report counts from there. */
 uint8_t flasknib_breaker_call(const uint64_t *found, size_t found_words, uint64_t *kept, size_t kept_words, uint64_t *call, size_t call_words);
 
 /* ---- trace blocks and table rows -------------------------------------------------------------------------------------------------

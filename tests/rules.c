@@ -117,6 +117,70 @@ static void window_rules(void)
     CHECK(breaker_with(FLASKNIB_BREAKER_USED, 2, FLASKNIB_BREAKER_K, 1) == FLASKNIB_REFUSED + FLASKNIB_REFUSAL_MALFORMED);
 }
 
+/* ---- the words of a packet and of its receiver */
+
+/* The answer to the call for a packet with an SR or RR and a report of each kind, of a receiver of which one is kept, all numbers 0, with a word of
+ * each changed. */
+static uint8_t call_with(size_t place, uint64_t word, size_t kept_place, uint64_t kept_word)
+{
+    uint64_t found[FLASKNIB_COMPOUND_WORDS] = {0}, kept[FLASKNIB_KEPT_WORDS] = {1}, call[FLASKNIB_CALL_WORDS];
+
+    found[FLASKNIB_COMPOUND_REPORT] = found[FLASKNIB_COMPOUND_FEEDBACK] = found[FLASKNIB_COMPOUND_SUMMARY] = found[FLASKNIB_COMPOUND_SR_OR_RR] = 1;
+    found[place] = word;
+    kept[kept_place] = kept_word;
+    return flasknib_breaker_call(found, FLASKNIB_COMPOUND_WORDS, kept, FLASKNIB_KEPT_WORDS, call, FLASKNIB_CALL_WORDS);
+}
+
+/* Whether a word of the packet, or of what is kept, is taken with one value and is malformed with the next. */
+static int found_to(size_t place, uint64_t most)
+{
+    return call_with(place, most, 0, 1) == 0 && call_with(place, most + 1, 0, 1) == FLASKNIB_REFUSAL_MALFORMED;
+}
+
+static int kept_to(size_t place, uint64_t most)
+{
+    return call_with(0, 1, place, most) == 0 && call_with(0, 1, place, most + 1) == FLASKNIB_REFUSAL_MALFORMED;
+}
+
+static void call_rules(void)
+{
+    static const size_t whether[] = {FLASKNIB_COMPOUND_REPORT, FLASKNIB_COMPOUND_FEEDBACK, FLASKNIB_COMPOUND_SUMMARY, FLASKNIB_COMPOUND_SR_OR_RR};
+    static const size_t counts[] = {FLASKNIB_COMPOUND_FEEDBACK_CE, FLASKNIB_COMPOUND_FEEDBACK_LOST, FLASKNIB_COMPOUND_SUMMARY_CE, FLASKNIB_COMPOUND_SUMMARY_LOST};
+
+    for (size_t i = 0; i < 4; i++) {
+        CHECK(call_with(whether[i], 0, 0, 1) == 0);
+        CHECK(found_to(whether[i], 1));
+        CHECK(found_to(counts[i], 65535));
+    }
+    CHECK(found_to(FLASKNIB_COMPOUND_REPORT_FRACTION, 255));
+    CHECK(found_to(FLASKNIB_COMPOUND_REPORT_HIGHEST, two32 - 1));
+    CHECK(found_to(FLASKNIB_COMPOUND_FEEDBACK_HIGHEST, two32 - 1));
+    CHECK(kept_to(FLASKNIB_KEPT_THERE, 1));
+    CHECK(kept_to(FLASKNIB_KEPT_HIGHEST, two32 - 1));
+    CHECK(kept_to(FLASKNIB_KEPT_CE, 65535));
+    CHECK(kept_to(FLASKNIB_KEPT_LOST, 65535));
+}
+
+/* Words that are not looked at: those of other fields, and those of what is absent. */
+static void unseen_words(void)
+{
+    uint64_t found[FLASKNIB_COMPOUND_WORDS], kept[FLASKNIB_KEPT_WORDS] = {0}, call[FLASKNIB_CALL_WORDS];
+    int seen = 0;
+
+    for (size_t place = 0; place < FLASKNIB_COMPOUND_WORDS; place++) {
+        seen += call_with(place, UINT64_MAX, 0, 1) == FLASKNIB_REFUSAL_MALFORMED;
+        found[place] = UINT64_MAX;
+    }
+    CHECK(seen == 4 + 2 + 3 + 2);
+    found[FLASKNIB_COMPOUND_REPORT] = found[FLASKNIB_COMPOUND_FEEDBACK] = found[FLASKNIB_COMPOUND_SUMMARY] = found[FLASKNIB_COMPOUND_SR_OR_RR] = 0;
+    CHECK(flasknib_breaker_call(found, FLASKNIB_COMPOUND_WORDS, kept, FLASKNIB_KEPT_WORDS, call, FLASKNIB_CALL_WORDS) == 0);
+    for (size_t place = FLASKNIB_KEPT_HIGHEST; place < FLASKNIB_KEPT_WORDS; place++) {
+        kept[place] = 1;
+        CHECK(flasknib_breaker_call(found, FLASKNIB_COMPOUND_WORDS, kept, FLASKNIB_KEPT_WORDS, call, FLASKNIB_CALL_WORDS) == FLASKNIB_REFUSAL_MALFORMED);
+        kept[place] = 0;
+    }
+}
+
 /* ---- records and labels */
 
 /* The answer to a block of zeros but for the mark of its last record. */
@@ -198,6 +262,8 @@ int main(void)
     source_limits();
     breaker_rules();
     window_rules();
+    call_rules();
+    unseen_words();
     record_limits();
     byte_order();
     label_rules();
