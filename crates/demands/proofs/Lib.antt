@@ -20,6 +20,7 @@ pub mod EachSource
 pub mod WorkedExamples
 pub mod Between
 pub mod BetweenReports
+pub mod OwnReports
 pub mod WorseLoss
 pub mod Witnesses
 pub mod Uses

@@ -10,6 +10,7 @@ pub mod OneStream
 pub mod LinesAreTable
 pub mod Examples
 pub mod BetweenReports
+pub mod OwnReports
 pub mod EachSource
 pub mod WorseLoss
 pub mod Witnesses
