@@ -47,7 +47,7 @@ class Ecntable:
 
     name, form, usage = "ecntable", 1, b"usage: ecntable <TRACE >TABLE\n"
     # How many blocks are read at a time behind block 0; a write that brings more than 1,000 bytes, and what those before it bring; the last.
-    piece, write, before, last = 128, 1, 0, 2
+    piece, write, before, last = 256, 1, 0, 2
     # Reads of at most 700 bytes that fail before anything is printed, and the whole blocks before each.
     early = ((20, 25),)
     ssrcs = (7,)

@@ -1,5 +1,5 @@
 -- A conversion in lent words, or refusal 9, and how long the blocks are that it writes. Assumes nothing.
-use mathlib.Core.Path.{_≡_, refl, ap, _∙_}
+use mathlib.Core.Path.{_≡_, refl, ap, _∙_, subst₂}
 use mathlib.Core.Bool.{Bool, true, false, cond}
 use mathlib.Core.List.{List, [], _∷_, _++_}
 use mathlib.Core.Option.{none, some}
@@ -8,7 +8,7 @@ use native.Mathlib.Omega.{arith}
 use borrow.Author.Tests.{eq-eqb, ne-eqb}
 use lib.IntN.{ℤ, pos, negℤ}
 use lib.ListN.{length, take, length-append}
-use Rattle.answers.specs.Writers.{written, stored, sizeIn, Wrote}
+use Rattle.answers.specs.Writers.{written, sizeIn, Wrote}
 use Rattle.answers.specs.declared.Refusal.the-variants as refusal
 use Rattle.answers.specs.declared.Written.{Written}
 use Rattle.answers.specs.declared.Written.the-variants.{Length, Room, Refused}
@@ -19,26 +19,30 @@ use Rattle.format.specs.declared.Form.{Form}
 use Rattle.format.specs.declared.Form.the-variants.{One, Two}
 use Rattle.format.proofs.Fits.{fits, records-fit}
 use Rattle.trace.specs.Layout.{bodyOf}
-use Rattle.trace.specs.Reading.{blockOf}
-use Rattle.trace.specs.declared.Block.{Block}
-use Rattle.trace.specs.declared.Block.the-variants as read
+use Rattle.trace.specs.Places.{zerothOf}
+use Rattle.trace.specs.declared.Zeroth.{Zeroth}
+use Rattle.trace.specs.declared.Zeroth.the-variants as zeroth
 use Rattle.trace.specs.declared.Record.{Record}
 use Rattle.trace.proofs.Accepted.{accepted}
+use Rattle.trace.proofs.Placed.{zeroth-label}
 use Rattle.trace.proofs.Layouts.{length-labelBlock, length-arrivalsBlock}
 use Rattle.trace.proofs.Records.{length-recordsIn}
+use Rattle.walk.specs.Steps.{Next, goes, refuses, stateAfter}
 use Rattle.forms.specs.declared.Conversion.{Conversion}
 use Rattle.forms.specs.declared.Begin.{Begin}
 use Rattle.forms.specs.declared.Step.{Step}
 use Rattle.forms.specs.Packing.{full, lastBlock}
-use Rattle.forms.specs.Conversions.{toShape, heldIn, sound, beginFault, beginBytes, beginBy, Began, Next, goes, refuses, nextOf, callNext, bytesIn, stepBy, stepOf, storedOf, keptBy, Stepped, closeFault, closeBytes}
+use Rattle.forms.specs.Conversions.{toShape, heldIn, sound, beginFault, beginBytes, beginBy, Began, nextOf, callNext, bytesIn, Carried, carries, carriedBy, afterOf, TakesBlock, closeFault, closeBytes}
 use Rattle.forms.proofs.Held.{is-sound}
 use Rattle.forms.proofs.Packed.{full-fits, length-full}
 use Rattle.forms.proofs.Whole.{brings, few-brought}
 use Rattle.lent.specs.declared.conversion_words.Loaded.the-variants.{Held, Malformed}
-use Rattle.lent.specs.ConversionWords.{conversionOf, loaded}
+use Rattle.lent.specs.ConversionWords.{conversionOf, conversionWords, loaded}
 use Rattle.lent.proofs.ConversionLaws.{held, other}
-use Rattle.capi.specs.Codes.{Leaves}
-use Rattle.capi.specs.FormsCalls.{begins, beginCode, beginWords, beginSize, BeginsForms, stepCode, stepWords, stepSize, formsNext, TakesForms, endFault}
+use Rattle.capi.specs.Codes.{lengthCode, Leaves}
+use Rattle.capi.specs.StepCalls.{wordsAfter, Takes}
+use Rattle.capi.specs.FormsCalls.{begins, beginCode, beginWords, beginSize, BeginsForms, formsNext, TakesForms, endFault}
+use Rattle.capi.proofs.StepLaws.{takes-step, takes-none}
 
 -- ---- block 0
 
@@ -58,7 +62,7 @@ module _ (words zeroth old : List ℕ) where
         stores = rw t (w .stores);
       }
 
-begun-size : (form : Form) (n ssrc : ℕ) (w : Written) → beginSize (beginBy (read.Label form n ssrc) w) ≡ sizeIn w
+begun-size : (form : Form) (n ssrc : ℕ) (w : Written) → beginSize (beginBy (zeroth.Label form n ssrc) w) ≡ sizeIn w
 begun-size form n ssrc (Length k) = refl
 begun-size form n ssrc (Room k) = refl
 begun-size form n ssrc (Refused refusal) = refl
@@ -66,39 +70,42 @@ begun-size form n ssrc (Refused refusal) = refl
 -- a label block has 512 bytes
 pub begin-size : (zeroth old : List ℕ) {b : Begin} {out : List ℕ} → Began zeroth old b out → beginSize b ≤ 512
 unfolding written
-begin-size zeroth old w = omega (arith, ap beginSize (w .answers), go (blockOf zeroth) refl)
+begin-size b old w = omega (arith, ap beginSize (w .answers), go (zerothOf b) refl)
   where
-    go : (r : Block) → blockOf zeroth ≡ r → beginSize (beginBy r (written (beginFault r) (beginBytes zeroth r) old)) ≤ 512
-    go (read.Refused refusal) e = omega arith
-    go (read.Arrivals form n ssrc) e = omega arith
-    go (read.Label form n ssrc) e =
-        let a = accepted zeroth e in
-        let new = beginBytes zeroth (read.Label form n ssrc) in
-        let long : length new ≡ 512 = length-labelBlock (shapeOf (otherForm form)) (take n (bodyOf zeroth)) ssrc (omega (arith, a .block .long, a .block .room)) in
+    go : (z : Zeroth) → zerothOf b ≡ z → beginSize (beginBy z (written (beginFault z) (beginBytes b z) old)) ≤ 512
+    go (zeroth.Refused refusal) e = omega arith
+    go (zeroth.Label form n ssrc) e =
+        let a = accepted b (zeroth-label b e) in
+        let new = beginBytes b (zeroth.Label form n ssrc) in
+        let long : length new ≡ 512 = length-labelBlock (shapeOf (otherForm form)) (take n (bodyOf b)) ssrc (omega (arith, a .block .long, a .block .room)) in
         let short = wrote-size {fault = none} {new = new} {old = old} {answer = written none new old} 512 (λ _. omega (arith, long)) (record { answers = refl; stores = refl }) in
         omega (arith, short, begun-size form n ssrc (written none new old))
 
 -- ---- a later block
 
+abbrev pub wordsOf : Carried → List ℕ
+wordsOf k = conversionWords (k .conversion)
+
 module _ (words part block old : List ℕ) where
   pub forms-other : loaded words ≡ Malformed → TakesForms words part block old (negℤ (pos 9)) words part old
-  unfolding formsNext written stored
-  forms-other e = let t = other words e in record { answers = rw t; keeps = rw t; holds = rw t; stores = rw t }
+  unfolding formsNext written
+  forms-other e =
+      let t = other words e in
+      record { takes = takes-none lengthCode wordsOf words {refusal = refusal.Malformed} (rw t); holds = rw t }
 
   module _ {c : Conversion} (e : loaded words ≡ Held c) where
     next-is : callNext c part block ≡ formsNext words part block
     unfolding formsNext
     next-is = let h = held words e in rw (h .1, ← h .2)
 
-    pub forms-stepped : {s : Step} {r : ℤ} {left kept out : List ℕ} → Stepped c part (callNext c part block) old s kept out → Leaves (stepCode s) (stepWords words s) r left
-        → TakesForms words part block old r left kept out
-    forms-stepped w l =
-        let same = w .answers ∙ (λ i. stepOf (held words e .2 i) part (next-is i) old) in
+    pub forms-stepped : {s : Step} {r : ℤ} {left kept out : List ℕ} → TakesBlock c part (callNext c part block) old s kept out
+        → Leaves (lengthCode (s .answer)) (wordsAfter words (conversionWords (s .conversion)) (s .answer)) r left → TakesForms words part block old r left kept out
+    forms-stepped {s} {r} {left} {kept} {out} w l =
+        let h = held words e in
         record {
-          answers = l .answers ∙ ap stepCode same;
-          keeps = l .stores ∙ ap (stepWords words) same;
-          holds = w .keeps ∙ (λ i. keptBy (held words e .2 i) part (next-is i) (same i));
-          stores = w .stores ∙ (λ i. storedOf (held words e .2 i) part (next-is i) old);
+          takes = subst₂ (λ (x : Conversion) (n : Next (List Record)). Takes lengthCode wordsOf words (carries x part) (carriedBy x part n) (bytesIn x part n) old r left out) (h .2) next-is
+              (takes-step lengthCode wordsOf words w l);
+          holds = ap (λ (k : Carried). k .part) (w .after ∙ ap (stateAfter (carries c part) (carriedBy c part (callNext c part block))) (w .wrote .answers) ∙ (λ i. afterOf (h .2 i) part (next-is i) old));
         }
 
 -- two blocks are the most that a call writes
@@ -106,9 +113,10 @@ two-most : (form : Form) (k held n : ℕ) → held < shapeOf (otherForm form) .m
 two-most One k held n h f e = omega arith
 two-most Two k held n h f e = omega arith
 
-module _ (c : Conversion) (part block old : List ℕ) where
-  blocks-long : {records : List Record} → sound c part ≡ true → nextOf (c .form) (c .ssrc) block ≡ goes records → length (bytesIn c part (goes records)) ≤ 1024
-  blocks-long {records} g e =
+module _ (c : Conversion) (part block : List ℕ) where
+  blocks-long : (next : Next (List Record)) → nextOf (c .form) (c .ssrc) block ≡ next → sound c part ≡ true → length (bytesIn c part next) ≤ 1024
+  blocks-long (refuses refusal) e g = omega arith
+  blocks-long (goes records) e g =
       let rs = heldIn c part ++ records in
       let fit = full-fits (toShape c) rs in
       let many = length-append (heldIn c part) records in
@@ -116,29 +124,16 @@ module _ (c : Conversion) (part block old : List ℕ) where
       let few = two-most (c .form) (full (toShape c) rs) (c .held) (length records) (is-sound g .few) (few-brought (brings (c .form) (c .ssrc) block e)) (omega (arith, fit, many, kept)) in
       omega (arith, few, length-full (toShape c) (c .ssrc) (fits (otherForm (c .form)) .room) (full (toShape c) rs) rs fit)
 
-  written-size : (records : List Record) (w : Written) → stepSize (stepBy c part (goes records) w) ≡ sizeIn w
-  written-size records (Length n) = refl
-  written-size records (Room n) = refl
-  written-size records (Refused refusal) = refl
-
-  step-size : (next : Next) → nextOf (c .form) (c .ssrc) block ≡ next → sound c part ≡ true → stepSize (stepOf c part next old) ≤ 1024
-  unfolding written
-  step-size (refuses refusal) e g = omega arith
-  step-size (goes records) e g =
-      let new = bytesIn c part (goes records) in
-      let short = wrote-size {fault = none} {new = new} {old = old} {answer = written none new old} 1024 (λ _. blocks-long g e) (record { answers = refl; stores = refl }) in
-      omega (arith, short, written-size records (written none new old))
-
-  call-size : stepSize (stepOf c part (callNext c part block) old) ≤ 1024
-  unfolding callNext written
-  call-size = go (sound c part) refl
+  call-long : length (bytesIn c part (callNext c part block)) ≤ 1024
+  unfolding callNext
+  call-long = go (sound c part) refl
     where
-      go : (t : Bool) → sound c part ≡ t → stepSize (stepOf c part (cond t (nextOf (c .form) (c .ssrc) block) (refuses refusal.Malformed)) old) ≤ 1024
-      go true g = step-size (nextOf (c .form) (c .ssrc) block) refl g
+      go : (t : Bool) → sound c part ≡ t → length (bytesIn c part (cond t (nextOf (c .form) (c .ssrc) block) (refuses refusal.Malformed))) ≤ 1024
+      go true g = blocks-long (nextOf (c .form) (c .ssrc) block) refl g
       go false g = omega arith
 
-  pub forms-size : {s : Step} {kept out : List ℕ} → Stepped c part (callNext c part block) old s kept out → stepSize s ≤ 1024
-  forms-size w = omega (arith, ap stepSize (w .answers), call-size)
+  pub forms-size : (old : List ℕ) {s : Step} {kept out : List ℕ} → TakesBlock c part (callNext c part block) old s kept out → sizeIn (s .answer) ≤ 1024
+  forms-size old w = wrote-size 1024 (λ _. call-long) (w .wrote)
 
 -- ---- the end
 

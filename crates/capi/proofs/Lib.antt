@@ -8,6 +8,7 @@ pub mod SourceChains
 pub mod BreakerChains
 pub mod SomeChains
 pub mod TableCalls
+pub mod StepLaws
 pub mod RunSteps
 pub mod FormsSteps
 pub mod StreamsLaws

@@ -1,14 +1,14 @@
 -- A run of ecnstreams in lent words, or refusal 9, and how long its rows are. Assumes nothing.
-use mathlib.Core.Path.{_≡_, refl, ap, _∙_}
+use mathlib.Core.Path.{_≡_, refl, ap, _∙_, subst₂}
 use mathlib.Core.Bool.{Bool, true, false, cond, not, _&&_}
-use mathlib.Core.List.{List}
+use mathlib.Core.List.{List, []}
 use mathlib.Core.Option.{Option, none, some}
 use Prim.Native.Nat.{ℕ, _≤_, _<_, _^_}
 use native.Mathlib.Omega.{arith}
 use borrow.Author.Tests.{ltb-true}
 use lib.Dec.{leb, ltb}
 use lib.ListN.{length}
-use Rattle.answers.specs.Writers.{Wrote}
+use Rattle.answers.specs.Writers.{written, Wrote}
 use Rattle.answers.specs.declared.Refusal.the-variants as refusal
 use Rattle.answers.specs.declared.Written.{Written}
 use Rattle.answers.specs.declared.Written.the-variants.{Refused}
@@ -17,39 +17,47 @@ use Rattle.source.specs.declared.Totals.{Totals}
 use Rattle.table.specs.Theorems.{rowMost}
 use Rattle.table.proofs.Faults.{fault-none}
 use Rattle.table.proofs.RowFits as table
+use Rattle.walk.specs.Steps.{Next, stateAfter}
 use Rattle.mixed.specs.declared.Run.{Run}
 use Rattle.mixed.specs.declared.Step.{Step}
 use Rattle.mixed.specs.Lines.{ssrcIn, totalsIn}
-use Rattle.mixed.specs.Runs.{soundRun, callNext, stepOf, storedOf, Stepped}
+use Rattle.mixed.specs.Runs.{soundRun, callNext, Carried, carries, carriedBy, afterOf, TakesBlock}
 use Rattle.mixed.specs.Rows.{labelOf, ownLabel, lineAt, totalsAt, faultBy, rowBy, rowFault, rowOf}
 use Rattle.mixed.proofs.Taking.{taken-sound}
 use Rattle.mixed.proofs.Told.{is-own}
 use Rattle.capi.specs.declared.streams_words.Loaded.the-variants.{Held, Malformed}
-use Rattle.capi.specs.Codes.{Leaves}
-use Rattle.capi.specs.StreamsWords.{runOf, loaded}
-use Rattle.capi.specs.StreamsCalls.{stepCode, stepWords, streamsNext, TakesStreams, lineFault}
+use Rattle.capi.specs.Codes.{refusalCode, Leaves}
+use Rattle.capi.specs.StepCalls.{wordsAfter, Takes}
+use Rattle.capi.specs.StreamsWords.{runOf, loaded, runWords}
+use Rattle.capi.specs.StreamsCalls.{streamsNext, TakesStreams, lineFault}
 use Rattle.capi.proofs.StreamsLaws.{held, other}
+use Rattle.capi.proofs.StepLaws.{takes-step, takes-none}
 
 -- ---- a later block
 
+abbrev pub wordsOf : Carried → List ℕ
+wordsOf k = runWords (k .run)
+
 module _ (words ws block : List ℕ) where
   pub streams-other : loaded words ≡ Malformed → TakesStreams words ws block 9 words ws
-  unfolding streamsNext
-  streams-other e = let t = other words e in record { answers = rw t; keeps = rw t; stores = rw t }
+  unfolding streamsNext written
+  streams-other e =
+      let t = other words e in
+      record { takes = takes-none refusalCode wordsOf words {refusal = refusal.Malformed} (rw t); holds = rw t }
 
   module _ {run : Run} (e : loaded words ≡ Held run) where
     next-is : callNext run ws block ≡ streamsNext words ws block
     unfolding streamsNext
     next-is = let h = held words e in rw (h .1, ← h .2)
 
-    pub streams-stepped : {s : Step} {r : ℕ} {left lines : List ℕ} → Stepped run ws (callNext run ws block) s lines → Leaves (stepCode s) (stepWords words s) r left
-        → TakesStreams words ws block r left lines
-    streams-stepped w l =
-        let same = w .answers ∙ (λ i. stepOf (held words e .2 i) (next-is i)) in
+    pub streams-stepped : {s : Step} {r : ℕ} {left lines : List ℕ} → TakesBlock run ws (callNext run ws block) s lines
+        → Leaves (refusalCode (s .answer)) (wordsAfter words (runWords (s .run)) (s .answer)) r left → TakesStreams words ws block r left lines
+    streams-stepped {s} {r} {left} {lines} w l =
+        let h = held words e in
         record {
-          answers = l .answers ∙ ap stepCode same;
-          keeps = l .stores ∙ ap (stepWords words) same;
-          stores = w .stores ∙ ap (storedOf ws) next-is;
+          takes = subst₂ (λ (x : Run) (n : Next (List (List ℕ))). Takes refusalCode wordsOf words (carries x ws) (carriedBy x ws n) [] [] r left []) (h .2) next-is
+              (takes-step refusalCode wordsOf words w l);
+          holds = ap (λ (k : Carried). k .words) (w .after ∙ ap (stateAfter (carries run ws) (carriedBy run ws (callNext run ws block))) (w .wrote .answers) ∙ (λ i. afterOf (h .2 i) ws (next-is i)));
         }
 
 -- ---- a row

@@ -10,13 +10,14 @@ use lib.ListN.{length}
 use Rattle.answers.specs.declared.Refusal.{Refusal}
 use Rattle.answers.specs.declared.Refusal.the-variants.{Malformed}
 use Rattle.answers.specs.declared.Written.the-variants as writer
+use Rattle.trace.specs.declared.Record.{Record}
+use Rattle.walk.specs.Steps.{Next, refuses}
 use Rattle.forms.specs.declared.Begin.{Begin}
 use Rattle.forms.specs.declared.Begin.the-variants as begin
-use Rattle.forms.specs.declared.Step.{Step}
-use Rattle.forms.specs.declared.Step.the-variants as step
-use Rattle.forms.specs.Conversions.{beginOf, beginStored, Next, refuses, callNext, stepOf, storedOf, keptBy, closeFault, closeBytes}
+use Rattle.forms.specs.Conversions.{beginOf, beginStored, callNext, bytesIn, carries, carriedBy, afterOf, closeFault, closeBytes}
 use Rattle.lent.specs.ConversionWords.{conversionOf, isConversion, conversionWords}
 use Rattle.capi.specs.Codes.{lengthCode, Gives}
+use Rattle.capi.specs.StepCalls.{Takes}
 
 -- ---- flasknib_forms_start
 
@@ -50,35 +51,20 @@ pub record BeginsForms (words zeroth old : List ℕ) (r : ℤ) (left out : List 
 
 -- ---- flasknib_forms_block
 
--- the blocks' length, or minus the refusal, as a writer's
-abbrev pub stepCode : Step → ℤ
-stepCode (step.Taken next n) = lengthCode (writer.Length n)
-stepCode (step.Room n same) = lengthCode (writer.Room n)
-stepCode (step.Refused refusal same) = lengthCode (writer.Refused refusal)
-
--- the words of the next conversion; a refusal leaves the words as they were
-abbrev pub stepWords : List ℕ → Step → List ℕ
-stepWords words (step.Taken next n) = conversionWords next
-stepWords words (step.Room n same) = words
-stepWords words (step.Refused refusal same) = words
-
--- the bytes of the blocks that were or would be written
-abbrev pub stepSize : Step → ℕ
-stepSize (step.Taken next n) = n
-stepSize (step.Room n same) = n
-stepSize (step.Refused refusal same) = 0
-
 -- what the block brings to the conversion in the words; words that are no conversion's are refused with 9, before everything else
-unfoldable pub formsNext : List ℕ → List ℕ → List ℕ → Next
+unfoldable pub formsNext : List ℕ → List ℕ → List ℕ → Next (List Record)
 formsNext words part block = cond (isConversion words) (callNext (conversionOf words) part block) (refuses Malformed)
 
 -- request L10, a later block: 9, the block's refusal, 14 for its place, 17, 12; or the full blocks, the records behind them in the part, and the next
 -- conversion
 pub record TakesForms (words part block old : List ℕ) (r : ℤ) (left kept out : List ℕ) : Type 0 where
-  pub answers : r ≡ stepCode (stepOf (conversionOf words) part (formsNext words part block) old)
-  pub keeps : left ≡ stepWords words (stepOf (conversionOf words) part (formsNext words part block) old)
-  pub holds : kept ≡ keptBy (conversionOf words) part (formsNext words part block) (stepOf (conversionOf words) part (formsNext words part block) old)
-  pub stores : out ≡ storedOf (conversionOf words) part (formsNext words part block) old
+  pub takes :
+      Takes lengthCode (λ k. conversionWords (k .conversion)) words
+      (carries (conversionOf words) part)
+      (carriedBy (conversionOf words) part (formsNext words part block))
+      (bytesIn (conversionOf words) part (formsNext words part block))
+      old r left out
+  pub holds : kept ≡ afterOf (conversionOf words) part (formsNext words part block) old .part
 
 -- ---- flasknib_forms_close
 

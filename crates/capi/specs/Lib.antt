@@ -7,6 +7,7 @@ pub mod Blocks
 pub mod Chains
 pub mod Tables
 pub mod TableSteps
+pub mod StepCalls
 pub mod RunCalls
 pub mod FormsCalls
 pub mod StreamsWords

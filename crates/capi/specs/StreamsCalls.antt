@@ -6,17 +6,15 @@ use mathlib.Core.Bool.{cond}
 use mathlib.Core.List.{List, []}
 use mathlib.Core.Option.{Option, none, some}
 use lib.IntN.{ℤ}
-use Rattle.answers.specs.Refusals.{numberOf}
 use Rattle.answers.specs.declared.Refusal.{Refusal}
 use Rattle.answers.specs.declared.Refusal.the-variants.{Malformed}
+use Rattle.walk.specs.Steps.{Next, refuses}
 use Rattle.mixed.specs.declared.Begin.{Begin}
 use Rattle.mixed.specs.declared.Begin.the-variants as begin
-use Rattle.mixed.specs.declared.Step.{Step}
-use Rattle.mixed.specs.declared.Step.the-variants as step
-use Rattle.mixed.specs.Blocks.{Next, refuses}
-use Rattle.mixed.specs.Runs.{startOf, callNext, stepOf, storedOf}
+use Rattle.mixed.specs.Runs.{startOf, callNext, carries, carriedBy, afterOf}
 use Rattle.mixed.specs.Rows.{rowFault, rowOf}
 use Rattle.capi.specs.Codes.{lengthCode, refusalCode, Gives}
+use Rattle.capi.specs.StepCalls.{Takes}
 use Rattle.capi.specs.StreamsWords.{runOf, isRun, runWords}
 
 -- ---- flasknib_streams_start
@@ -39,25 +37,18 @@ StartsStreams zeroth old r out =
 
 -- ---- flasknib_streams_block
 
--- 0, or the refusal
-abbrev pub stepCode : Step → ℕ
-stepCode (step.Taken next) = 0
-stepCode (step.Refused refusal same) = numberOf refusal
-
--- the words of the next run; a refusal leaves the words as they were
-abbrev pub stepWords : List ℕ → Step → List ℕ
-stepWords words (step.Taken next) = runWords next
-stepWords words (step.Refused refusal same) = words
-
 -- what the block does to the lines of the run in the words; words that are no run's are refused with 9, before everything else
-unfoldable pub streamsNext : List ℕ → List ℕ → List ℕ → Next (List ℕ)
+unfoldable pub streamsNext : List ℕ → List ℕ → List ℕ → Next (List (List ℕ))
 streamsNext words ws block = cond (isRun words) (callNext (runOf words) ws block) (refuses Malformed)
 
--- request L1, a later block: 9, the block's refusal, 14 for its place, 9 for the line of its SSRC, 15; or 0, the next run and the lines
+-- request L1, a later block: 9, the block's refusal, 14 for its place, 9 for the line of its SSRC, 15; or 0, the next run and the lines. It has no output
 pub record TakesStreams (words ws block : List ℕ) (r : ℕ) (left lines : List ℕ) : Type 0 where
-  pub answers : r ≡ stepCode (stepOf (runOf words) (streamsNext words ws block))
-  pub keeps : left ≡ stepWords words (stepOf (runOf words) (streamsNext words ws block))
-  pub stores : lines ≡ storedOf ws (streamsNext words ws block)
+  pub takes :
+      Takes refusalCode (λ k. runWords (k .run)) words
+      (carries (runOf words) ws)
+      (carriedBy (runOf words) ws (streamsNext words ws block))
+      [] [] r left []
+  pub holds : lines ≡ afterOf (runOf words) ws (streamsNext words ws block) .words
 
 -- ---- flasknib_streams_row
 

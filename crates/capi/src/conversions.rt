@@ -2,8 +2,11 @@
 ghost use lib.ListN.{length};
 ghost use Prim.Native.Nat.{_^_, _<_};
 ghost use mathlib.Core.Path.{_≡_};
-ghost use Rattle.capi.specs.Codes.{Leaves};
-ghost use Rattle.capi.specs.FormsCalls.{beginCode, beginWords, beginSize, BeginsForms, stepCode, stepWords, stepSize, TakesForms, ClosesForms};
+ghost use Rattle.answers.specs.Writers.{sizeIn};
+ghost use Rattle.capi.specs.Codes.{lengthCode, Leaves};
+ghost use Rattle.capi.specs.FormsCalls.{beginCode, beginWords, beginSize, BeginsForms, TakesForms, ClosesForms};
+ghost use Rattle.capi.specs.StepCalls.{wordsAfter};
+ghost use Rattle.lent.specs.ConversionWords.{conversionWords};
 use crate::codes;
 use answers::Refusal;
 use answers::Written;
@@ -41,16 +44,17 @@ pub extern "C" fn flasknib_forms_start(zeroth: &[u8], words: &mut [u64], out: &m
 
 // Stores the next conversion in the place of the last, unless the call is refused, and gives the answer's number.
 fn put_back(step: Step, words: &mut [u64]) -> i64
-    requires { ⌜ (length (now words) ≡ 3) × (stepSize step < 2 ^ 54) ⌝ }
-    ensures { λ r. ⌜ Leaves (stepCode step) (stepWords (now (words .entry)) step) r (now (words .exit)) ⌝ }
+    requires { ⌜ (length (now words) ≡ 3) × (sizeIn (step .answer) < 2 ^ 54) ⌝ }
+    ensures { λ r. ⌜ Leaves (lengthCode (step .answer)) (wordsAfter (now (words .entry)) (conversionWords (step .conversion)) (step .answer)) r (now (words .exit)) ⌝ }
 {
-    match step {
-        Step::Taken(next, n) => {
+    let answer = step.answer;
+    let next = step.conversion;
+    match answer {
+        Written::Length(_) => {
             conversion_words::store(next, words);
-            codes::length(Written::Length(n))
+            codes::length(answer)
         }
-        Step::Room(n, _) => codes::length(Written::Room(n)),
-        Step::Refused(refusal, _) => codes::minus(refusal),
+        _ => codes::length(answer),
     }
 }
 

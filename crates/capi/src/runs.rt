@@ -2,8 +2,11 @@
 ghost use lib.ListN.{length};
 ghost use Prim.Native.Nat.{_^_, _<_};
 ghost use mathlib.Core.Path.{_≡_};
-ghost use Rattle.capi.specs.Codes.{Leaves};
-ghost use Rattle.capi.specs.RunCalls.{StartsRun, stepCode, stepWords, stepSize, TakesBlock};
+ghost use Rattle.answers.specs.Writers.{sizeIn};
+ghost use Rattle.capi.specs.Codes.{lengthCode, Leaves};
+ghost use Rattle.capi.specs.RunCalls.{StartsRun, TakesBlock};
+ghost use Rattle.capi.specs.StepCalls.{wordsAfter};
+ghost use Rattle.lent.specs.RunWords.{runWords};
 use crate::codes;
 use answers::ROOM;
 use answers::Refusal;
@@ -33,16 +36,17 @@ pub extern "C" fn flasknib_run_start(zeroth: &[u8], run: &mut [u64]) -> u8
 
 // Stores the next run in the place of the last, unless the call is refused, and gives the answer's number.
 fn put_back(step: Step, run: &mut [u64]) -> i64
-    requires { ⌜ (length (now run) ≡ 15) × (stepSize step < 2 ^ 54) ⌝ }
-    ensures { λ r. ⌜ Leaves (stepCode step) (stepWords (now (run .entry)) step) r (now (run .exit)) ⌝ }
+    requires { ⌜ (length (now run) ≡ 15) × (sizeIn (step .answer) < 2 ^ 54) ⌝ }
+    ensures { λ r. ⌜ Leaves (lengthCode (step .answer)) (wordsAfter (now (run .entry)) (runWords (step .run)) (step .answer)) r (now (run .exit)) ⌝ }
 {
-    match step {
-        Step::Taken(next, n) => {
+    let answer = step.answer;
+    let next = step.run;
+    match answer {
+        Written::Length(_) => {
             run_words::store(next, run);
-            codes::length(Written::Length(n))
+            codes::length(answer)
         }
-        Step::Room(n, _) => codes::length(Written::Room(n)),
-        Step::Refused(refusal, _) => codes::minus(refusal),
+        _ => codes::length(answer),
     }
 }
 

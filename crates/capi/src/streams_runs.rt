@@ -1,13 +1,16 @@
 // A run of ecnstreams, block by block, and its rows. It is lent as 3 words, and the lines of its sources as 208.
 ghost use lib.ListN.{length};
 ghost use mathlib.Core.Path.{_≡_};
-ghost use Rattle.capi.specs.Codes.{Leaves};
-ghost use Rattle.capi.specs.StreamsCalls.{StartsStreams, stepCode, stepWords, TakesStreams, WritesStreams};
+ghost use Rattle.capi.specs.Codes.{refusalCode, Leaves};
+ghost use Rattle.capi.specs.StepCalls.{wordsAfter};
+ghost use Rattle.capi.specs.StreamsCalls.{StartsStreams, TakesStreams, WritesStreams};
+ghost use Rattle.capi.specs.StreamsWords.{runWords};
 use crate::codes;
 use crate::streams_words;
 use crate::streams_words::Loaded;
 use answers::ROOM;
 use answers::Refusal;
+use answers::Written;
 use mixed::Begin;
 use mixed::Run;
 use mixed::Step;
@@ -32,14 +35,17 @@ pub extern "C" fn flasknib_streams_start(zeroth: &[u8], run: &mut [u64]) -> u8
 // Stores the next run in the place of the last, unless the call is refused, and gives the answer's number.
 fn put_back(step: Step, run: &mut [u64]) -> u8
     requires { ⌜ length (now run) ≡ 3 ⌝ }
-    ensures { λ r. ⌜ Leaves (stepCode step) (stepWords (now (run .entry)) step) r (now (run .exit)) ⌝ }
+    ensures { λ r. ⌜ Leaves (refusalCode (step .answer)) (wordsAfter (now (run .entry)) (runWords (step .run)) (step .answer)) r (now (run .exit)) ⌝ }
 {
-    match step {
-        Step::Taken(next) => {
+    let answer = step.answer;
+    let next = step.run;
+    match answer {
+        Written::Length(_) => {
             streams_words::store(next, run);
             0
         }
-        Step::Refused(refusal, _) => refusal.number(),
+        Written::Room(_) => ROOM,
+        Written::Refused(refusal) => refusal.number(),
     }
 }
 

@@ -1,19 +1,18 @@
 -- A run that a block gives is sound. Assumes nothing.
 use mathlib.Core.Path.{_≡_, refl, sym, ap, _∙_, subst}
-use mathlib.Core.Bool.{Bool, true, false, cond, _&&_, and-true}
+use mathlib.Core.Bool.{true, and-true}
 use mathlib.Core.List.{List, [], _∷_}
 use mathlib.Core.Option.{none}
-use Prim.Native.Nat.{ℕ, _+_, _*_, _≤_}
+use Prim.Native.Nat.{ℕ, _+_, _*_, _^_, _≤_, _<_}
 use native.Mathlib.Omega.{arith}
 use borrow.Author.Tests.{eqb-true, leb-true, le-leb, eq-eqb}
 use lib.Dec.{eqb, leb}
 use lib.ListN.{length, take, drop}
 use Rattle.answers.specs.Conditions.{all}
-use Rattle.answers.specs.declared.Refusal.the-variants.{Contents}
 use Rattle.answers.proofs.Conditions.{all-true}
 use Rattle.numbers.proofs.BigEndian.{Octets}
 use Rattle.format.specs.Blocks.{blockBytes, bodyAt, bodyBytes}
-use Rattle.format.specs.Forms.{shapeOf, width, sameForm}
+use Rattle.format.specs.Forms.{shapeOf, width}
 use Rattle.numbers.specs.BigEndian.{word}
 use Rattle.source.specs.declared.BlockCount.{BlockCount}
 use Rattle.source.specs.declared.BlockCount.the-variants.{Counted, Refused}
@@ -23,16 +22,22 @@ use Rattle.source.specs.Blocks.{blockCount}
 use Rattle.source.specs.Totals.{mostTold, freshTotals, withBlock}
 use Rattle.source.proofs.Totalled.{SoundTotals, fresh-totals, next-sound}
 use Rattle.trace.specs.Contents.{labelOk}
-use Rattle.trace.specs.Reading.{blockOf}
-use Rattle.trace.specs.declared.Block.{Block}
-use Rattle.trace.specs.declared.Block.the-variants as read
-use Rattle.trace.proofs.Octets.{octets-take, octets-drop}
+use Rattle.trace.specs.Places.{zerothOf, laterOf}
+use Rattle.trace.specs.declared.Zeroth.{Zeroth}
+use Rattle.trace.specs.declared.Zeroth.the-variants as zeroth
+use Rattle.trace.specs.declared.Later.{Later}
+use Rattle.trace.specs.declared.Later.the-variants as later
+use Rattle.numbers.proofs.Octets.{octets-take, octets-drop}
 use Rattle.trace.proofs.Accepted.{accepted}
+use Rattle.trace.proofs.Placed.{zeroth-label}
 use Rattle.table.specs.Lines.{rowFault}
+use Rattle.table.specs.Theorems.{rowMost}
 use Rattle.table.proofs.Faults.{fault-none}
+use Rattle.table.proofs.RowFits as table
+use Rattle.walk.specs.Steps.{goes}
 use Rattle.convert.specs.declared.Run.{Run}
 use Rattle.convert.specs.declared.Begin.the-variants as begin
-use Rattle.convert.specs.Runs.{labelOf, startBy, startOf, arrived, goes, refuses, nextBy, nextOf, ownLabel, soundTotals, runConditions, soundRun}
+use Rattle.convert.specs.Runs.{labelOf, rowOf, startBy, startOf, arrived, nextBy, nextOf, ownLabel, soundTotals, runConditions, soundRun}
 
 -- ---- what is known of a sound run
 
@@ -112,34 +117,42 @@ arrived-good run zeroth n b o g = record {
 
 pub next-good : (run : Run) (zeroth b : List ℕ) (next : Run) → Octets b → Good run zeroth → nextOf run b ≡ goes next → Good next zeroth
 unfolding nextOf
-next-good run zeroth b next o g e = go (blockOf b) e
+next-good run zeroth b next o g e = go (laterOf (run .form) (run .ssrc) b) e
   where
-    chosen : (t : Bool) (n : ℕ) → cond t (goes (arrived run n b)) (refuses Contents) ≡ goes next → Good next zeroth
-    chosen true n e = let same : arrived run n b ≡ next = cc in subst (λ (r : Run). Good r zeroth) same (arrived-good run zeroth n b o g)
-    chosen false n e = let z : _≡_ {A = ℕ} 0 1 = cc in absurd (omega arith)
+    go : (r : Later) → nextBy run b r ≡ goes next → Good next zeroth
+    go (later.Arrivals n) e = let same : arrived run n b ≡ next = cc in subst (λ (r : Run). Good r zeroth) same (arrived-good run zeroth n b o g)
+    go (later.Refused refusal) e = let z : _≡_ {A = ℕ} 0 1 = cc in absurd (omega arith)
 
-    go : (r : Block) → nextBy run b r ≡ goes next → Good next zeroth
-    go (read.Label form n ssrc) e = let z : _≡_ {A = ℕ} 0 1 = cc in absurd (omega arith)
-    go (read.Arrivals form n ssrc) e = chosen (sameForm form (run .form) && eqb ssrc (run .ssrc)) n e
-    go (read.Refused refusal) e = let z : _≡_ {A = ℕ} 0 1 = cc in absurd (omega arith)
+-- it is of the same source
+pub next-ssrc : (run : Run) (b : List ℕ) (next : Run) → nextOf run b ≡ goes next → next .ssrc ≡ run .ssrc
+unfolding nextOf arrived
+next-ssrc run b next e = go (laterOf (run .form) (run .ssrc) b) e
+  where
+    go : (r : Later) → nextBy run b r ≡ goes next → next .ssrc ≡ run .ssrc
+    go (later.Arrivals n) e = let same : arrived run n b ≡ next = cc in sym (ap (λ (r : Run). r .ssrc) same)
+    go (later.Refused refusal) e = let z : _≡_ {A = ℕ} 0 1 = cc in absurd (omega arith)
+
+-- and its row is no longer than the longest
+pub row-long : (run : Run) (zeroth : List ℕ) → run .ssrc < 2 ^ 32 → Good run zeroth → length (rowOf run zeroth) ≤ rowMost
+unfolding rowOf
+row-long run zeroth small g = table.row-fits (labelOf run zeroth) (run .ssrc) (run .totals) small (row-fits g)
 
 -- ---- the run that block 0 starts
 
 pub start-good : (zeroth : List ℕ) (run : Run) → startOf zeroth ≡ begin.Started run → Good run zeroth
 unfolding startOf
-start-good zeroth run e = go (blockOf zeroth) refl e
+start-good b run e = go (zerothOf b) refl e
   where
-    go : (r : Block) → blockOf zeroth ≡ r → startBy r ≡ begin.Started run → Good run zeroth
-    go (read.Label form n ssrc) q e =
-        let a = accepted zeroth q in
-        let b = a .block in
+    go : (r : Zeroth) → zerothOf b ≡ r → startBy r ≡ begin.Started run → Good run b
+    go (zeroth.Label form n ssrc) q e =
+        let a = accepted b (zeroth-label b q) in
+        let k = a .block in
         let same : _≡_ {A = Run} (record { form = form; length = n; ssrc = ssrc; totals = freshTotals }) run = cc in
-        subst (λ (r : Run). Good r zeroth) same
+        subst (λ (r : Run). Good r b) same
         (record {
-          own = rw (eq-eqb (length zeroth) blockBytes (b .whole), eq-eqb (word 2 zeroth 0) (shapeOf form .label) (b .its-kind), eq-eqb (word 2 zeroth 2) n (b .its-count), eq-eqb (word 4 zeroth 4) ssrc (b .its-ssrc));
-          short = b .room;
-          label = ap labelOk (sym (b .place)) ∙ a .label;
+          own = rw (eq-eqb (length b) blockBytes (k .whole), eq-eqb (word 2 b 0) (shapeOf form .label) (k .its-kind), eq-eqb (word 2 b 2) n (k .its-count), eq-eqb (word 4 b 4) ssrc (k .its-ssrc));
+          short = k .room;
+          label = ap labelOk (sym (k .place)) ∙ a .label;
           totals = fresh-totals;
         })
-    go (read.Arrivals form n ssrc) q e = let z : _≡_ {A = ℕ} 0 1 = cc in absurd (omega arith)
-    go (read.Refused refusal) q e = let z : _≡_ {A = ℕ} 0 1 = cc in absurd (omega arith)
+    go (zeroth.Refused refusal) q e = let z : _≡_ {A = ℕ} 0 1 = cc in absurd (omega arith)

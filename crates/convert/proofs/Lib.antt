@@ -2,3 +2,7 @@
 pub mod Kept
 pub mod Steps
 pub mod Whole
+pub mod Fitted
+pub mod Calls
+pub mod Taking
+pub mod Followed

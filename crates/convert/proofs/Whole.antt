@@ -10,20 +10,22 @@ use Rattle.answers.specs.Writers.{written, stored}
 use Rattle.answers.specs.declared.Written.the-variants.{Length}
 use Rattle.numbers.proofs.BigEndian.{Octets}
 use Rattle.format.specs.Blocks.{blockBytes}
-use Rattle.trace.proofs.Octets.{octets-take, octets-drop}
+use Rattle.numbers.proofs.Octets.{octets-take, octets-drop}
 use Rattle.answers.specs.Refusals.{numberOf}
 use Rattle.answers.specs.declared.Refusal.{Refusal}
 use Rattle.table.specs.Lines.{headBytes, refusedLine}
 use Rattle.walk.specs.Blocks.{Blocks, blocksOf}
-use Rattle.walk.specs.Programs.{Printed, both, Run as Runs, turned, onward, walk, walked, closed, printedBy}
+use Rattle.walk.specs.Steps.{Next, goes, refuses}
+use Rattle.walk.specs.Programs.{Printed, both, toOutput, Run as Runs, turned, onward, walk, walked, closed, printedBy}
 use Rattle.walk.proofs.Cuts.{Each, cut-each}
 use Rattle.walk.proofs.Walks.{closed-goes, closed-ends}
 use Rattle.convert.specs.declared.Run.{Run}
 use Rattle.convert.specs.declared.Begin.{Begin}
 use Rattle.convert.specs.declared.Begin.the-variants as begin
-use Rattle.convert.specs.Runs.{rowOf, startOf, Next, goes, refuses, nextOf, callNext}
-use Rattle.convert.specs.Tables.{Kept, toOutput, begun, taken, ecntable, printed}
+use Rattle.convert.specs.Runs.{rowOf, startOf, nextOf, callNext}
+use Rattle.convert.specs.Tables.{Kept, begun, taken, ecntable, printed}
 use Rattle.convert.specs.Theorems.{calls, callsBy, Enough, ends, refused, taken as has-room, EnoughBy, CallsPrint}
+use Rattle.convert.proofs.Steps.{call-sound}
 use Rattle.convert.proofs.Kept.{Good, sound-good, next-good, start-good}
 
 -- ---- the calls
@@ -45,9 +47,9 @@ module _ (zeroth : List ℕ) (i : ℕ) (b : List ℕ) (bs : List (List ℕ)) (ru
   more : Kept → Runs Kept
   more = walk ecntable (suc i) bs
 
-  by-next : {next : Next} → nextOf run b ≡ next → rest i (b ∷ bs) run zeroth ≡ closed ecntable (onward (turned i (taken (kept run zeroth) next)) more)
+  by-next : {next : Next Run} → nextOf run b ≡ next → rest i (b ∷ bs) run zeroth ≡ closed ecntable (onward (turned i (taken (kept run zeroth) next)) more)
   unfolding walk more
-  by-next e = ap (λ (n : Next). closed ecntable (onward (turned i (taken (kept run zeroth) n)) (walk ecntable (suc i) bs))) e
+  by-next e = ap (λ (n : Next Run). closed ecntable (onward (turned i (taken (kept run zeroth) n)) (walk ecntable (suc i) bs))) e
 
   rest-ends : {refusal : Refusal} → nextOf run b ≡ refuses refusal → rest i (b ∷ bs) run zeroth ≡ toOutput (refusedLine (numberOf refusal) i)
   unfolding closed
@@ -71,11 +73,6 @@ module _ (zeroth : List ℕ) (i : ℕ) (b : List ℕ) (bs : List (List ℕ)) (ru
         let w = row-written (rowOf next zeroth) (outs i) room in
         rw (e, w .0, w .1, take-append-seam (rowOf next zeroth) (drop (length (rowOf next zeroth)) (outs i)))
 
--- where a run is sound, the call does what the definition says
-call-next : (run : Run) (zeroth b : List ℕ) → Good run zeroth → callNext run zeroth b ≡ nextOf run b
-unfolding callNext
-call-next run zeroth b g = rw (sound-good g)
-
 -- `bytes` is all that is printed
 abbrev Prints : List ℕ → Printed → Type 0
 Prints bytes p = (bytes ≡ p .out) × (p .err ≡ [])
@@ -90,10 +87,10 @@ module _ (outs : ℕ → List ℕ) (zeroth : List ℕ) where
   rest-prints i [] run o g ends = (refl, refl)
   rest-prints i (b ∷ bs) run o g (refused refusal n) =
       let e = rest-ends zeroth i b bs run n in
-      (calls-end zeroth i b bs run outs (call-next run zeroth b g ∙ n) ∙ ap (λ (p : Printed). p .out) (sym e), ap (λ (p : Printed). p .err) e)
+      (calls-end zeroth i b bs run outs (call-sound run zeroth b (sound-good g) ∙ n) ∙ ap (λ (p : Printed). p .out) (sym e), ap (λ (p : Printed). p .err) e)
   rest-prints i (b ∷ bs) run o g (has-room next n room enough) =
       let both-print = prints-both (rowOf next zeroth) (rest-goes zeroth i b bs run n) (rest-prints (suc i) bs next (o .1) (next-good run zeroth b next (o .0) g n) enough) in
-      (calls-go zeroth i b bs run outs (call-next run zeroth b g ∙ n) room ∙ both-print .0, both-print .1)
+      (calls-go zeroth i b bs run outs (call-sound run zeroth b (sound-good g) ∙ n) room ∙ both-print .0, both-print .1)
 
 -- what is printed by what block 0 does
 printed-by : (trace : List ℕ) (r : Begin) → startOf (blocksOf trace .zeroth) ≡ r

@@ -1,3 +1,4 @@
 pub mod Runs
 pub mod Tables
 pub mod Theorems
+pub mod Pieces

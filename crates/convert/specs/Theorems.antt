@@ -4,30 +4,34 @@ use mathlib.Core.List.{List, [], _∷_, _++_}
 use Prim.Native.Nat.{ℕ, suc, _≤_, _<_}
 use lib.ListN.{length, take, drop, getD}
 use Rattle.answers.specs.Refusals.{numberOf, roomNumber}
+use Rattle.answers.specs.Writers.{written, stored}
 use Rattle.answers.specs.declared.Refusal.{Refusal}
+use Rattle.answers.specs.declared.Written.{Written}
+use Rattle.answers.specs.declared.Written.the-variants.{Length, Room, Refused}
 use Rattle.format.specs.Blocks.{blockBytes}
 use Rattle.table.specs.Lines.{headBytes, refusedLine}
 use Rattle.walk.specs.Blocks.{Blocks, blocksOf}
 use Rattle.convert.specs.declared.Run.{Run}
 use Rattle.convert.specs.declared.Begin.{Begin}
 use Rattle.convert.specs.declared.Begin.the-variants as begin
-use Rattle.convert.specs.declared.Step.{Step}
-use Rattle.convert.specs.declared.Step.the-variants as step
-use Rattle.convert.specs.Runs.{rowOf, startOf, Next, goes, refuses, nextOf, callNext, stepOf, storedOf}
+use Rattle.walk.specs.Steps.{goes, refuses, faultIn, stateAfter}
+use Rattle.convert.specs.Runs.{rowOf, rowIn, startOf, nextOf, callNext}
 use Rattle.convert.specs.Tables.{printed}
 
 -- a list of calls: one for each block, on the run that the call before handed back, each with a lent output of its own, `outs i` for block i
 
 -- the bytes that a call wrote, and what the calls after it give; or the line of the refused block
-abbrev pub answered : ℕ → Step → List ℕ → (Run → List ℕ) → List ℕ
-answered i (step.Taken next n) out more = take n out ++ more next
-answered i (step.Room n run) out more = refusedLine roomNumber i
-answered i (step.Refused refusal run) out more = refusedLine (numberOf refusal) i
+abbrev pub answered : ℕ → Written → List ℕ → List ℕ → List ℕ
+answered i (Length n) out more = take n out ++ more
+answered i (Room n) out more = refusedLine roomNumber i
+answered i (Refused refusal) out more = refusedLine (numberOf refusal) i
 
 unfoldable pub calls : (ℕ → List ℕ) → List ℕ → ℕ → List (List ℕ) → Run → List ℕ
 calls outs zeroth i [] run = []
 calls outs zeroth i (b ∷ bs) run =
-    answered i (stepOf run (callNext run zeroth b) zeroth (outs i)) (storedOf (callNext run zeroth b) zeroth (outs i)) (calls outs zeroth (suc i) bs)
+    let next = callNext run zeroth b in
+    let answer = written (faultIn next) (rowIn zeroth next) (outs i) in
+    answered i answer (stored (faultIn next) (rowIn zeroth next) (outs i)) (calls outs zeroth (suc i) bs (stateAfter run next answer))
 
 -- all calls over the blocks of a trace
 abbrev pub callsBy : (ℕ → List ℕ) → Blocks → Begin → List ℕ
@@ -51,16 +55,3 @@ abbrev pub CallsPrint : Type 0
 CallsPrint =
     (outs : ℕ → List ℕ) (trace : List ℕ) → ((i : ℕ) → getD (drop blockBytes trace) i 0 < 256) → EnoughBy outs (blocksOf trace) (startOf (blocksOf trace .zeroth))
     → (headBytes ++ callsBy outs (blocksOf trace) (startOf (blocksOf trace .zeroth)) ≡ printed trace .out) × (printed trace .err ≡ [])
-
--- ---- 12 says how much room is missing
-
--- where a call's answer is 12 with n, the same call with an output of exactly n bytes takes the block and changes all of them to the row, and
--- with any fewer bytes it gives 12 with the same n
-pub record RoomForRow (run : Run) (next : Next) (zeroth : List ℕ) (n : ℕ) : Type 0 where
-  pub after : Run
-  pub given : (out : List ℕ) → length out ≡ n → stepOf run next zeroth out ≡ step.Taken after n
-  pub changed : (out : List ℕ) → length out ≡ n → storedOf next zeroth out ≡ rowOf after zeroth
-  pub fewer : (out : List ℕ) → length out < n → (stepOf run next zeroth out ≡ step.Room n run) × (storedOf next zeroth out ≡ out)
-
-abbrev pub RowRoomIsExact : Type 0
-RowRoomIsExact = (run same : Run) (next : Next) (zeroth old : List ℕ) (n : ℕ) → stepOf run next zeroth old ≡ step.Room n same → RoomForRow run next zeroth n

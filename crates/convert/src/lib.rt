@@ -1,14 +1,16 @@
-// One run of the program ecntable, block by block (document 01, "Trace file" and "Table"; 02, requests L5 and L10). Block 0 holds the label; the
-// caller keeps it, and lends it again with each later block.
+// One run of the program ecntable (document 01, "Trace file" and "Table"; 02, requests L5 and L10): block by block here, and over pieces of a trace in
+// `pieces`. Block 0 holds the label; the caller keeps it, and lends it again with the later blocks.
 use answers::Refusal;
+use answers::Written;
 use format::Form;
 use source::Totals;
-use trace::Block;
-use trace::read::fault_of;
-use trace::read::read_block;
+use trace::Zeroth;
+use trace::places::read_label;
 ghost use mathlib.Core.Path.{_≡_};
-ghost use Rattle.convert.specs.Runs.{startOf, callNext, Stepped};
+ghost use Rattle.walk.specs.Steps.{Stepped};
+ghost use Rattle.convert.specs.Runs.{startOf, callNext, rowIn};
 
+pub mod pieces;
 mod rows;
 mod soundness;
 
@@ -26,48 +28,39 @@ pub enum Begin {
     Refused(Refusal),
 }
 
-// The answer to a later block: the next run and the length of the row, or a refusal with the run that was given.
-pub enum Step {
-    Taken(Run, usize),
-    // 12: the output is too small; the row has so many bytes.
-    Room(usize, Run),
-    Refused(Refusal, Run),
+// The answer to a later block: what the row's writer says, and the next run where the row was written, else the run that was given.
+pub struct Step {
+    pub answer: Written,
+    pub run: Run,
 }
 
 impl Run {
-    // Takes block 0, which must be a label block. Refusals: 1, 13 and 14, as `read_block` gives them, and 14 for arrivals.
+    // Takes block 0, which must be a label block. Refusals: 1, 13 and 14, as `read_label` gives them.
     pub fn start(zeroth: &[u8]) -> Begin
         ensures { λ r. ⌜ r ≡ startOf (now (zeroth .entry)) ⌝ }
     {
-        let read = read_block(zeroth);
-        let Block::Label { form, length, ssrc } = read else {
-            return Begin::Refused(fault_of(read));
-        };
-        let totals = Totals::fresh();
-        Begin::Started(Run {
-            form,
-            length,
-            ssrc,
-            totals,
-        })
+        match read_label(zeroth) {
+            Zeroth::Label { form, length, ssrc } => {
+                let totals = Totals::fresh();
+                Begin::Started(Run {
+                    form,
+                    length,
+                    ssrc,
+                    totals,
+                })
+            }
+            Zeroth::Refused(refusal) => Begin::Refused(refusal),
+        }
     }
 
     // Takes a later block, which must hold arrivals of the label's form and SSRC, and writes the row after it at the front of out. `zeroth` is block 0.
-    // Refusals: 9 a malformed run, or a block 0 that is not its own; 1, 13 and 14, as `read_block` gives them, and 14 for a label, another
-    // form or another SSRC; 12 output too small, with the row's length.
+    // Refusals: 9 a malformed run, or a block 0 that is not its own; 1, 13 and 14, as `read_own` gives them; 12 output too small, with the row's length.
     pub fn block(self, zeroth: &[u8], block: &[u8], out: &mut [u8]) -> Step
-        ensures { λ r. ⌜ Stepped self (callNext self (now (zeroth .entry)) (now (block .entry))) (now (zeroth .entry)) (now (out .entry)) r (now (out .exit)) ⌝ }
+        ensures { λ r. ⌜ Stepped self (callNext self (now (zeroth .entry)) (now (block .entry))) (rowIn (now (zeroth .entry)) (callNext self (now (zeroth .entry)) (now (block .entry)))) (now (out .entry)) (r .answer) (r .run) (now (out .exit)) ⌝ }
     {
         if !soundness::is_sound(self, zeroth) {
-            return Step::Refused(Refusal::Malformed, self);
+            return rows::refused(self, Refusal::Malformed);
         }
-        let read = read_block(block);
-        let Block::Arrivals { form, count, ssrc } = read else {
-            return Step::Refused(fault_of(read), self);
-        };
-        if !soundness::is_of_trace(self, form, ssrc) {
-            return Step::Refused(Refusal::Contents, self);
-        }
-        rows::arrivals(self, zeroth, count, block, out)
+        rows::step(self, zeroth, block, out)
     }
 }

@@ -1,28 +1,43 @@
-// The row after an arrivals block.
+// The row after an arrivals block, of a run that was found sound.
 use crate::Run;
 use crate::Step;
+use answers::Refusal;
 use answers::Written;
 use engine::count_block;
 use format::block::BODY;
 use table::write_row;
+use trace::Later;
+use trace::places::read_own;
 ghost use mathlib.Core.Path.{_≡_};
 ghost use mathlib.Core.Bool.{true};
+ghost use Rattle.answers.specs.declared.Written.the-variants.{Refused};
 ghost use Rattle.trace.specs.Reading.{blockOf};
 ghost use Rattle.trace.specs.declared.Block.{Block};
-ghost use Rattle.convert.specs.Runs.{soundRun, arrived, goes, Stepped};
+ghost use Rattle.walk.specs.Steps.{goes, Stepped};
+ghost use Rattle.convert.specs.Runs.{soundRun, rowOf, rowIn, arrived, nextOf};
+
+// A refusal, with the run that was given.
+pub fn refused(run: Run, refusal: Refusal) -> Step
+    ensures { λ r. ⌜ (r .answer ≡ Refused refusal) × (r .run ≡ run) ⌝ }
+{
+    Step {
+        answer: Written::Refused(refusal),
+        run,
+    }
+}
 
 // Writes the row of the next run.
 fn row(run: Run, next: Run, zeroth: &[u8], out: &mut [u8]) -> Step
     requires { ⌜ soundRun next (now zeroth) ≡ true ⌝ }
-    ensures { λ r. ⌜ Stepped run (goes next) (now (zeroth .entry)) (now (out .entry)) r (now (out .exit)) ⌝ }
+    ensures { λ r. ⌜ Stepped run (goes next) (rowOf next (now (zeroth .entry))) (now (out .entry)) (r .answer) (r .run) (now (out .exit)) ⌝ }
 {
     let length = next.length;
     let totals = next.totals;
     let end = BODY + length;
-    match write_row(&zeroth[BODY..end], next.ssrc, totals, out) {
-        Written::Length(n) => Step::Taken(next, n),
-        Written::Room(n) => Step::Room(n, run),
-        Written::Refused(refusal) => Step::Refused(refusal, run),
+    let answer = write_row(&zeroth[BODY..end], next.ssrc, totals, out);
+    match answer {
+        Written::Length(_) => Step { answer, run: next },
+        _ => Step { answer, run },
     }
 }
 
@@ -46,10 +61,22 @@ fn counted(run: Run, n: usize, block: &[u8]) -> Run
 }
 
 // Counts the n arrivals of a block and writes the row after it.
-pub fn arrivals(run: Run, zeroth: &[u8], n: usize, block: &[u8], out: &mut [u8]) -> Step
+fn arrivals(run: Run, zeroth: &[u8], n: usize, block: &[u8], out: &mut [u8]) -> Step
     requires { ⌜ (soundRun run (now zeroth) ≡ true) × (blockOf (now block) ≡ Block.Arrivals (run .form) n (run .ssrc)) ⌝ }
-    ensures { λ r. ⌜ Stepped run (goes (arrived run n (now (block .entry)))) (now (zeroth .entry)) (now (out .entry)) r (now (out .exit)) ⌝ }
+    ensures { λ r. ⌜ Stepped run (goes (arrived run n (now (block .entry)))) (rowOf (arrived run n (now (block .entry))) (now (zeroth .entry))) (now (out .entry)) (r .answer) (r .run) (now (out .exit)) ⌝ }
 {
     let next = counted(run, n, block);
     row(run, next, zeroth, out)
+}
+
+// Takes a block of a sound run's trace.
+pub fn step(run: Run, zeroth: &[u8], block: &[u8], out: &mut [u8]) -> Step
+    requires { ⌜ soundRun run (now zeroth) ≡ true ⌝ }
+    ensures { λ r. ⌜ Stepped run (nextOf run (now (block .entry))) (rowIn (now (zeroth .entry)) (nextOf run (now (block .entry)))) (now (out .entry)) (r .answer) (r .run) (now (out .exit)) ⌝ }
+{
+    let form = run.form;
+    match read_own(form, run.ssrc, block) {
+        Later::Arrivals { count } => arrivals(run, zeroth, count, block, out),
+        Later::Refused(refusal) => refused(run, refusal),
+    }
 }

@@ -1,6 +1,5 @@
 // When a run is sound.
 use crate::Run;
-use format::Form;
 use format::block::BLOCK;
 use format::block::BODY;
 use format::block::BODY_BYTES;
@@ -14,21 +13,7 @@ use source::Totals;
 use trace::label::is_label;
 ghost use mathlib.Core.Path.{_≡_};
 ghost use Rattle.answers.specs.Conditions.{all};
-ghost use mathlib.Core.Bool.{_&&_};
-ghost use lib.Dec.{eqb};
-ghost use Rattle.format.specs.Forms.{sameForm};
 ghost use Rattle.convert.specs.Runs.{ownLabel, soundTotals, soundRun};
-
-// Whether arrivals of a form and an SSRC belong to the run's trace.
-pub fn is_of_trace(run: Run, form: Form, ssrc: u32) -> bool
-    ensures { λ r. ⌜ r ≡ (sameForm form (run .form) && eqb ssrc (run .ssrc)) ⌝ }
-{
-    let own = run.form;
-    if form.label() != own.label() {
-        return false;
-    }
-    ssrc == run.ssrc
-}
 
 // Whether block 0 is the run's own. (Its header says so: no checksum is taken per call.)
 fn is_own(run: Run, zeroth: &[u8]) -> bool

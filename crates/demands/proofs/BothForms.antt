@@ -5,22 +5,21 @@ use Prim.Native.Nat.{ℕ, _≤_}
 use native.Mathlib.Omega.{arith}
 use lib.ListN.{length, take, drop, length-append}
 use Rattle.format.specs.Blocks.{blockBytes}
-use Rattle.format.specs.Forms.{shapeOf, otherForm}
+use Rattle.format.specs.Forms.{otherForm}
 use Rattle.format.specs.declared.Form.{Form}
 use Rattle.numbers.proofs.BigEndian.{Octets}
-use Rattle.source.specs.declared.Totals.{Totals}
 use Rattle.trace.specs.Layout.{bodyOf}
 use Rattle.trace.specs.Reading.{blockOf}
-use Rattle.trace.specs.declared.Block.{Block}
 use Rattle.trace.specs.declared.Block.the-variants.{Label}
 use Rattle.trace.specs.declared.Record.{Record}
 use Rattle.trace.proofs.Accepted.{accepted}
-use Rattle.trace.proofs.Octets.{octets-drop}
+use Rattle.numbers.proofs.Octets.{octets-drop}
 use Rattle.table.specs.Lines.{rowBytes}
 use Rattle.walk.specs.Blocks.{blocksOf}
 use Rattle.walk.specs.Programs.{Printed}
+use Rattle.walk.specs.Steps.{Next}
 use Rattle.walk.proofs.Cuts.{Each}
-use Rattle.forms.specs.Conversions.{Next, nextOf}
+use Rattle.forms.specs.Conversions.{nextOf}
 use Rattle.forms.specs.Converted.{converted}
 use Rattle.forms.specs.Theorems.{takenFrom, recordsTaken}
 use Rattle.forms.proofs.Returns.{going-on, converted-octets, converted-reads, same-records}
@@ -42,7 +41,7 @@ module _ (form : Form) (ssrc : ℕ) where
   together-go (b ∷ bs) g =
       let br = brings form ssrc b (g .0 .goes-on) in
       ap₂ (λ (us vs : List Record). us ++ vs) (ap (recordsBy b) (br .block) ∙ sym (br .are)) (together-go bs (g .1))
-      ∙ ap (λ (n : Next). takenFrom n (recordsTaken form ssrc bs)) (sym (g .0 .goes-on))
+      ∙ ap (λ (n : Next (List Record)). takenFrom n (recordsTaken form ssrc bs)) (sym (g .0 .goes-on))
 
 -- a trace that no block is refused of
 module _ (trace : List ℕ) (form : Form) (n ssrc : ℕ) (o : Octets (drop blockBytes trace)) (label : blockOf (blocksOf trace .zeroth) ≡ Label form n ssrc) (none-told : converted trace .err ≡ []) where
@@ -63,7 +62,7 @@ module _ (trace : List ℕ) (form : Form) (n ssrc : ℕ) (o : Octets (drop block
   some-records (b ∷ bs) g some =
       let br = brings form ssrc b (g .0 .goes-on) in
       let rs = g .0 .records in
-      let is : takenFrom (nextOf form ssrc b) (recordsTaken form ssrc bs) ≡ rs ++ recordsTaken form ssrc bs = ap (λ (n : Next). takenFrom n (recordsTaken form ssrc bs)) (g .0 .goes-on) in
+      let is : takenFrom (nextOf form ssrc b) (recordsTaken form ssrc bs) ≡ rs ++ recordsTaken form ssrc bs = ap (λ (n : Next (List Record)). takenFrom n (recordsTaken form ssrc bs)) (g .0 .goes-on) in
       omega (arith, ap length is, length-append rs (recordsTaken form ssrc bs), many-brought br, accepted b (br .block) .least)
 
 -- where there are records there is a block

@@ -1,15 +1,12 @@
 -- The last row of a trace is that of the totals over all its records, however they are cut into blocks. Assumes nothing.
-use mathlib.Core.Path.{_≡_, refl, sym, ap, ap₂, _∙_, subst}
-use mathlib.Core.Bool.{true}
+use mathlib.Core.Path.{_≡_, refl, sym, ap, ap₂, _∙_}
 use mathlib.Core.List.{List, [], _∷_, _++_, map, append-nil, append-assoc}
 use Prim.Native.Nat.{ℕ, suc, _+_, _≤_, min}
 use native.Mathlib.Nat.{add-zero, add-assoc}
 use native.Mathlib.Omega.{arith}
-use borrow.Author.Tests.{eq-eqb}
 use borrow.Table.Elements.{map-app}
 use lib.ListN.{length, take, drop}
-use Rattle.format.specs.Blocks.{blockBytes, bodyAt}
-use Rattle.format.specs.Forms.{shapeOf, width}
+use Rattle.format.specs.Blocks.{blockBytes}
 use Rattle.format.specs.declared.Form.{Form}
 use Rattle.numbers.proofs.BigEndian.{Octets}
 use Rattle.source.specs.declared.Source.{Source}
@@ -19,23 +16,24 @@ use Rattle.source.specs.declared.Totals.{Totals}
 use Rattle.source.specs.Record.{freshRecord}
 use Rattle.source.specs.Arrivals.{arrival, after}
 use Rattle.source.specs.Blocks.{Packet, jump, restart, countAll}
-use Rattle.source.specs.Totals.{mostTold, freshTotals, withBlock}
+use Rattle.source.specs.Totals.{mostTold, withBlock}
 use Rattle.trace.specs.Layout.{bodyOf}
 use Rattle.trace.specs.Reading.{blockOf}
 use Rattle.trace.specs.declared.Block.{Block}
 use Rattle.trace.specs.declared.Block.the-variants.{Label, Arrivals}
 use Rattle.trace.specs.declared.Record.{Record}
 use Rattle.trace.proofs.Accepted.{accepted}
+use Rattle.trace.proofs.Placed.{own-later}
 use Rattle.table.specs.Lines.{headBytes, rowBytes}
 use Rattle.walk.specs.Blocks.{blocksOf, joined}
-use Rattle.walk.specs.Programs.{Printed, both, walk, closed}
+use Rattle.walk.specs.Programs.{both, toOutput, walk, closed}
+use Rattle.walk.specs.Steps.{goes}
 use Rattle.walk.proofs.Cuts.{Each}
 use Rattle.convert.specs.declared.Run.{Run}
 use Rattle.convert.specs.declared.Begin.the-variants as begin
-use Rattle.convert.specs.Runs.{startOf, rowOf, arrived, goes, nextBy, nextOf}
-use Rattle.convert.specs.Tables.{toOutput, printed}
+use Rattle.convert.specs.Runs.{startOf, rowOf, arrived, nextOf}
 use Rattle.convert.proofs.Kept.{Good, next-good, start-good}
-use Rattle.convert.proofs.Steps.{start-label}
+use Rattle.convert.proofs.Steps.{start-label, next-by}
 use Rattle.convert.proofs.Whole.{rest, rest-goes, printed-started}
 use Rattle.forms.proofs.Calls.{octets-blocks}
 use Rattle.demands.specs.PrintedTable.{inRecord, recordsBy, together, AllArrivals, EndsIn}
@@ -102,11 +100,11 @@ module _ (form : Form) (zeroth : List ℕ) (n ssrc : ℕ) where
 
   -- a block leads from `us` to `us` and its records
   next-is : (us : List Record) (b : List ℕ) (k : ℕ) → blockOf b ≡ Arrivals form k ssrc → Good (with us) zeroth → nextOf (with us) b ≡ goes (with (us ++ recordsBy b (Arrivals form k ssrc)))
-  unfolding nextOf arrived
+  unfolding arrived
   next-is us b k is g =
       let counted = records-counted b form k ssrc is (recordsTotals us .source) (g .totals .good) in
-      ap (nextBy (with us) b) is ∙ rw (eq-eqb (shapeOf form .label) (shapeOf form .label) refl, eq-eqb ssrc ssrc refl)
-      (ap (λ (t : Totals). goes (record { form = form; length = n; ssrc = ssrc; totals = t })) (ap (withBlock (recordsTotals us)) counted ∙ sym (totals-parts us (recordsBy b (Arrivals form k ssrc)))))
+      next-by (with us) b (own-later form ssrc b is)
+      ∙ ap (λ (t : Totals). goes (record { form = form; length = n; ssrc = ssrc; totals = t })) (ap (withBlock (recordsTotals us)) counted ∙ sym (totals-parts us (recordsBy b (Arrivals form k ssrc))))
 
   rest-rows : (i : ℕ) (b : List ℕ) (bs : List (List ℕ)) (us : List Record) → AllArrivals form ssrc (b ∷ bs) → Each Octets (b ∷ bs) → Good (with us) zeroth
       → (front : List (List ℕ)) × (rest i (b ∷ bs) (with us) zeroth ≡ toOutput (joined front ++ rowOf (with (us ++ together (b ∷ bs))) zeroth))

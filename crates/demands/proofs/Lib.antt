@@ -27,3 +27,4 @@ pub mod Uses
 pub mod WitnessesBreaker
 pub mod WitnessesBetween
 pub mod WitnessesSources
+pub mod WitnessesPieces

@@ -20,9 +20,10 @@ use Rattle.source.specs.Totals.{freshTotals}
 use Rattle.trace.specs.Reading.{blockOf}
 use Rattle.trace.specs.declared.Block.{Block}
 use Rattle.trace.specs.declared.Block.the-variants as read
-use Rattle.trace.proofs.Octets.{octets-take, octets-drop}
+use Rattle.numbers.proofs.Octets.{octets-take, octets-drop}
 use Rattle.walk.specs.Blocks.{blocksOf}
 use Rattle.walk.specs.Programs.{Run, turned, onward, walk, walked}
+use Rattle.walk.specs.Steps.{Next, goes, refuses}
 use Rattle.walk.proofs.Cuts.{Each}
 use Rattle.forms.proofs.Calls.{octets-blocks}
 use Rattle.streams.specs.declared.Place.{Place}
@@ -36,7 +37,7 @@ use Rattle.streams.proofs.Behind.{record-sound, held-behind, block-keeps-rules}
 use Rattle.mixed.specs.declared.Line.{Line}
 use Rattle.mixed.specs.Places.{foundBy, renewedBy, addedBy}
 use Rattle.mixed.specs.Lines.{byValue}
-use Rattle.mixed.specs.Blocks.{counted, Next, goes, refuses, settledBy, settled, nextBy, nextOf}
+use Rattle.mixed.specs.Blocks.{counted, settledBy, settled, nextBy, nextOf}
 use Rattle.mixed.specs.Witnesses.{trace as sources}
 use Rattle.mixed.specs.Tables.{Kept as State, begunBy, taken, ecnstreams}
 use Rattle.demands.specs.LinesAreTable.{placeOf, tableBy, tableBehind, LinesAreTable}
@@ -82,7 +83,7 @@ module _ (ps : List Place) (ls : List Line) (s : Same ps ls) (b : List ℕ) (for
 
 -- ---- what a block does to both
 
-abbrev Follows : List Place → Next Line → Type 0
+abbrev Follows : List Place → Next (List Line) → Type 0
 Follows ps (goes ls) = Same ps ls
 Follows ps (refuses refusal) = Unit {0}
 
@@ -138,7 +139,7 @@ walk-follows i [] k ps o s e = sym (s .are)
 walk-follows i (b ∷ bs) k ps o s e =
     go (nextOf byValue (k .form) b (k .lines)) (next-follows ps (k .lines) s b (o .0) (k .form)) (λ k. walk-follows (suc i) bs k (tableBy ps b (blockOf b)) (o .1)) e
   where
-    go : (next : Next Line) → Follows (tableBy ps b (blockOf b)) next
+    go : (next : Next (List Line)) → Follows (tableBy ps b (blockOf b)) next
         → ((k : State) → Same (tableBy ps b (blockOf b)) (k .lines) → walk ecnstreams (suc i) bs k .ended ≡ none
         → map placeOf (walk ecnstreams (suc i) bs k .state .lines) ≡ heldOf (tableBehind (tableBy ps b (blockOf b)) bs))
         → onward (turned i (taken k next)) (walk ecnstreams (suc i) bs) .ended ≡ none

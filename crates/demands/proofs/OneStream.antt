@@ -18,17 +18,18 @@ use Rattle.trace.specs.declared.Block.{Block}
 use Rattle.trace.specs.declared.Block.the-variants.{Arrivals}
 use Rattle.trace.specs.declared.Record.{Record}
 use Rattle.trace.proofs.Accepted.{accepted}
-use Rattle.trace.proofs.Octets.{octets-drop}
+use Rattle.numbers.proofs.Octets.{octets-drop}
 use Rattle.table.specs.Lines.{headBytes, rowBytes}
 use Rattle.walk.specs.Blocks.{blocksOf}
-use Rattle.walk.specs.Programs.{both, walk, closed}
+use Rattle.walk.specs.Programs.{both, toOutput, walk, closed}
+use Rattle.walk.specs.Steps.{Next, goes}
 use Rattle.walk.proofs.Cuts.{Each}
 use Rattle.forms.proofs.Calls.{octets-blocks}
 use Rattle.mixed.specs.declared.Line.{Line}
 use Rattle.mixed.specs.Places.{foundBy, renewedBy, addedBy}
 use Rattle.mixed.specs.Lines.{byValue}
-use Rattle.mixed.specs.Blocks.{counted, Next, goes, nextBy, nextOf, settled}
-use Rattle.mixed.specs.Tables.{toOutput, rowsOf, printed}
+use Rattle.mixed.specs.Blocks.{counted, nextBy, nextOf, settled}
+use Rattle.mixed.specs.Tables.{rowsOf, printed}
 use Rattle.mixed.proofs.Restored.{Good}
 use Rattle.mixed.proofs.Kept.{fresh-good, counted-good}
 use Rattle.mixed.proofs.Onward.{rest, rest-goes, begun, printed-started}
@@ -60,7 +61,7 @@ module _ (form : Form) (ssrc : ℕ) where
     still-good : (us : List Record) → Octets b → Good (recordsTotals us) → Good (recordsTotals (us ++ own))
     still-good us o g = rw (counts-own us g) at (counted-good form n b (recordsTotals us) o g)
 
-    next-is : (ls : List Line) {next : Next Line} → settled byValue (counted form n b) ssrc ls ≡ next → nextOf byValue form b ls ≡ next
+    next-is : (ls : List Line) {next : Next (List Line)} → settled byValue (counted form n b) ssrc ls ≡ next → nextOf byValue form b ls ≡ next
     unfolding nextOf
     next-is ls e = ap (nextBy byValue form b ls) is ∙ rw (eq-eqb (shapeOf form .label) (shapeOf form .label) refl) e
 

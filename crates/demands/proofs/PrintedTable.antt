@@ -2,39 +2,35 @@
 use mathlib.Core.Path.{_≡_, refl, sym, ap, ap₂, _∙_, subst}
 use mathlib.Core.Bool.{true}
 use mathlib.Core.List.{List, [], _∷_, _++_, map, append-nil, append-assoc, map-append}
-use Prim.Native.Nat.{ℕ, suc, _+_, _≤_, _^_}
+use Prim.Native.Nat.{ℕ, suc, _+_, _≤_}
 use native.Mathlib.Omega.{arith}
-use borrow.Author.Tests.{eq-eqb}
-use lib.Dec.{eqb}
 use lib.ListN.{length, take, drop, length-append}
 use lib.Seq.{take-append-seam}
 use Rattle.format.specs.Blocks.{bodyAt}
-use Rattle.format.specs.Forms.{shapeOf, width}
 use Rattle.format.specs.declared.Form.{Form}
 use Rattle.source.specs.declared.Source.{Source}
-use Rattle.source.specs.declared.Totals.{Totals}
 use Rattle.source.specs.declared.BlockCount.{BlockCount}
 use Rattle.source.specs.Record.{freshRecord, sound}
 use Rattle.source.specs.Totals.{withBlock}
 use Rattle.source.proofs.Facts.{fresh-sound}
-use Rattle.trace.specs.Layout.{bodyOf}
 use Rattle.trace.specs.Contents.{labelOk}
 use Rattle.trace.specs.Reading.{countIn, blockOf}
 use Rattle.trace.specs.declared.Block.{Block}
 use Rattle.trace.specs.declared.Block.the-variants.{Arrivals}
 use Rattle.trace.specs.declared.Record.{Record}
 use Rattle.trace.proofs.Accepted.{accepted}
+use Rattle.trace.proofs.Placed.{own-later}
 use Rattle.table.specs.Lines.{rowBytes}
 use Rattle.walk.specs.Blocks.{blocksOf, joined}
-use Rattle.walk.specs.Programs.{Printed, both, walk, closed}
+use Rattle.walk.specs.Programs.{Printed, both, toOutput, walk, closed}
+use Rattle.walk.specs.Steps.{goes}
 use Rattle.convert.specs.declared.Run.{Run}
-use Rattle.convert.specs.Runs.{rowOf, arrived, goes, nextBy, nextOf}
-use Rattle.convert.specs.Tables.{toOutput, printed}
+use Rattle.convert.specs.Runs.{rowOf, arrived, nextOf}
+use Rattle.convert.specs.Tables.{printed}
 use Rattle.table.specs.Lines.{headBytes}
-use Rattle.convert.proofs.Steps.{start-label}
+use Rattle.convert.proofs.Steps.{start-label, next-by}
 use Rattle.convert.proofs.Whole.{rest, rest-goes, printed-started}
 use Rattle.demands.specs.Calls.{TruePacket, run, AnsweredFrom, arrivals, Steady, Described}
-use Rattle.demands.specs.Count.{baseOf, SameArrivals}
 use Rattle.demands.specs.TableRow.{countRow}
 use Rattle.demands.specs.PrintedTable.{inRecord, ofArrival, recordsBy, together, AllArrivals, Holds, rows, EndsIn, TableHoldsCount, SameLastRow}
 use Rattle.demands.proofs.Members.{Marks}
@@ -87,14 +83,14 @@ module _ (form : Form) (zeroth label : List ℕ) (ssrc : ℕ) (label-is : take (
   -- a block of `vs` leads from `us` to `us ++ vs`
   next-is : (us vs ws : List TruePacket) → us ++ (vs ++ ws) ≡ ps → (b : List ℕ) (n : ℕ) → blockOf b ≡ Arrivals form n ssrc
       → map inRecord (recordsBy b (Arrivals form n ssrc)) ≡ map ofArrival vs → nextOf (with us) b ≡ goes (with (us ++ vs))
-  unfolding nextOf arrived
+  unfolding arrived
   next-is us vs ws e b n is same =
       let good : sound (run us) ≡ true = run-sound freshRecord us fresh-sound in
       let answered : AnsweredFrom (run us) vs = answers-front (run us) vs ws (answers-behind freshRecord us (vs ++ ws) (subst (AnsweredFrom freshRecord) (sym e) (demand3 ps d .answers))) in
       let counted = block-counted b form n ssrc is vs same (run us) good answered in
-      ap (nextBy (with us) b) is ∙ rw (eq-eqb (shapeOf form .label) (shapeOf form .label) refl, eq-eqb ssrc ssrc refl)
-      (ap (λ (c : BlockCount). goes (record { form = form; length = length label; ssrc = ssrc; totals = withBlock (record { source = run us; jumped = 0; restarts = 0 }) c })) counted
-      ∙ ap (λ (s : Source). goes (record { form = form; length = length label; ssrc = ssrc; totals = record { source = s; jumped = 0; restarts = 0 } })) (sym (run-parts freshRecord us vs)))
+      next-by (with us) b (own-later form ssrc b is)
+      ∙ ap (λ (c : BlockCount). goes (record { form = form; length = length label; ssrc = ssrc; totals = withBlock (record { source = run us; jumped = 0; restarts = 0 }) c })) counted
+      ∙ ap (λ (s : Source). goes (record { form = form; length = length label; ssrc = ssrc; totals = record { source = s; jumped = 0; restarts = 0 } })) (sym (run-parts freshRecord us vs))
 
   -- the last row of some blocks, behind those of `us`
   Last : List (List ℕ) → List TruePacket → Type 0

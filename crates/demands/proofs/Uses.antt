@@ -18,14 +18,14 @@ use Rattle.streams.specs.Compounds.{receiverReport}
 use Rattle.trace.proofs.ReadBack.{label-reads-back, arrivals-read-back}
 use Rattle.trace.proofs.Accepted.{label-is-written, arrivals-are-written}
 use Rattle.trace.proofs.Theorems.{one-check}
-use Rattle.table.specs.Texts.{codes}
+use Rattle.answers.specs.Texts.{codes}
 use Rattle.table.proofs.RowFits.{row-fits}
 use Rattle.table.proofs.RowSplits.{row-splits}
 use Rattle.table.proofs.Splitting.{line-splits}
 use Rattle.walk.proofs.Walks.{nothing-follows}
-use Rattle.convert.specs.Runs.{callNext}
+use Rattle.walk.proofs.Putting.{step-room-is-exact}
+use Rattle.convert.specs.Runs.{callNext, rowIn}
 use Rattle.convert.specs.Tables.{ecntable}
-use Rattle.convert.proofs.Steps.{row-room-is-exact}
 use Rattle.convert.proofs.Whole.{calls-print}
 use Rattle.demands.specs.Calls.{run}
 use Rattle.demands.specs.Witnesses.{wrapped, reordered, c1Packets, text, label, c1Block, whole, cut, begun}
@@ -69,9 +69,6 @@ used =
     let room-changed = room .changed (replicate 32 0) refl in
     let room-fewer = room .fewer (replicate 31 0) (omega arith) in
     let room-asked = room-is-asked (feedbackBytes 9 1 (run c1Packets)) (replicate 31 0) (omega (arith, room .long)) in
-    let row-room = row-room-is-exact begun begun (callNext begun label c1Block) label (replicate 40 0) 41 (met .row-room) in
-    let row-given = row-room .given (replicate 41 0) refl in
-    let row-changed = row-room .changed (replicate 41 0) refl in
-    let row-fewer = row-room .fewer (replicate 40 0) (omega arith) in
+    let row-room = step-room-is-exact _ begun (callNext begun label c1Block) (rowIn label (callNext begun label c1Block)) (replicate 40 0) 41 (met .row-room) in
     let forms = both-forms trace One 2 1 (forms-met .octets) (forms-met .label) (forms-met .taken) (forms-met .some) in
     tt

@@ -32,6 +32,7 @@ use Rattle.trace.specs.Checksum.{words, onesAdd, onesSum}
 use Rattle.trace.specs.Contents.{every, labelByte, labelOk, labelBody, countOk, goodRecords, arrivalsBody}
 use Rattle.trace.specs.Layout.{recordBytes, recordsBytes, recordAt, header, filled, checked, labelBlock, arrivalsBlock}
 use Rattle.trace.specs.Reading.{rightCheck, contentsOf, blockOf}
+use Rattle.trace.specs.Places.{zerothOf, laterOf}
 use Rattle.trace.specs.Writing.{labelFault, recordsOf, arrivalsOk, arrivalsFault}
 use Rattle.trace.specs.Theorems.{recordsIn}
 use Rattle.trace.proofs.Limits.{below}
@@ -43,8 +44,8 @@ use Rattle.table.specs.Theorems.{plain, allPlain}
 use Rattle.walk.specs.Blocks as Blocks
 use Rattle.walk.specs.Blocks.{blocksOf}
 use Rattle.walk.specs.Programs.{onward, walk, walked}
-use Rattle.convert.specs.declared.Step.the-variants as step
-use Rattle.convert.specs.Runs.{startOf as runFrom, nextOf, soundRun, callNext, stepOf, arrived, rowOf}
+use Rattle.walk.specs.Steps.{faultIn}
+use Rattle.convert.specs.Runs.{startOf as runFrom, nextOf, soundRun, callNext, rowIn, arrived, rowOf}
 use Rattle.convert.specs.Theorems.{taken, ends, EnoughBy}
 use Rattle.mixed.specs.Places.{foundBy, renewedBy, addedBy}
 use Rattle.mixed.specs.Blocks as lines
@@ -80,11 +81,11 @@ unfolding labelBlock arrivalsBlock recordsOf recordBytes recordsBytes header fil
 none-refused = refl
 
 whole-enough : EnoughBy (λ _. replicate 100 0) (blocksOf whole) (runFrom (blocksOf whole .zeroth))
-unfolding labelBlock arrivalsBlock recordsOf recordBytes recordsBytes header filled checked bytes words onesAdd onesSum word blockOf rightCheck contentsOf labelBody labelByte every arrivalsBody countOk goodRecords Blocks.cut blocksOf runFrom nextOf arrived blockCount sound fresh hasCounted packets countAll arrival first counted distance reachOf ahead behind pack marks place moved added rowOf rowBytes asField anySpecial special doubled doubledByte decimal digitsOf signed line lost places ones
+unfolding labelBlock arrivalsBlock recordsOf recordBytes recordsBytes header filled checked bytes words onesAdd onesSum word blockOf rightCheck contentsOf labelBody labelByte every arrivalsBody countOk goodRecords Blocks.cut blocksOf zerothOf laterOf runFrom nextOf arrived blockCount sound fresh hasCounted packets countAll arrival first counted distance reachOf ahead behind pack marks place moved added rowOf rowBytes asField anySpecial special doubled doubledByte decimal digitsOf signed line lost places ones
 whole-enough = taken _ refl (leb→le _ _ tt) ends
 
-row-room : stepOf begun (callNext begun label c1Block) label (replicate 40 0) ≡ step.Room 41 begun
-unfolding labelBlock arrivalsBlock recordsOf recordBytes recordsBytes header filled checked bytes words onesAdd onesSum word blockOf rightCheck contentsOf labelBody labelByte every arrivalsBody countOk goodRecords callNext soundRun labelOk nextOf arrived blockCount sound fresh hasCounted packets countAll arrival first counted distance reachOf ahead behind pack marks place moved added rowOf rowBytes asField anySpecial special doubled doubledByte decimal digitsOf signed line lost places ones onesIn written
+row-room : written (faultIn (callNext begun label c1Block)) (rowIn label (callNext begun label c1Block)) (replicate 40 0) ≡ Room 41
+unfolding labelBlock arrivalsBlock recordsOf recordBytes recordsBytes header filled checked bytes words onesAdd onesSum word blockOf rightCheck contentsOf labelBody labelByte every arrivalsBody countOk goodRecords callNext soundRun labelOk laterOf nextOf arrived blockCount sound fresh hasCounted packets countAll arrival first counted distance reachOf ahead behind pack marks place moved added rowOf rowBytes asField anySpecial special doubled doubledByte decimal digitsOf signed line lost places ones onesIn written
 row-room = refl
 
 -- ---- C1's record, computed
@@ -108,7 +109,7 @@ rr-cut = refl
 -- ---- all
 
 pub met : Met
-unfolding labelBlock arrivalsBlock recordsOf recordBytes recordsBytes header filled checked bytes words onesAdd onesSum word blockOf rightCheck contentsOf labelBody labelByte every arrivalsBody countOk goodRecords walk onward nextOf labelFault labelOk arrivalsFault arrivalsOk plain allPlain special
+unfolding labelBlock arrivalsBlock recordsOf recordBytes recordsBytes header filled checked bytes words onesAdd onesSum word blockOf rightCheck contentsOf labelBody labelByte every arrivalsBody countOk goodRecords walk onward laterOf nextOf labelFault labelOk arrivalsFault arrivalsOk plain allPlain special
 met = record {
   described = record { few = omega arith; steady = (leZ-yes tt, leZ-yes tt, (leZ-yes tt, leZ-yes tt, (leZ-yes tt, leZ-yes tt, (leZ-yes tt, leZ-yes tt, tt)))) };
   again = (

@@ -17,3 +17,4 @@ pub mod Witnesses
 pub mod WitnessesBreaker
 pub mod WitnessesBetween
 pub mod WitnessesSources
+pub mod WitnessesPieces

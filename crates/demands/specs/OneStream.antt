@@ -10,7 +10,8 @@ use Rattle.trace.specs.Theorems.{Below}
 use Rattle.trace.specs.declared.Block.the-variants.{Label}
 use Rattle.table.specs.Lines.{headBytes, rowBytes}
 use Rattle.walk.specs.Blocks.{blocksOf}
-use Rattle.mixed.specs.Tables.{toOutput, printed}
+use Rattle.walk.specs.Programs.{toOutput}
+use Rattle.mixed.specs.Tables.{printed}
 use Rattle.demands.specs.PrintedTable.{together, AllArrivals, EndsIn}
 use Rattle.demands.specs.BothForms.{recordsTotals}
 

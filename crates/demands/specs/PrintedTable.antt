@@ -14,7 +14,8 @@ use Rattle.trace.specs.declared.Block.the-variants.{Label, Arrivals, Refused}
 use Rattle.trace.specs.declared.Record.{Record}
 use Rattle.table.specs.Lines.{headBytes}
 use Rattle.walk.specs.Blocks.{blocksOf, joined}
-use Rattle.convert.specs.Tables.{toOutput, printed}
+use Rattle.walk.specs.Programs.{toOutput}
+use Rattle.convert.specs.Tables.{printed}
 use Rattle.demands.specs.Calls.{TruePacket, wireOf, Described}
 use Rattle.demands.specs.Count.{baseOf, SameArrivals}
 use Rattle.demands.specs.TableRow.{countRow}

@@ -30,13 +30,13 @@ use Rattle.trace.specs.Writing.{labelFault, recordsOf, arrivalsFault}
 use Rattle.trace.specs.Theorems.{Below}
 use Rattle.trace.specs.declared.Block.the-variants.{Label, Arrivals}
 use Rattle.table.specs.Lines.{rowFault}
-use Rattle.table.specs.Texts.{codes}
+use Rattle.answers.specs.Texts.{codes}
 use Rattle.table.specs.Theorems.{allPlain}
 use Rattle.walk.specs.Blocks.{blocksOf}
 use Rattle.walk.specs.Programs.{walk, walked}
+use Rattle.walk.specs.Steps.{faultIn}
 use Rattle.convert.specs.declared.Run.{Run}
-use Rattle.convert.specs.declared.Step.the-variants as step
-use Rattle.convert.specs.Runs.{startOf as runFrom, callNext, stepOf}
+use Rattle.convert.specs.Runs.{startOf as runFrom, callNext, rowIn}
 use Rattle.convert.specs.Tables.{ecntable}
 use Rattle.convert.specs.Theorems.{EnoughBy}
 use Rattle.mixed.specs.Tables.{ecnstreams}
@@ -139,6 +139,6 @@ pub record Met : Type 0 where
   pub rr-cut : reading (take 6 (receiverReport 5)) 1 Profile.Compound ≡ Reading.Refused PacketSize
   -- RowFits
   pub row-accepted : rowFault text (record { source = run c1Packets; jumped = 3; restarts = 2 }) ≡ none
-  -- RoomIsExact, RowRoomIsExact: C1's feedback packet and its row, each with one byte too few
+  -- RoomIsExact, StepRoomIsExact: C1's feedback packet and its row, each with one byte too few
   pub room : written none (feedbackBytes 9 1 (run c1Packets)) (replicate 31 0) ≡ Room 32
-  pub row-room : stepOf begun (callNext begun label c1Block) label (replicate 40 0) ≡ step.Room 41 begun
+  pub row-room : written (faultIn (callNext begun label c1Block)) (rowIn label (callNext begun label c1Block)) (replicate 40 0) ≡ Room 41

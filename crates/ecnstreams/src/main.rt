@@ -7,109 +7,144 @@ use format::block::BLOCK;
 use libc::STDOUT_FILENO;
 use mixed::Begin;
 use mixed::Run;
-use mixed::Step;
+use shell::clipped::least;
 use shell::failures::has_arguments;
+use shell::failures::tell_reading;
 use shell::printing::Output;
-use shell::reading::Input;
-use shell::reading::Next;
+use shell::reading::Ahead;
+use shell::reading::fill;
 use table::write_head;
+use table::write_refused;
+use walk::number_after;
 
-// Rows are printed when less room than this is left behind them. A row takes less: its label at most 1,006 bytes, its ten numbers at most 20
-// digits and a sign each, ten commas, CR and LF.
-const ROW: usize = 2048;
+// So many blocks are read at a time after block 0.
+const PIECE: usize = 256 * BLOCK;
 
-// How a run ended: at the end of the trace, or at a block with a refusal.
-enum Ended {
+// How a run stands: it goes on, it has come to the end of the trace, or a block is refused with a number.
+enum Standing {
+    Going,
     Whole,
     Refused(u8),
 }
 
-// How far the run has come: the number of the next block, what is read and not taken yet, and whether to go on.
+// How far a run has come, with the number of the next block or of the refused one.
 struct Progress {
     run: Run,
     block: u64,
-    input: Input,
-    going: bool,
-    ended: Ended,
+    standing: Standing,
 }
 
-// The number of the block behind one. (The greatest number stays.)
-fn number_after(block: u64) -> u64 {
-    if block == 0xffff_ffff_ffff_ffff {
-        return block;
-    }
-    block + 1
+// Tells a failed read, before another call of the system fails.
+fn tell_failed(ahead: Ahead, name: &[u8]) {
+    let Ahead::Failure = ahead else {
+        return;
+    };
+    tell_reading(name);
 }
 
-// The end of the run.
-fn stopped(p: Progress, ended: Ended) -> Progress {
+// A run that has taken all blocks of a piece. The block that could not be read is not a whole block.
+fn after_piece(p: Progress, ahead: Ahead) -> Progress {
     let run = p.run;
-    let input = p.input;
+    let standing = p.standing;
+    let Standing::Going = standing else {
+        return p;
+    };
+    match ahead {
+        Ahead::More => p,
+        Ahead::End => Progress {
+            run,
+            block: p.block,
+            standing: Standing::Whole,
+        },
+        Ahead::Failure => Progress {
+            run,
+            block: p.block,
+            standing: Standing::Refused(Refusal::Incomplete.number()),
+        },
+    }
+}
+
+// Takes the blocks of a piece in turn, to the last or to one that is refused. Each has 512 bytes, the last one perhaps fewer.
+fn take_blocks(start: Progress, lines: &mut [u64], piece: &[u8]) -> Progress {
+    let mut run = start.run;
+    let mut block = start.block;
+    let mut from = 0;
+    while from < piece.len() {
+        let end = from + least(piece.len() - from, BLOCK);
+        let step = run.block(lines, &piece[from..end]);
+        let answer = step.answer;
+        match answer {
+            Written::Refused(refusal) => {
+                return Progress {
+                    run,
+                    block,
+                    standing: Standing::Refused(refusal.number()),
+                };
+            }
+            _ => {
+                run = step.run;
+            }
+        }
+        from = end;
+        block = number_after(block, 1);
+    }
     Progress {
         run,
-        block: p.block,
-        input,
-        going: false,
-        ended,
+        block,
+        standing: Standing::Going,
     }
 }
 
-// Takes one block: it is counted, or the run ends with its refusal.
-fn take_block(p: Progress, rest: Input, lines: &mut [u64], block: &[u8]) -> Progress {
-    let run = p.run;
-    match run.block(lines, block) {
-        Step::Taken(next) => Progress {
-            run: next,
-            block: number_after(p.block),
-            input: rest,
-            going: true,
-            ended: Ended::Whole,
-        },
-        Step::Refused(refusal, _) => stopped(p, Ended::Refused(refusal.number())),
-    }
+// Reads a piece and takes its blocks.
+fn take_piece(p: Progress, name: &[u8], lines: &mut [u64], pieces: &mut [u8]) -> Progress {
+    let from = 0;
+    let read = fill(pieces);
+    let bytes = read.bytes;
+    let ahead = read.ahead;
+    tell_failed(ahead, name);
+    after_piece(take_blocks(p, lines, &pieces[from..bytes]), ahead)
 }
 
-// Takes the next block. One that could not be read is not a whole block.
-fn take_next(p: Progress, name: &[u8], lines: &mut [u64], pieces: &mut [u8]) -> Progress {
-    let input = p.input;
-    match input.next(name, pieces) {
-        Next::Block { from, to, rest } => take_block(p, rest, lines, &pieces[from..to]),
-        Next::End => stopped(p, Ended::Whole),
-        Next::Failed => stopped(p, Ended::Refused(Refusal::Incomplete.number())),
-    }
-}
-
-// Takes the blocks behind block 0 to the end of the run.
-fn take_rest(start: Progress, name: &[u8], lines: &mut [u64], pieces: &mut [u8]) -> Progress {
+// Takes the pieces to the end of the run.
+fn take_pieces(start: Progress, name: &[u8], lines: &mut [u64], pieces: &mut [u8]) -> Progress {
     let mut p = start;
     let mut turns: u64 = 0xffff_ffff_ffff_ffff;
     while 0 < turns {
-        if !p.going {
+        let standing = p.standing;
+        let Standing::Going = standing else {
             return p;
-        }
-        p = take_next(p, name, lines, pieces);
+        };
+        p = take_piece(p, name, lines, pieces);
         turns -= 1;
     }
     p
 }
 
-// What is kept with the row of line i. A row that is refused is told in its place.
+// What is kept with the line `refused N block I`.
+fn with_refused(out: Output, number: u8, block: u64, rows: &mut [u8]) -> Output {
+    let used = least(out.used, rows.len());
+    match write_refused(number, block, &mut rows[used..]) {
+        Written::Length(n) => out.with_kept(n, rows),
+        _ => out,
+    }
+}
+
+// What is kept with the row of line i. A row that is refused is told in its place. (A row has at most 1,228 bytes, `row-fits` of the crate `table`: the head
+// line and the rows of 16 sources fit.)
 fn with_row(
-    kept: Output,
+    out: Output,
     run: Run,
     i: usize,
     block: u64,
-    name: &[u8],
     lines: &[u64],
     zeroth: &[u8],
     rows: &mut [u8],
 ) -> Output {
-    let out = kept.with_room(ROW, name, rows);
-    let used = out.used;
+    let used = least(out.used, rows.len());
     match run.row(i, lines, zeroth, &mut rows[used..]) {
         Written::Length(n) => out.with_kept(n, rows),
-        Written::Room(_) => out.with_refused(ROOM, block, name, rows),
-        Written::Refused(refusal) => out.with_refused(refusal.number(), block, name, rows),
+        Written::Room(_) => with_refused(out, ROOM, block, rows),
+        Written::Refused(refusal) => with_refused(out, refusal.number(), block, rows),
     }
 }
 
@@ -118,7 +153,6 @@ fn with_rows(
     head: Output,
     run: Run,
     block: u64,
-    name: &[u8],
     lines: &[u64],
     zeroth: &[u8],
     rows: &mut [u8],
@@ -126,16 +160,15 @@ fn with_rows(
     let mut out = head;
     let mut i: usize = 0;
     while i < run.held {
-        out = with_row(out, run, i, block, name, lines, zeroth, rows);
+        out = with_row(out, run, i, block, lines, zeroth, rows);
         i += 1;
     }
     out
 }
 
-// Takes the blocks behind block 0: what is then kept are the rows, or the line of the refused block.
+// Takes the blocks after block 0: what is then kept are the rows, or the line of the refused block.
 fn count_rest(
-    run: Run,
-    input: Input,
+    start: Progress,
     head: Output,
     name: &[u8],
     zeroth: &[u8],
@@ -144,22 +177,15 @@ fn count_rest(
 ) -> Output {
     let mut words = [0u64; Run::WORDS];
     let lines: &mut [u64] = &mut words;
-    let start = Progress {
-        run,
-        block: 1,
-        input,
-        going: true,
-        ended: Ended::Whole,
-    };
-    let end = take_rest(start, name, lines, pieces);
-    let ended = end.ended;
-    match ended {
-        Ended::Whole => with_rows(head, end.run, end.block, name, lines, zeroth, rows),
-        Ended::Refused(number) => head.with_refused(number, end.block, name, rows),
+    let end = take_pieces(start, name, lines, pieces);
+    let standing = end.standing;
+    match standing {
+        Standing::Refused(number) => with_refused(head, number, end.block, rows),
+        _ => with_rows(head, end.run, end.block, lines, zeroth, rows),
     }
 }
 
-// Takes block 0, which stays in a buffer of its own, and the blocks behind it.
+// Takes block 0, which stays in a buffer of its own, and the blocks after it.
 fn count_all(
     head: Output,
     name: &[u8],
@@ -167,12 +193,21 @@ fn count_all(
     pieces: &mut [u8],
     rows: &mut [u8],
 ) -> Output {
-    let Next::Block { from, to, rest } = Input::begin(name, zeroth) else {
-        return head.with_refused(Refusal::Incomplete.number(), 0, name, rows);
-    };
-    match Run::start(&zeroth[from..to]) {
-        Begin::Started(run) => count_rest(run, rest, head, name, zeroth, pieces, rows),
-        Begin::Refused(refusal) => head.with_refused(refusal.number(), 0, name, rows),
+    let from = 0;
+    let read = fill(zeroth);
+    let bytes = read.bytes;
+    let ahead = read.ahead;
+    tell_failed(ahead, name);
+    match Run::start(&zeroth[from..bytes]) {
+        Begin::Started(run) => {
+            let first = Progress {
+                run,
+                block: 1,
+                standing: Standing::Going,
+            };
+            count_rest(after_piece(first, ahead), head, name, zeroth, pieces, rows)
+        }
+        Begin::Refused(refusal) => with_refused(head, refusal.number(), 0, rows),
     }
 }
 
@@ -190,7 +225,7 @@ fn main() {
         return;
     }
     let mut zeroth = [0u8; BLOCK];
-    let mut pieces = io::large_buffer();
+    let mut pieces = [0u8; PIECE];
     let mut rows = io::large_buffer();
     convert_all(b"ecnstreams", &mut zeroth, &mut pieces, &mut rows);
 }

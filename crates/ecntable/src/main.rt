@@ -1,165 +1,199 @@
-// ecntable reads a trace on standard input and prints its table (document 01, "Table"). The crate `convert` says what each block does, and
-// `shell` moves the bytes.
-use answers::ROOM;
-use answers::Refusal;
-use answers::Written;
-use convert::Begin;
-use convert::Run;
-use convert::Step;
+// ecntable reads a trace on standard input and prints its table (document 01, "Table"). All that is printed is what the crate `convert` gives; this program
+// reads, calls, prints what was given, and goes on or ends. The programs over a trace have this text in common, but for names.
+use convert::pieces::Progress;
 use format::block::BLOCK;
+use libc::STDERR_FILENO;
 use libc::STDOUT_FILENO;
+use shell::clipped::least;
 use shell::failures::has_arguments;
+use shell::failures::tell_reading;
 use shell::printing::Output;
+use shell::reading::Ahead;
 use shell::reading::Input;
-use shell::reading::Next;
-use table::write_head;
+use shell::reading::fill;
+use walk::Ended;
 
-// Rows are printed when less room than this is left behind them. A row takes less: its label at most 1,006 bytes, its ten numbers at most 20
-// digits and a sign each, ten commas, CR and LF.
-const ROW: usize = 2048;
+// The longest row (table, `row-fits`).
+const MOST: usize = 1228;
 
-// How far the run has come: the number of the next block, what is read and not taken yet, the lines that are kept, and whether to go on.
-struct Progress {
-    run: Run,
-    block: u64,
+// So many blocks are read at a time.
+const BLOCKS: usize = 256;
+const PIECE: usize = BLOCKS * BLOCK;
+
+// Output is printed in pieces of 256 KiB. Each begins at a multiple of that, where the system has large pieces of the file's pages to work with.
+const PRINTED: usize = 512 * BLOCK;
+
+// So much is kept for output: less than such a piece, and the most that the blocks of one read print. So nothing is printed between a read that fails and its
+// line.
+const KEPT: usize = PRINTED + BLOCKS * MOST;
+
+// More than a line of standard error takes.
+const TOLD: usize = 64;
+
+// How far the program has come: the run; what is read, and from where on it is not taken yet; what is kept for output; and whether to go on.
+struct State {
+    progress: Progress,
     input: Input,
+    from: usize,
     out: Output,
     going: bool,
 }
 
-// The number of the block behind one. (The greatest number stays.)
-fn number_after(block: u64) -> u64 {
-    if block == 0xffff_ffff_ffff_ffff {
-        return block;
-    }
-    block + 1
-}
-
-// The end of the run, with what is then kept.
-fn ended(p: Progress, out: Output) -> Progress {
-    let mut last = p;
-    last.out = out;
-    last.going = false;
-    last
-}
-
-// Takes one block: its row is kept, or the line that it is refused, with which the run ends. So it does where printing has failed.
-fn take_block(
-    p: Progress,
-    rest: Input,
-    name: &[u8],
-    zeroth: &[u8],
-    block: &[u8],
-    lines: &mut [u8],
-) -> Progress {
-    let run = p.run;
-    let kept = p.out;
-    let out = kept.with_room(ROW, name, lines);
-    let used = out.used;
-    match run.block(zeroth, block, &mut lines[used..]) {
-        Step::Taken(next, n) => Progress {
-            run: next,
-            block: number_after(p.block),
-            input: rest,
-            out: out.with_kept(n, lines),
-            going: !out.failed,
-        },
-        Step::Room(_, _) => ended(p, out.with_refused(ROOM, p.block, name, lines)),
-        Step::Refused(refusal, _) => ended(
-            p,
-            out.with_refused(refusal.number(), p.block, name, lines),
-        ),
+// Whether no block was refused.
+fn goes_on(progress: Progress) -> bool {
+    let ended = progress.ended;
+    match ended {
+        Ended::Going => true,
+        Ended::Refused(_) => false,
     }
 }
 
-// Takes the next block. One that could not be read is not a whole block.
-fn take_next(
-    p: Progress,
-    name: &[u8],
-    zeroth: &[u8],
-    pieces: &mut [u8],
-    lines: &mut [u8],
-) -> Progress {
-    let input = p.input;
-    let out = p.out;
-    match input.next(name, pieces) {
-        Next::Block { from, to, rest } => take_block(
-            p,
-            rest,
-            name,
-            zeroth,
-            &pieces[from..to],
-            lines,
-        ),
-        Next::End => ended(p, out),
-        Next::Failed => ended(
-            p,
-            out.with_refused(Refusal::Incomplete.number(), p.block, name, lines),
-        ),
-    }
+// Reads the next piece, or ends where none is left.
+fn read_on(s: State, piece: &mut [u8]) -> State {
+    let mut next = s;
+    let input = s.input;
+    let ahead = input.ahead;
+    let Ahead::More = ahead else {
+        next.going = false;
+        return next;
+    };
+    next.input = fill(piece);
+    next.from = 0;
+    next
 }
 
-// Takes the blocks behind block 0 to the end of the run.
-fn take_rest(
-    start: Progress,
-    name: &[u8],
-    zeroth: &[u8],
-    pieces: &mut [u8],
-    lines: &mut [u8],
-) -> Output {
-    let mut p = start;
+// Prints a piece of output where so much is kept. Where a read has failed it is not: printing could fail too, and put its error in the place of the read's.
+fn print_on(s: State, name: &[u8], lines: &mut [u8]) -> State {
+    let mut next = s;
+    let input = s.input;
+    let out = s.out;
+    if input.has_failed() {
+        return next;
+    }
+    if out.used < PRINTED {
+        return next;
+    }
+    let printed = out.with_printed(PRINTED, name, lines);
+    next.out = printed;
+    if printed.failed {
+        next.going = false;
+    }
+    next
+}
+
+// Takes the blocks that are read.
+fn take_read(s: State, kept: &mut [u8], piece: &[u8], lines: &mut [u8]) -> State {
+    let mut next = s;
+    let before = s.progress;
+    let input = s.input;
+    let out = s.out;
+    let to = least(input.bytes, piece.len());
+    let from = least(s.from, to);
+    let used = least(out.used, lines.len());
+    let taken = before.blocks(kept, &piece[from..to], &mut lines[used..]);
+    let progress = taken.progress;
+    let answer = taken.answer;
+    next.progress = progress;
+    next.from = from + least(taken.bytes, to - from);
+    next.out = out.with_written(answer, lines);
+    next.going = goes_on(progress);
+    next
+}
+
+// Takes blocks that are read, or reads more where less than a block is left.
+fn take_turn(s: State, name: &[u8], kept: &mut [u8], piece: &mut [u8], lines: &mut [u8]) -> State {
+    let input = s.input;
+    let to = least(input.bytes, piece.len());
+    let from = least(s.from, to);
+    if to - from < BLOCK {
+        return read_on(s, piece);
+    }
+    let taken = take_read(s, kept, piece, lines);
+    print_on(taken, name, lines)
+}
+
+// Takes the blocks after block 0 to the end of the run.
+fn take_all(start: State, name: &[u8], kept: &mut [u8], piece: &mut [u8], lines: &mut [u8]) -> State {
+    let mut s = start;
     let mut turns: u64 = 0xffff_ffff_ffff_ffff;
     while 0 < turns {
-        if !p.going {
-            return p.out;
+        if !s.going {
+            return s;
         }
-        p = take_next(p, name, zeroth, pieces, lines);
+        s = take_turn(s, name, kept, piece, lines);
         turns -= 1;
     }
-    p.out
+    s
 }
 
-// Takes block 0, which stays in a buffer of its own, and the blocks behind it.
-fn take_all(
-    out: Output,
-    name: &[u8],
-    zeroth: &mut [u8],
-    pieces: &mut [u8],
-    lines: &mut [u8],
-) -> Output {
-    let Next::Block { from, to, rest } = Input::begin(name, zeroth) else {
-        return out.with_refused(Refusal::Incomplete.number(), 0, name, lines);
-    };
-    match Run::start(&zeroth[from..to]) {
-        Begin::Started(run) => {
-            let start = Progress {
-                run,
-                block: 1,
-                input: rest,
-                out,
-                going: true,
-            };
-            take_rest(start, name, zeroth, pieces, lines)
-        }
-        Begin::Refused(refusal) => out.with_refused(refusal.number(), 0, name, lines),
+// Takes block 0, which stands in a buffer of its own.
+fn begin(zeroth: Input, kept: &[u8], lines: &mut [u8]) -> State {
+    let start = 0;
+    let ahead = zeroth.ahead;
+    let end = least(zeroth.bytes, kept.len());
+    let begun = Progress::begin(&kept[start..end], lines);
+    let progress = begun.progress;
+    let answer = begun.answer;
+    let input = Input { bytes: 0, ahead };
+    let out = Output::new(STDOUT_FILENO).with_written(answer, lines);
+    State {
+        progress,
+        input,
+        from: 0,
+        out,
+        going: goes_on(progress),
     }
 }
 
-// Prints the head line and the rows.
-fn convert_all(name: &[u8], zeroth: &mut [u8], pieces: &mut [u8], lines: &mut [u8]) {
-    let Written::Length(n) = write_head(lines) else {
+// Ends the run: prints what the end gives, and tells a failed read before what is kept is printed.
+fn finish(s: State, name: &[u8], piece: &[u8], lines: &mut [u8], told: &mut [u8]) {
+    let progress = s.progress;
+    let input = s.input;
+    let kept = s.out;
+    let to = input.left_end(piece.len());
+    let from = least(s.from, to);
+    let used = least(kept.used, lines.len());
+    let closed = progress.end(&piece[from..to], &mut lines[used..], told);
+    let printed = closed.out;
+    let refused = closed.err;
+    let out = kept.with_written(printed, lines);
+    Output::new(STDERR_FILENO).with_written(refused, told).flushed(name, told);
+    if input.has_failed() {
+        tell_reading(name);
+    }
+    out.flushed(name, lines);
+}
+
+// Takes the blocks after block 0, and ends the run. Nothing follows a write that has failed.
+fn take_rest(start: State, name: &[u8], kept: &mut [u8], piece: &mut [u8], lines: &mut [u8], told: &mut [u8]) {
+    let end = take_all(start, name, kept, piece, lines);
+    let out = end.out;
+    if out.failed {
         return;
-    };
-    let head = Output::new(STDOUT_FILENO).with_kept(n, lines);
-    take_all(head, name, zeroth, pieces, lines).flushed(name, lines);
+    }
+    finish(end, name, piece, lines, told);
+}
+
+// Converts the trace.
+fn convert(name: &[u8], kept: &mut [u8], piece: &mut [u8], lines: &mut [u8], told: &mut [u8]) {
+    let input = fill(kept);
+    let start = begin(input, kept, lines);
+    take_rest(start, name, kept, piece, lines, told);
 }
 
 fn main() {
     if has_arguments(b"usage: ecntable <TRACE >TABLE\n") {
         return;
     }
-    let mut zeroth = [0u8; BLOCK];
-    let mut pieces = io::large_buffer();
-    let mut lines = io::large_buffer();
-    convert_all(b"ecntable", &mut zeroth, &mut pieces, &mut lines);
+    let mut kept = [0u8; BLOCK];
+    let mut piece = [0u8; PIECE];
+    let mut lines = [0u8; KEPT];
+    let mut told = [0u8; TOLD];
+    convert(
+        b"ecntable",
+        &mut kept,
+        &mut piece,
+        &mut lines,
+        &mut told,
+    );
 }

@@ -7,7 +7,12 @@ pub mod Gathered
 pub mod Parting
 pub mod Steps
 pub mod Whole
+pub mod Carrying
 pub mod Calls
+pub mod Fitted
+pub mod PieceCalls
+pub mod Followed
+pub mod Enough
 pub mod Rooms
 pub mod Traces
 pub mod Written

@@ -21,7 +21,7 @@ use Rattle.trace.specs.Contents.{every, isTime, goodRecords}
 use Rattle.trace.specs.Layout.{recordAt, recordBytes, recordsBytes}
 use Rattle.trace.specs.Theorems.{recordsIn, listOf}
 use Rattle.trace.specs.declared.Record.{Record}
-use Rattle.trace.proofs.Octets.{octets-drop}
+use Rattle.numbers.proofs.Octets.{octets-drop}
 use Rattle.trace.proofs.Records.{AllOfShape, of-shape-in, of-shape-times, bytes-records, records-add, good-add}
 use Rattle.trace.proofs.Tallies.{zero-sum}
 use Rattle.forms.specs.Conversions.{allTimes}

@@ -15,13 +15,13 @@ use Rattle.trace.specs.Layout.{arrivalsBlock}
 use Rattle.trace.specs.Reading.{countIn}
 use Rattle.trace.specs.declared.Record.{Record}
 use Rattle.trace.proofs.Accepted.{accepted}
-use Rattle.trace.proofs.Octets.{octets-drop}
+use Rattle.numbers.proofs.Octets.{octets-drop}
 use Rattle.trace.proofs.Theorems.{arrivals-are-written}
 use Rattle.walk.specs.Blocks.{blocksOf, joined}
 use Rattle.walk.specs.Programs.{Printed}
 use Rattle.walk.proofs.Cuts.{Each, blocks-join}
 use Rattle.forms.specs.Packing.{fullBlocks, full, left, lastBlock, packed}
-use Rattle.forms.specs.Conversions.{Next}
+use Rattle.walk.specs.Steps.{Next}
 use Rattle.forms.specs.Theorems.{takenFrom, recordsTaken, FullButLast, SameBytes}
 use Rattle.forms.proofs.Packed.{most-some, packed-parts, packed-short}
 use Rattle.forms.proofs.Whole.{Brings, brings, many-brought, few-brought, converted-started}
@@ -82,13 +82,13 @@ module _ (form : Form) (ssrc : ℕ) where
   joined-packed (b ∷ []) o g f =
       let rs = g .0 .records in
       append-nil b ∙ block-own b (o .0) (g .0) ∙ sym (packed-one form ssrc rs (own-some b (o .0) (g .0)) (few-brought (its-own b (o .0) (g .0))))
-      ∙ ap (packed (shapeOf form) ssrc) (sym (ap (λ (n : Next). takenFrom n []) (g .0 .goes-on) ∙ append-nil rs))
+      ∙ ap (packed (shapeOf form) ssrc) (sym (ap (λ (n : Next (List Record)). takenFrom n []) (g .0 .goes-on) ∙ append-nil rs))
   joined-packed (b ∷ c ∷ bs) o g f =
       let rs = g .0 .records in
       let more = recordsTaken form ssrc (c ∷ bs) in
       ap₂ (λ (s t : List ℕ). s ++ t) (block-own b (o .0) (g .0)) (joined-packed (c ∷ bs) (o .1) (g .1) (f .1))
       ∙ sym (packed-first (shapeOf form) ssrc rs more (most-some form) (own-many b (o .0) (g .0) ∙ f .0))
-      ∙ ap (λ (n : Next). packed (shapeOf form) ssrc (takenFrom n more)) (sym (g .0 .goes-on))
+      ∙ ap (λ (n : Next (List Record)). packed (shapeOf form) ssrc (takenFrom n more)) (sym (g .0 .goes-on))
 
 pub same-bytes : SameBytes
 same-bytes trace form n ssrc o e h f =

@@ -5,7 +5,6 @@ use mathlib.Core.List.{List, [], _∷_, _++_}
 use mathlib.Core.Option.{none}
 use Prim.Native.Nat.{ℕ, suc, _^_, _≤_, _<_}
 use native.Mathlib.Omega.{arith}
-use borrow.Author.Tests.{eq-eqb}
 use lib.ListN.{length, take, drop, length-append}
 use lib.Seq.{take-at, drop-at}
 use Rattle.answers.specs.Refusals.{numberOf}
@@ -23,22 +22,24 @@ use Rattle.trace.specs.declared.Block.the-variants.{Label}
 use Rattle.trace.specs.declared.Record.{Record}
 use Rattle.trace.proofs.Accepted.{accepted}
 use Rattle.trace.proofs.Layouts.{length-labelBlock}
-use Rattle.trace.proofs.Octets.{octets-take, octets-drop}
+use Rattle.numbers.proofs.Octets.{octets-take, octets-drop}
 use Rattle.trace.proofs.Records.{times, list-append, of-shape-times}
 use Rattle.trace.proofs.Theorems.{label-is-written, label-reads-back}
 use Rattle.table.specs.Lines.{refusedLine}
 use Rattle.walk.specs.Blocks.{cut, blocksOf, joined}
 use Rattle.walk.specs.Programs.{Printed}
+use Rattle.walk.specs.Steps.{Next, goes, refuses}
 use Rattle.walk.proofs.Cuts.{Each, cut-joined, joined-long}
 use Rattle.forms.specs.Packing.{full, packed}
-use Rattle.forms.specs.Conversions.{allTimes, Next, goes, refuses, timed, nextOf}
+use Rattle.forms.specs.Conversions.{allTimes, nextOf}
 use Rattle.forms.specs.Converted.{Kept, converted}
 use Rattle.forms.specs.Theorems.{takenFrom, recordsTaken, Convertible, ConvertsWhole, Reads, ConvertedReads, Returns, SameRecords}
 use Rattle.forms.proofs.Gathered.{Fine, fine-append, fine-other, every-append}
+use Rattle.forms.proofs.Steps.{next-goes}
 use Rattle.forms.proofs.Whole.{brings, fine-brought, next, rest, rest-none, rest-ends, rest-goes, converted-started, packs}
 use Rattle.forms.proofs.Calls.{octets-blocks}
 use Rattle.forms.proofs.Written.{octets-packed}
-use Rattle.forms.proofs.Traces.{same-self, blocksIn, packed-joined, Goes, Brought, packed-brought}
+use Rattle.forms.proofs.Traces.{blocksIn, packed-joined, Goes, Brought, packed-brought}
 
 -- ---- a run that tells of no refused block has none
 
@@ -50,7 +51,7 @@ pub going-on : (i : ℕ) (bs : List (List ℕ)) (k : Kept) → rest i bs k .err 
 going-on i [] k h = tt
 going-on i (b ∷ bs) k h = go (nextOf (k .form) (k .ssrc) b) refl (λ records. going-on (suc i) bs (next k records))
   where
-    go : (n : Next) → nextOf (k .form) (k .ssrc) b ≡ n → ((records : List Record) → rest (suc i) bs (next k records) .err ≡ [] → Each (Goes (k .form) (k .ssrc)) bs)
+    go : (n : Next (List Record)) → nextOf (k .form) (k .ssrc) b ≡ n → ((records : List Record) → rest (suc i) bs (next k records) .err ≡ [] → Each (Goes (k .form) (k .ssrc)) bs)
         → Each (Goes (k .form) (k .ssrc)) (b ∷ bs)
     go (refuses refusal) e later = absurd (line-some (numberOf refusal) i (sym (ap (λ (p : Printed). p .err) (rest-ends i b bs k e)) ∙ h))
     go (goes records) e later = (record { records = records; goes-on = e }, later records (sym (ap (λ (p : Printed). p .err) (rest-goes i b bs k e)) ∙ h))
@@ -61,10 +62,8 @@ nothing-told i (b ∷ bs) k g = ap (λ (p : Printed). p .err) (rest-goes i b bs 
 
 -- blocks that hold what the other form has bytes for go on
 can-go : (form : Form) (ssrc : ℕ) (bs : List (List ℕ)) → Convertible form ssrc bs → Each (Goes form ssrc) bs
-unfolding nextOf timed
 can-go form ssrc [] c = tt
-can-go form ssrc (b ∷ bs) c =
-    (record { records = recordsIn (shapeOf form) (c .0) (bodyOf b); goes-on = rw (c .1, same-self form, eq-eqb ssrc ssrc refl, c .2) }, can-go form ssrc bs (c .3))
+can-go form ssrc (b ∷ bs) c = (record { records = recordsIn (shapeOf form) (c .0) (bodyOf b); goes-on = next-goes form ssrc b (c .1) (c .2) }, can-go form ssrc bs (c .3))
 
 pub converts-whole : ConvertsWhole
 converts-whole trace form n ssrc label c =
@@ -93,7 +92,7 @@ module _ (form : Form) (ssrc : ℕ) where
   taken-fine [] o = (fine-none, times-none)
   taken-fine (b ∷ bs) o = go (nextOf form ssrc b) refl (taken-fine bs (o .1))
     where
-      go : (n : Next) → nextOf form ssrc b ≡ n → Fine own (recordsTaken form ssrc bs) × (allTimes other (recordsTaken form ssrc bs) ≡ true)
+      go : (n : Next (List Record)) → nextOf form ssrc b ≡ n → Fine own (recordsTaken form ssrc bs) × (allTimes other (recordsTaken form ssrc bs) ≡ true)
           → Fine own (takenFrom n (recordsTaken form ssrc bs)) × (allTimes other (takenFrom n (recordsTaken form ssrc bs)) ≡ true)
       go (refuses refusal) e later = (fine-none, times-none)
       go (goes records) e later =

@@ -1,48 +1,47 @@
 -- What a block does, case by case. Assumes nothing.
 use mathlib.Core.Path.{_≡_, refl, sym, ap, ap₂, _∙_}
-use mathlib.Core.Bool.{true, false, _&&_, false≢true}
-use mathlib.Core.Logic.{⊎-elim}
+use mathlib.Core.Bool.{true, false}
 use mathlib.Core.List.{List, [], _∷_, _++_}
 use mathlib.Core.Option.{none}
 use Prim.Native.Nat.{ℕ, _+_, _-_, _*_, _/_, _≤_, _<_}
 use native.Mathlib.Omega.{arith}
-use denote.Enum.Declared.{tagOf}
-use types.Run.{OneOf}
-use lib.Dec.{eqb}
 use lib.ListN.{length, take, drop, length-drop}
 use lib.Seq.{length-take-le}
 use Rattle.answers.specs.Writers.{written, stored, Wrote}
 use Rattle.answers.specs.declared.Refusal.{Refusal}
-use Rattle.answers.specs.declared.Refusal.the-variants.{Malformed, Contents, FormTwo}
+use Rattle.answers.specs.declared.Refusal.the-variants.{Malformed, FormTwo}
 use Rattle.answers.specs.declared.Written.{Written}
 use Rattle.answers.specs.declared.Written.the-variants as answer
-use Rattle.answers.proofs.Conditions.{and-left}
 use Rattle.answers.proofs.Stores.{wrote-refused, wrote-short, wrote-all, wrote-same}
 use Rattle.numbers.proofs.BigEndian.{Octets}
 use Rattle.format.specs.Blocks.{blockBytes, bodyAt, bodyBytes}
-use Rattle.format.specs.Forms.{shapeOf, width, sameForm, otherForm}
+use Rattle.format.specs.Forms.{shapeOf, width, otherForm}
 use Rattle.format.specs.declared.Form.{Form}
 use Rattle.format.specs.declared.Form.the-variants.{One, Two}
 use Rattle.format.proofs.Fits.{fits}
 use Rattle.trace.specs.Accepted.{Holds}
 use Rattle.trace.specs.Layout.{labelBlock, arrivalsBlock, recordsBlock, bodyOf}
-use Rattle.trace.specs.Reading.{blockOf, faultOf}
+use Rattle.trace.specs.Reading.{blockOf}
+use Rattle.trace.specs.Places.{zerothOf, laterOf}
 use Rattle.trace.specs.Theorems.{recordsIn}
 use Rattle.trace.specs.Writing.{labelFault, bodyFault}
-use Rattle.trace.specs.declared.Block.{Block}
 use Rattle.trace.specs.declared.Block.the-variants as read
+use Rattle.trace.specs.declared.Zeroth.{Zeroth}
+use Rattle.trace.specs.declared.Zeroth.the-variants as zeroth
+use Rattle.trace.specs.declared.Later.the-variants as later
 use Rattle.trace.specs.declared.Record.{Record}
 use Rattle.trace.proofs.Accepted.{accepted}
-use Rattle.trace.proofs.Block.{the-type}
 use Rattle.trace.proofs.Decisions.{label-taken}
+use Rattle.trace.proofs.Placed.{zeroth-by, own-later}
 use Rattle.trace.proofs.Records.{length-recordsIn}
+use Rattle.walk.specs.Steps.{Next, goes, refuses}
+use Rattle.walk.proofs.Putting.{step-refuses}
 use Rattle.forms.specs.Packing.{fullBlocks, full, left, lastBlock}
-use Rattle.forms.specs.Conversions.{toShape, beginFault, beginBytes, beginBy, Began, allTimes, Next, goes, refuses, timed, nextBy, nextOf, heldIn, sound, callNext, holding, stepBy, Stepped, closeFault, closeBytes}
+use Rattle.forms.specs.Conversions.{toShape, beginFault, beginBytes, beginBy, Began, allTimes, timed, nextBy, nextOf, heldIn, sound, callNext, bytesIn, carries, carriedBy, holding, TakesBlock, closeFault, closeBytes}
 use Rattle.forms.specs.Steps.{Packable, Parted}
 use Rattle.forms.specs.declared.Conversion.{Conversion}
 use Rattle.forms.specs.declared.Begin.{Begin}
 use Rattle.forms.specs.declared.Begin.the-variants as begin
-use Rattle.forms.specs.declared.Step.the-variants as step
 use Rattle.forms.proofs.Held.{is-sound, held-fits}
 use Rattle.forms.proofs.Packed.{full-fits, length-left, length-full}
 use Rattle.forms.proofs.Blocks.{block-is, no-fault}
@@ -61,9 +60,9 @@ few-records {c} {part} {body} {n} ready = few-by (c .form) (c .held) n (is-sound
 -- ---- what the call gives
 
 module _ (c : Conversion) (part old : List ℕ) where
-  pub step-refuses : {next : Next} {refusal : Refusal} → next ≡ refuses refusal → Stepped c part next old (step.Refused refusal c) part old
-  unfolding written stored
-  step-refuses e = record { answers = rw e; keeps = rw e; stores = rw e }
+  pub takes-refuses : {next : Next (List Record)} {refusal : Refusal} → next ≡ refuses refusal
+      → TakesBlock c part next old (record { answer = answer.Refused refusal; conversion = c }) part old
+  takes-refuses {next} e = step-refuses (carries c part) (bytesIn c part next) old (ap (carriedBy c part) e) refl refl
 
 module _ {c : Conversion} {part body : List ℕ} {n : ℕ} (ready : Packable c part n body) (old : List ℕ) {to : Form} {most : ℕ}
     (et : to ≡ otherForm (c .form)) (em : most ≡ shapeOf to .most) where
@@ -88,10 +87,9 @@ module _ {c : Conversion} {part body : List ℕ} {n : ℕ} (ready : Packable c p
       ap (λ (k : ℕ). k * blockBytes) many
       ∙ sym (length-full (toShape c) (c .ssrc) (fits (otherForm (c .form)) .room) (full (toShape c) records) records (full-fits (toShape c) records))
 
-  pub step-short : length old < (c .held + n) / most * blockBytes → Stepped c part (goes more) old (step.Room ((c .held + n) / most * blockBytes) c) part old
-  step-short h =
-      let w = wrote-short {fault = none} blocks old refl (omega (arith, size)) size in
-      record { answers = ap (stepBy c part (goes more)) (w .answers); keeps = refl; stores = w .stores }
+  pub step-short : length old < (c .held + n) / most * blockBytes
+      → TakesBlock c part (goes more) old (record { answer = answer.Room ((c .held + n) / most * blockBytes); conversion = c }) part old
+  step-short h = record { wrote = wrote-short {fault = none} blocks old refl (omega (arith, size)) size; after = refl }
 
   next-is : record { form = c .form; ssrc = c .ssrc; held = c .held + n - (c .held + n) / most * most } ≡ holding c records
   unfolding holding
@@ -101,53 +99,37 @@ module _ {c : Conversion} {part body : List ℕ} {n : ℕ} (ready : Packable c p
       λ i. record { form = c .form; ssrc = c .ssrc; held = held i }
 
   pub step-fits : {kept out : List ℕ} → (c .held + n) / most * blockBytes ≤ length old → Parted c records part old kept out
-      → Stepped c part (goes more) old
-      (step.Taken (record { form = c .form; ssrc = c .ssrc; held = c .held + n - (c .held + n) / most * most }) ((c .held + n) / most * blockBytes)) kept out
-  step-fits h p =
-      let w = wrote-all {fault = none} blocks old refl (omega (arith, size)) size (p .stores) in
-      record {
-        answers = ap (λ (next : Conversion). step.Taken next ((c .held + n) / most * blockBytes)) next-is ∙ ap (stepBy c part (goes more)) (w .answers);
-        keeps = p .keeps;
-        stores = w .stores;
-      }
+      → TakesBlock c part (goes more) old
+      (record { answer = answer.Length ((c .held + n) / most * blockBytes); conversion = record { form = c .form; ssrc = c .ssrc; held = c .held + n - (c .held + n) / most * most } }) kept out
+  step-fits h p = record { wrote = wrote-all {fault = none} blocks old refl (omega (arith, size)) size (p .stores); after = λ i. carries (next-is i) (p .keeps i) }
 
 -- ---- block 0
 
-module _ (zeroth old : List ℕ) where
-  pub begin-other : (r : Block) → blockOf zeroth ≡ r → OneOf (1 ∷ 2 ∷ []) (tagOf the-type r) → Began zeroth old (begin.Refused (faultOf r)) old
-  unfolding written stored
-  begin-other r e h = record {
-    answers = go r h ∙ ap (λ (r : Block). beginBy r (written (beginFault r) (beginBytes zeroth r) old)) (sym e);
-    stores = out r h ∙ ap (λ (r : Block). stored (beginFault r) (beginBytes zeroth r) old) (sym e);
+module _ (b old : List ℕ) where
+  -- by what it is
+  began-by : {z : Zeroth} {r : Begin} {w : Written} {out : List ℕ} → zerothOf b ≡ z → Wrote (beginFault z) (beginBytes b z) old w out → beginBy z w ≡ r → Began b old r out
+  began-by {z} e wrote er = record {
+    answers = sym er ∙ ap (beginBy z) (wrote .answers) ∙ ap (λ (z : Zeroth). beginBy z (written (beginFault z) (beginBytes b z) old)) (sym e);
+    stores = wrote .stores ∙ ap (λ (z : Zeroth). stored (beginFault z) (beginBytes b z) old) (sym e);
   }
-    where
-      go : (r : Block) → OneOf (1 ∷ 2 ∷ []) (tagOf the-type r) → begin.Refused (faultOf r) ≡ beginBy r (written (beginFault r) (beginBytes zeroth r) old)
-      go (read.Label form n ssrc) h = ⊎-elim (λ z. absurd (omega arith)) (λ z. absurd (omega arith)) h
-      go (read.Arrivals form n ssrc) h = refl
-      go (read.Refused refusal) h = refl
 
-      out : (r : Block) → OneOf (1 ∷ 2 ∷ []) (tagOf the-type r) → old ≡ stored (beginFault r) (beginBytes zeroth r) old
-      out (read.Label form n ssrc) h = ⊎-elim (λ z. absurd (omega arith)) (λ z. absurd (omega arith)) h
-      out (read.Arrivals form n ssrc) h = refl
-      out (read.Refused refusal) h = refl
+  pub begin-refused : {refusal : Refusal} → zerothOf b ≡ zeroth.Refused refusal → Began b old (begin.Refused refusal) old
+  begin-refused e = began-by e (wrote-refused [] old refl) refl
 
-  module _ {form : Form} {n ssrc : ℕ} (e : blockOf zeroth ≡ read.Label form n ssrc) where
+  module _ {form : Form} {n ssrc : ℕ} (e : blockOf b ≡ read.Label form n ssrc) where
     -- the label lies in the block
-    pub label-fits : bodyAt + n ≤ length zeroth
-    label-fits = let block = accepted zeroth e .block in omega (arith, block .whole, block .room)
+    pub label-fits : bodyAt + n ≤ length b
+    label-fits = let block = accepted b e .block in omega (arith, block .whole, block .room)
 
     -- it is written in the other form
     pub begin-label : {to : Form} {k : ℕ} {w : Written} {r : Begin} {out : List ℕ} → to ≡ otherForm form → k ≡ n
-        → Wrote (labelFault (take k (drop bodyAt zeroth))) (labelBlock (shapeOf to) (take k (drop bodyAt zeroth)) ssrc) old w out
-        → beginBy (read.Label form n ssrc) w ≡ r → Began zeroth old r out
+        → Wrote (labelFault (take k (drop bodyAt b))) (labelBlock (shapeOf to) (take k (drop bodyAt b)) ssrc) old w out
+        → beginBy (zeroth.Label form n ssrc) w ≡ r → Began b old r out
     begin-label {to} {k} et ek w er =
-        let a = accepted zeroth e in
-        let label : take k (drop bodyAt zeroth) ≡ take n (bodyOf zeroth) = ap (λ (m : ℕ). take m (drop bodyAt zeroth)) ek ∙ sym (a .block .place) in
-        let wrote = wrote-same (ap labelFault label ∙ label-taken (take n (bodyOf zeroth)) (a .label)) (ap₂ (λ (f : Form) (l : List ℕ). labelBlock (shapeOf f) l ssrc) et label) w in
-        record {
-          answers = sym er ∙ ap (beginBy (read.Label form n ssrc)) (wrote .answers) ∙ ap (λ (r : Block). beginBy r (written (beginFault r) (beginBytes zeroth r) old)) (sym e);
-          stores = wrote .stores ∙ ap (λ (r : Block). stored (beginFault r) (beginBytes zeroth r) old) (sym e);
-        }
+        let a = accepted b e in
+        let label : take k (drop bodyAt b) ≡ take n (bodyOf b) = ap (λ (m : ℕ). take m (drop bodyAt b)) ek ∙ sym (a .block .place) in
+        let wrote = wrote-same (ap labelFault label ∙ label-taken (take n (bodyOf b)) (a .label)) (ap₂ (λ (f : Form) (l : List ℕ). labelBlock (shapeOf f) l ssrc) et label) w in
+        began-by (zeroth-by b e) wrote er
 
 -- ---- a later block
 
@@ -155,60 +137,40 @@ module _ (zeroth old : List ℕ) where
 pub body-holds : {b : List ℕ} {kind count ssrc used : ℕ} → Holds b kind count ssrc used → used ≤ length (bodyOf b)
 body-holds {b} {kind} {count} {ssrc} {used} h = omega (arith, length-take-le bodyBytes (drop bodyAt b) (rw length-drop (omega (arith, h .whole))), h .room)
 
-pub same-form : (a b : Form) → sameForm a b ≡ true → a ≡ b
-same-form One One e = refl
-same-form One Two e = absurd (false≢true e)
-same-form Two One e = absurd (false≢true e)
-same-form Two Two e = refl
-
 module _ (c : Conversion) (part b : List ℕ) where
   pub call-malformed : sound c part ≡ false → callNext c part b ≡ refuses Malformed
   unfolding callNext
   call-malformed e = rw e
 
-  module _ (g : sound c part ≡ true) where
-    call-by : {r : Block} {next : Next} → blockOf b ≡ r → nextBy (c .form) (c .ssrc) b r ≡ next → callNext c part b ≡ next
-    unfolding callNext nextOf
-    call-by e n = rw (g, e) n
+  pub call-sound : sound c part ≡ true → callNext c part b ≡ nextOf (c .form) (c .ssrc) b
+  unfolding callNext
+  call-sound e = rw e
 
-    pub call-other : (r : Block) → blockOf b ≡ r → OneOf (0 ∷ 2 ∷ []) (tagOf the-type r) → callNext c part b ≡ refuses (faultOf r)
-    call-other r e h = call-by e (go r h)
-      where
-        go : (r : Block) → OneOf (0 ∷ 2 ∷ []) (tagOf the-type r) → nextBy (c .form) (c .ssrc) b r ≡ refuses (faultOf r)
-        go (read.Label form n ssrc) h = refl
-        go (read.Arrivals form n ssrc) h = ⊎-elim (λ z. absurd (omega arith)) (λ z. absurd (omega arith)) h
-        go (read.Refused refusal) h = refl
+module _ (form : Form) (ssrc : ℕ) (b : List ℕ) where
+  pub next-refused : {refusal : Refusal} → laterOf form ssrc b ≡ later.Refused refusal → nextOf form ssrc b ≡ refuses refusal
+  unfolding nextOf
+  next-refused e = ap (nextBy form b) e
 
-    module _ {form : Form} {n ssrc : ℕ} (e : blockOf b ≡ read.Arrivals form n ssrc) where
-      -- another form or SSRC
-      pub call-foreign : (sameForm form (c .form) && eqb ssrc (c .ssrc)) ≡ false → callNext c part b ≡ refuses Contents
-      call-foreign h = call-by e (rw h)
+  module _ {n : ℕ} (e : blockOf b ≡ read.Arrivals form n ssrc) where
+    next-timed : nextOf form ssrc b ≡ timed (shapeOf (otherForm form)) (recordsIn (shapeOf form) n (bodyOf b))
+    unfolding nextOf
+    next-timed = ap (nextBy form b) (own-later form ssrc b e)
 
-      module _ (own : (sameForm form (c .form) && eqb ssrc (c .ssrc)) ≡ true) where
-        pub form-is : form ≡ c .form
-        form-is = same-form form (c .form) (and-left (sameForm form (c .form)) (eqb ssrc (c .ssrc)) own)
+    -- a time that the other form has no bytes for
+    pub next-long : allTimes (shapeOf (otherForm form)) (recordsIn (shapeOf form) n (bodyOf b)) ≡ false → nextOf form ssrc b ≡ refuses FormTwo
+    unfolding timed
+    next-long h = next-timed ∙ rw h
 
-        -- a time that the other form has no bytes for
-        pub call-long : allTimes (shapeOf (otherForm form)) (recordsIn (shapeOf form) n (bodyOf b)) ≡ false → callNext c part b ≡ refuses FormTwo
-        unfolding timed
-        call-long h = call-by e (rw (own, rw form-is at h))
+    pub next-goes : allTimes (shapeOf (otherForm form)) (recordsIn (shapeOf form) n (bodyOf b)) ≡ true → nextOf form ssrc b ≡ goes (recordsIn (shapeOf form) n (bodyOf b))
+    unfolding timed
+    next-goes h = next-timed ∙ rw h
 
-        pub call-goes : allTimes (shapeOf (otherForm form)) (recordsIn (shapeOf form) n (bodyOf b)) ≡ true
-            → callNext c part b ≡ goes (recordsIn (shapeOf (c .form)) n (bodyOf b))
-        unfolding timed
-        call-goes h = call-by e (rw (own, rw form-is at h))
-
-        -- what the packing asks
-        pub call-ready : allTimes (shapeOf (otherForm form)) (recordsIn (shapeOf form) n (bodyOf b)) ≡ true → Packable c part n (bodyOf b)
-        call-ready h =
-            let a = accepted b e in
-            record {
-              whole = g;
-              few = rw form-is at (a .most);
-              long = rw form-is at (body-holds (a .block));
-              good = rw form-is at (a .records);
-              timed = rw form-is at h;
-            }
+-- what the packing asks
+pub next-ready : {c : Conversion} {part : List ℕ} (b : List ℕ) {n : ℕ} → sound c part ≡ true → blockOf b ≡ read.Arrivals (c .form) n (c .ssrc)
+    → allTimes (toShape c) (recordsIn (shapeOf (c .form)) n (bodyOf b)) ≡ true → Packable c part n (bodyOf b)
+next-ready b g e h =
+    let a = accepted b e in
+    record { whole = g; few = a .most; long = body-holds (a .block); good = a .records; timed = h }
 
 -- ---- the end
 

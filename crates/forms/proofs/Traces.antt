@@ -6,13 +6,11 @@ use mathlib.Core.Option.{none}
 use Prim.Native.Nat.{ℕ, zero, suc, _+_, _-_, _*_, _^_, _≤_, _<_}
 use native.Mathlib.Nat.{zero-mul, suc-mul, add-comm}
 use native.Mathlib.Omega.{arith}
-use borrow.Author.Tests.{eq-eqb}
 use lib.ListN.{length, take, drop, length-drop, take-append-drop}
 use lib.Seq.{take-at, drop-at, take-all, drop-drop, length-take-le}
 use Rattle.format.specs.Blocks.{blockBytes, bodyBytes}
-use Rattle.format.specs.Forms.{Shape, shapeOf, width, sameForm, otherForm}
+use Rattle.format.specs.Forms.{Shape, shapeOf, width, otherForm}
 use Rattle.format.specs.declared.Form.{Form}
-use Rattle.format.specs.declared.Form.the-variants.{One, Two}
 use Rattle.format.proofs.Fits.{fits, records-fit}
 use Rattle.trace.specs.Contents.{isTime, goodRecords}
 use Rattle.trace.specs.Layout.{recordsBytes, header, filled, checked, arrivalsBlock, bodyOf}
@@ -25,12 +23,14 @@ use Rattle.trace.proofs.Layouts.{length-records, length-header, length-filled, 
 use Rattle.trace.proofs.Records.{AllOfShape, length-list, records-bytes, good-bytes, octets-records, body-records}
 use Rattle.trace.proofs.Theorems.{arrivals-read-back}
 use Rattle.walk.specs.Blocks.{joined}
+use Rattle.walk.specs.Steps.{Next, goes}
 use Rattle.walk.proofs.Cuts.{Each}
 use Rattle.forms.specs.Packing.{fullBlocks, full, lastBlock, packed}
-use Rattle.forms.specs.Conversions.{allTimes, Next, goes, timed, nextOf}
+use Rattle.forms.specs.Conversions.{allTimes, nextOf}
 use Rattle.forms.specs.Theorems.{takenFrom, recordsTaken}
 use Rattle.forms.proofs.Packed.{most-some, full-fits, length-left, left-short}
 use Rattle.forms.proofs.Blocks.{no-fault}
+use Rattle.forms.proofs.Steps.{next-goes}
 use Rattle.forms.proofs.Gathered.{Fine, every-take, every-drop, fine-take, fine-drop}
 
 -- ---- a block of records brings them
@@ -45,10 +45,6 @@ unfolding listOf
 numbers-below shape [] h i = omega arith
 numbers-below shape (r ∷ rs) h zero = h .0 .number
 numbers-below shape (r ∷ rs) h (suc i) = numbers-below shape rs (h .1) i
-
-pub same-self : (form : Form) → sameForm form form ≡ true
-same-self One = refl
-same-self Two = refl
 
 module _ (form : Form) (rs : List Record) (fine : Fine (shapeOf form) rs) (some : 1 ≤ length rs) (few : length rs ≤ shapeOf form .most) where
   abbrev shape : Shape
@@ -85,8 +81,7 @@ module _ (form : Form) (rs : List Record) (fine : Fine (shapeOf form) rs) (some 
     records-read = ap (recordsIn shape (length rs)) body-is ∙ records-bytes shape rs _ (fine .shaped)
 
     pub next-is : allTimes (shapeOf (otherForm form)) rs ≡ true → nextOf form ssrc (arrivalsBlock shape rs ssrc) ≡ goes rs
-    unfolding nextOf timed
-    next-is h = rw (block-reads, same-self form, eq-eqb ssrc ssrc refl, records-read, h)
+    next-is h = let its = records-read in next-goes form ssrc (arrivalsBlock shape rs ssrc) block-reads (rw its h) ∙ ap goes its
 
 -- ---- the blocks of a packing
 
@@ -147,7 +142,7 @@ module _ (form : Form) (ssrc : ℕ) (small : ssrc < 2 ^ 32) where
       record {
         whole = (length-arrivalsBlock own rs ssrc (records-fit (fits form) few), later .whole);
         going = (record { records = rs; goes-on = goes-on }, later .going);
-        bring = ap (λ (n : Next). takenFrom n (recordsTaken form ssrc bs)) goes-on ∙ ap (λ (l : List Record). rs ++ l) (later .bring);
+        bring = ap (λ (n : Next (List Record)). takenFrom n (recordsTaken form ssrc bs)) goes-on ∙ ap (λ (l : List Record). rs ++ l) (later .bring);
       }
 
   none-brought : Brought form ssrc [] []

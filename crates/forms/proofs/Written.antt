@@ -10,7 +10,7 @@ use Rattle.format.specs.Forms.{Shape}
 use Rattle.trace.specs.Checksum.{words, onesSum}
 use Rattle.trace.specs.Layout.{recordsBytes, header, filled, checked, arrivalsBlock}
 use Rattle.trace.specs.declared.Record.{Record}
-use Rattle.trace.proofs.Octets.{octets-nil, octets-append, octets-bytes, octets-zeros}
+use Rattle.numbers.proofs.Octets.{octets-nil, octets-append, octets-bytes, octets-zeros}
 use Rattle.trace.proofs.Records.{octets-records}
 use Rattle.forms.specs.Packing.{fullBlocks, full, left, lastBlock, packed}
 use Rattle.forms.proofs.Gathered.{Fine, fine-take, fine-drop}

@@ -1,34 +1,36 @@
 -- Request L10: what each call does with a block. `part` is the lent buffer that holds the records of a block that is not full yet, as its body has them.
 use mathlib.Core.Path.{_≡_}
 use Prim.Native.Nat.{ℕ}
-use mathlib.Core.Bool.{Bool, cond, _&&_}
+use mathlib.Core.Bool.{Bool, cond}
 use mathlib.Core.List.{List, [], _∷_, _++_}
 use mathlib.Core.Option.{Option, none, some}
-use lib.Dec.{eqb, leb, ltb}
+use lib.Dec.{leb, ltb}
 use lib.ListN.{length, take}
 use lib.Seq.{sets}
 use Rattle.answers.specs.Conditions.{all}
 use Rattle.answers.specs.Writers.{written, stored}
 use Rattle.answers.specs.declared.Refusal.{Refusal}
-use Rattle.answers.specs.declared.Refusal.the-variants.{Malformed, Contents, FormTwo}
+use Rattle.answers.specs.declared.Refusal.the-variants.{Malformed, FormTwo}
 use Rattle.answers.specs.declared.Written.{Written}
 use Rattle.answers.specs.declared.Written.the-variants as answer
 use Rattle.format.specs.Blocks.{bodyBytes}
-use Rattle.format.specs.Forms.{Shape, shapeOf, sameForm, otherForm}
+use Rattle.format.specs.Forms.{Shape, shapeOf, otherForm}
 use Rattle.format.specs.declared.Form.{Form}
 use Rattle.trace.specs.Layout.{recordsBytes, labelBlock, bodyOf}
 use Rattle.trace.specs.Contents.{every, isTime, goodRecords}
-use Rattle.trace.specs.Reading.{blockOf}
+use Rattle.trace.specs.Places.{zerothOf, laterOf}
 use Rattle.trace.specs.Theorems.{recordsIn, listOf}
-use Rattle.trace.specs.declared.Block.{Block}
-use Rattle.trace.specs.declared.Block.the-variants as read
+use Rattle.trace.specs.declared.Zeroth.{Zeroth}
+use Rattle.trace.specs.declared.Zeroth.the-variants as zeroth
+use Rattle.trace.specs.declared.Later.{Later}
+use Rattle.trace.specs.declared.Later.the-variants as later
 use Rattle.trace.specs.declared.Record.{Record}
+use Rattle.walk.specs.Steps.{Next, goes, refuses, faultIn, stateAfter, Stepped}
 use Rattle.forms.specs.Packing.{fullBlocks, full, left, lastBlock}
 use Rattle.forms.specs.declared.Conversion.{Conversion}
 use Rattle.forms.specs.declared.Begin.{Begin}
 use Rattle.forms.specs.declared.Begin.the-variants as begin
 use Rattle.forms.specs.declared.Step.{Step}
-use Rattle.forms.specs.declared.Step.the-variants as step
 
 -- the shape of the form that is written
 abbrev pub toShape : Conversion → Shape
@@ -36,38 +38,34 @@ toShape c = shapeOf (otherForm (c .form))
 
 -- ---- block 0: a label, written in the other form. 1, 13, 14, then 12
 
--- 14 for arrivals
-abbrev pub beginFault : Block → Option Refusal
-beginFault (read.Label form n ssrc) = none
-beginFault (read.Arrivals form n ssrc) = some Contents
-beginFault (read.Refused refusal) = some refusal
+abbrev pub beginFault : Zeroth → Option Refusal
+beginFault (zeroth.Label form n ssrc) = none
+beginFault (zeroth.Refused refusal) = some refusal
 
-abbrev pub beginBytes : List ℕ → Block → List ℕ
-beginBytes zeroth (read.Label form n ssrc) = labelBlock (shapeOf (otherForm form)) (take n (bodyOf zeroth)) ssrc
-beginBytes zeroth (read.Arrivals form n ssrc) = []
-beginBytes zeroth (read.Refused refusal) = []
+abbrev pub beginBytes : List ℕ → Zeroth → List ℕ
+beginBytes b (zeroth.Label form n ssrc) = labelBlock (shapeOf (otherForm form)) (take n (bodyOf b)) ssrc
+beginBytes b (zeroth.Refused refusal) = []
 
--- a conversion that holds no record; 14 for arrivals
-abbrev pub startedBy : Block → ℕ → Begin
-startedBy (read.Label form n ssrc) size = begin.Started (record { form = form; ssrc = ssrc; held = 0 }) size
-startedBy (read.Arrivals form n ssrc) size = begin.Refused Contents
-startedBy (read.Refused refusal) size = begin.Refused refusal
+-- a conversion that holds no record
+abbrev pub startedBy : Zeroth → ℕ → Begin
+startedBy (zeroth.Label form n ssrc) size = begin.Started (record { form = form; ssrc = ssrc; held = 0 }) size
+startedBy (zeroth.Refused refusal) size = begin.Refused refusal
 
-abbrev pub beginBy : Block → Written → Begin
+abbrev pub beginBy : Zeroth → Written → Begin
 beginBy block (answer.Length size) = startedBy block size
 beginBy block (answer.Room size) = begin.Room size
 beginBy block (answer.Refused refusal) = begin.Refused refusal
 
 abbrev pub beginOf : List ℕ → List ℕ → Begin
-beginOf zeroth old = beginBy (blockOf zeroth) (written (beginFault (blockOf zeroth)) (beginBytes zeroth (blockOf zeroth)) old)
+beginOf b old = beginBy (zerothOf b) (written (beginFault (zerothOf b)) (beginBytes b (zerothOf b)) old)
 
 abbrev pub beginStored : List ℕ → List ℕ → List ℕ
-beginStored zeroth old = stored (beginFault (blockOf zeroth)) (beginBytes zeroth (blockOf zeroth)) old
+beginStored b old = stored (beginFault (zerothOf b)) (beginBytes b (zerothOf b)) old
 
 -- `r` and `out` are what the call on block 0 gives
-pub record Began (zeroth old : List ℕ) (r : Begin) (out : List ℕ) : Type 0 where
-  pub answers : r ≡ beginOf zeroth old
-  pub stores : out ≡ beginStored zeroth old
+pub record Began (b old : List ℕ) (r : Begin) (out : List ℕ) : Type 0 where
+  pub answers : r ≡ beginOf b old
+  pub stores : out ≡ beginStored b old
 
 -- ---- the others: arrivals of the label's form and SSRC. 9, the block's refusal, 17, then 12
 
@@ -75,24 +73,16 @@ pub record Began (zeroth old : List ℕ) (r : Begin) (out : List ℕ) : Type 0 w
 abbrev pub allTimes : Shape → List Record → Bool
 allTimes shape records = every (isTime shape) (listOf (λ r. r .time) records)
 
--- what a block brings: records, or a refusal
-pub data Next : Type 0 where
-  goes : List Record → Next
-  refuses : Refusal → Next
-
--- 17 where the other form has no bytes for a time
-unfoldable pub timed : Shape → List Record → Next
+-- what a block brings, records or a refusal: 17 where the other form has no bytes for a time
+unfoldable pub timed : Shape → List Record → Next (List Record)
 timed shape records = cond (allTimes shape records) (goes records) (refuses FormTwo)
 
--- 14 for another form or SSRC, and for a label
-abbrev pub nextBy : Form → ℕ → List ℕ → Block → Next
-nextBy own ssrc b (read.Arrivals form n its) =
-    cond (sameForm form own && eqb its ssrc) (timed (shapeOf (otherForm own)) (recordsIn (shapeOf own) n (bodyOf b))) (refuses Contents)
-nextBy own ssrc b (read.Label form n its) = refuses Contents
-nextBy own ssrc b (read.Refused refusal) = refuses refusal
+abbrev pub nextBy : Form → List ℕ → Later → Next (List Record)
+nextBy own b (later.Arrivals n) = timed (shapeOf (otherForm own)) (recordsIn (shapeOf own) n (bodyOf b))
+nextBy own b (later.Refused refusal) = refuses refusal
 
-unfoldable pub nextOf : Form → ℕ → List ℕ → Next
-nextOf own ssrc b = nextBy own ssrc b (blockOf b)
+unfoldable pub nextOf : Form → ℕ → List ℕ → Next (List Record)
+nextOf own ssrc b = nextBy own b (laterOf own ssrc b)
 
 -- the records that are held
 abbrev pub heldIn : Conversion → List ℕ → List Record
@@ -106,49 +96,46 @@ unfoldable pub sound : Conversion → List ℕ → Bool
 sound c part = all (conditions c part)
 
 -- 9 for a malformed conversion, before the block is looked at
-unfoldable pub callNext : Conversion → List ℕ → List ℕ → Next
+unfoldable pub callNext : Conversion → List ℕ → List ℕ → Next (List Record)
 callNext c part b = cond (sound c part) (nextOf (c .form) (c .ssrc) b) (refuses Malformed)
 
--- its refusal and its bytes, as a writer's: the full blocks of what is held and what comes
-abbrev pub faultIn : Next → Option Refusal
-faultIn (goes records) = none
-faultIn (refuses refusal) = some refusal
-
-abbrev pub bytesIn : Conversion → List ℕ → Next → List ℕ
+-- what a block prints: the full blocks of what is held and what comes
+abbrev pub bytesIn : Conversion → List ℕ → Next (List Record) → List ℕ
 bytesIn c part (goes records) = fullBlocks (toShape c) (c .ssrc) (full (toShape c) (heldIn c part ++ records)) (heldIn c part ++ records)
 bytesIn c part (refuses refusal) = []
 
--- the records behind them are held then
+-- what is carried from block to block: the conversion and the lent part
+pub record Carried : Type 0 where
+  pub conversion : Conversion
+  pub part : List ℕ
+
+abbrev pub carries : Conversion → List ℕ → Carried
+carries c part = record { conversion = c; part = part }
+
+-- the records behind the full blocks are held then, their bytes at the front of the part
 unfoldable pub holding : Conversion → List Record → Conversion
 holding c records = record { form = c .form; ssrc = c .ssrc; held = length (left (toShape c) records) }
 
-abbrev pub takenBy : Conversion → List ℕ → Next → ℕ → Step
-takenBy c part (goes records) size = step.Taken (holding c (heldIn c part ++ records)) size
-takenBy c part (refuses refusal) size = step.Refused refusal c
+abbrev pub partWith : Conversion → List ℕ → List Record → List ℕ
+partWith c part records = sets part 0 (recordsBytes (toShape c) (left (toShape c) records))
 
-abbrev pub stepBy : Conversion → List ℕ → Next → Written → Step
-stepBy c part next (answer.Length size) = takenBy c part next size
-stepBy c part next (answer.Room size) = step.Room size c
-stepBy c part next (answer.Refused refusal) = step.Refused refusal c
+abbrev pub carriedBy : Conversion → List ℕ → Next (List Record) → Next Carried
+carriedBy c part (goes records) = goes (carries (holding c (heldIn c part ++ records)) (partWith c part (heldIn c part ++ records)))
+carriedBy c part (refuses refusal) = refuses refusal
 
-abbrev pub stepOf : Conversion → List ℕ → Next → List ℕ → Step
-stepOf c part next old = stepBy c part next (written (faultIn next) (bytesIn c part next) old)
+-- the call on a block that brings `next`: its answer, its output, and what is carried then, which a refusal or 12 leaves as it was
+abbrev pub answerOf : Conversion → List ℕ → Next (List Record) → List ℕ → Written
+answerOf c part next old = written (faultIn (carriedBy c part next)) (bytesIn c part next) old
 
-abbrev pub storedOf : Conversion → List ℕ → Next → List ℕ → List ℕ
-storedOf c part next old = stored (faultIn next) (bytesIn c part next) old
+abbrev pub storedOf : Conversion → List ℕ → Next (List Record) → List ℕ → List ℕ
+storedOf c part next old = stored (faultIn (carriedBy c part next)) (bytesIn c part next) old
 
--- the lent part: the bytes of the records behind the full blocks at its front; a refusal leaves it as it was
-abbrev pub keptBy : Conversion → List ℕ → Next → Step → List ℕ
-keptBy c part (goes records) (step.Taken next size) = sets part 0 (recordsBytes (toShape c) (left (toShape c) (heldIn c part ++ records)))
-keptBy c part (goes records) (step.Room size same) = part
-keptBy c part (goes records) (step.Refused refusal same) = part
-keptBy c part (refuses refusal) r = part
+abbrev pub afterOf : Conversion → List ℕ → Next (List Record) → List ℕ → Carried
+afterOf c part next old = stateAfter (carries c part) (carriedBy c part next) (answerOf c part next old)
 
--- `r`, `kept` and `out` are what the call gives on a block that does `next`
-pub record Stepped (c : Conversion) (part : List ℕ) (next : Next) (old : List ℕ) (r : Step) (kept out : List ℕ) : Type 0 where
-  pub answers : r ≡ stepOf c part next old
-  pub keeps : kept ≡ keptBy c part next r
-  pub stores : out ≡ storedOf c part next old
+-- `r`, `kept` and `out` are what it gives
+abbrev pub TakesBlock : Conversion → List ℕ → Next (List Record) → List ℕ → Step → List ℕ → List ℕ → Type 0
+TakesBlock c part next old r kept out = Stepped (carries c part) (carriedBy c part next) (bytesIn c part next) old (r .answer) (carries (r .conversion) kept) out
 
 -- ---- the end: the records that are held, in a last block. 9, then 12
 

@@ -3,4 +3,5 @@ pub mod Conversions
 pub mod Steps
 pub mod Converted
 pub mod Theorems
+pub mod Pieces
 pub mod Witnesses

@@ -6,30 +6,32 @@ use Prim.Native.Nat.{ℕ, suc, _*_, _≤_, _<_}
 use lib.ListN.{length, take, drop}
 use Rattle.answers.specs.Refusals.{numberOf, roomNumber}
 use Rattle.answers.specs.Writers.{written, stored, lengthIn}
+use Rattle.answers.specs.declared.Written.{Written}
+use Rattle.answers.specs.declared.Written.the-variants as answer
 use Rattle.format.specs.Blocks.{blockBytes, bodyBytes}
 use Rattle.format.specs.Forms.{shapeOf, otherForm}
 use Rattle.format.specs.declared.Form.{Form}
 use Rattle.trace.specs.Layout.{labelBlock, bodyOf}
 use Rattle.trace.specs.Reading.{countIn, blockOf}
+use Rattle.trace.specs.Places.{zerothOf}
 use Rattle.trace.specs.Theorems.{Below, recordsIn}
 use Rattle.trace.specs.declared.Block.the-variants.{Label, Arrivals}
 use Rattle.trace.specs.declared.Record.{Record}
 use Rattle.table.specs.Lines.{refusedLine}
 use Rattle.walk.specs.Blocks.{Blocks, blocksOf}
-use Rattle.walk.specs.Programs.{Printed, both}
+use Rattle.walk.specs.Programs.{Printed, both, toOutput}
+use Rattle.walk.specs.Steps.{Next, goes, refuses}
 use Rattle.forms.specs.Packing.{packed}
-use Rattle.forms.specs.Conversions.{beginBytes, beginOf, beginStored, Next, goes, refuses, nextOf, callNext, bytesIn, stepOf, storedOf, keptBy, closeFault, closeBytes, allTimes}
-use Rattle.forms.specs.Converted.{toOutput, converted}
+use Rattle.forms.specs.Conversions.{beginBytes, beginOf, beginStored, nextOf, callNext, bytesIn, Carried, carries, answerOf, storedOf, afterOf, closeFault, closeBytes, allTimes}
+use Rattle.forms.specs.Converted.{converted}
 use Rattle.forms.specs.declared.Conversion.{Conversion}
 use Rattle.forms.specs.declared.Begin.{Begin}
 use Rattle.forms.specs.declared.Begin.the-variants as begin
-use Rattle.forms.specs.declared.Step.{Step}
-use Rattle.forms.specs.declared.Step.the-variants as step
 
 -- ---- what is printed is a packing
 
 -- the records of a trace's blocks, those before the first refused one
-abbrev pub takenFrom : Next → List Record → List Record
+abbrev pub takenFrom : Next (List Record) → List Record → List Record
 takenFrom (goes records) more = records ++ more
 takenFrom (refuses refusal) more = []
 
@@ -55,15 +57,15 @@ closing last c part line = record {
   err = line;
 }
 
--- the bytes that a call wrote to `out`, and what the calls after it give
-abbrev pub answered : ℕ → Step → List ℕ → List ℕ → List ℕ → (Conversion → List ℕ → Printed) → Printed
-answered i (step.Taken next n) out kept last more = both (toOutput (take n out)) (more next kept)
-answered i (step.Room n c) out kept last more = closing last c kept (refusedLine roomNumber i)
-answered i (step.Refused refusal c) out kept last more = closing last c kept (refusedLine (numberOf refusal) i)
+-- the bytes that a call wrote to `out`, and what the calls after it give, on what is carried then
+abbrev pub answered : ℕ → Written → Carried → List ℕ → List ℕ → (Conversion → List ℕ → Printed) → Printed
+answered i (answer.Length n) after out last more = both (toOutput (take n out)) (more (after .conversion) (after .part))
+answered i (answer.Room n) after out last more = closing last (after .conversion) (after .part) (refusedLine roomNumber i)
+answered i (answer.Refused refusal) after out last more = closing last (after .conversion) (after .part) (refusedLine (numberOf refusal) i)
 
--- the call on a block that does `next`
-abbrev pub calledBy : ℕ → Conversion → List ℕ → Next → List ℕ → List ℕ → (Conversion → List ℕ → Printed) → Printed
-calledBy i c part next out last more = answered i (stepOf c part next out) (storedOf c part next out) (keptBy c part next (stepOf c part next out)) last more
+-- the call on a block that brings `next`
+abbrev pub calledBy : ℕ → Conversion → List ℕ → Next (List Record) → List ℕ → List ℕ → (Conversion → List ℕ → Printed) → Printed
+calledBy i c part next out last more = answered i (answerOf c part next out) (afterOf c part next out) (storedOf c part next out) last more
 
 unfoldable pub calls : (ℕ → List ℕ) → List ℕ → ℕ → List (List ℕ) → Conversion → List ℕ → Printed
 calls outs last i [] c part = closing last c part []
@@ -91,7 +93,7 @@ CallsConvert =
 pub record RoomForLabel (zeroth : List ℕ) (n : ℕ) : Type 0 where
   pub after : Conversion
   pub given : (out : List ℕ) → length out ≡ n → beginOf zeroth out ≡ begin.Started after n
-  pub changed : (out : List ℕ) → length out ≡ n → beginStored zeroth out ≡ beginBytes zeroth (blockOf zeroth)
+  pub changed : (out : List ℕ) → length out ≡ n → beginStored zeroth out ≡ beginBytes zeroth (zerothOf zeroth)
   pub fewer : (out : List ℕ) → length out < n → (beginOf zeroth out ≡ begin.Room n) × (beginStored zeroth out ≡ out)
 
 abbrev pub LabelRoomIsExact : Type 0
@@ -99,16 +101,16 @@ LabelRoomIsExact = (zeroth old : List ℕ) (n : ℕ) → beginOf zeroth old ≡ 
 
 -- where a later call's answer is 12 with n, the same call with an output of exactly n bytes takes the block and changes all of them to the full blocks, and
 -- with any fewer bytes it gives 12 with the same n and changes nothing
-pub record RoomForBlocks (c : Conversion) (part : List ℕ) (next : Next) (n : ℕ) : Type 0 where
-  pub after : Conversion
-  pub given : (out : List ℕ) → length out ≡ n → stepOf c part next out ≡ step.Taken after n
+pub record RoomForBlocks (c : Conversion) (part : List ℕ) (next : Next (List Record)) (n : ℕ) : Type 0 where
+  pub after : Carried
+  pub given : (out : List ℕ) → length out ≡ n → (answerOf c part next out ≡ answer.Length n) × (afterOf c part next out ≡ after)
   pub changed : (out : List ℕ) → length out ≡ n → storedOf c part next out ≡ bytesIn c part next
   pub fewer : (out : List ℕ) → length out < n
-      → (stepOf c part next out ≡ step.Room n c) × (storedOf c part next out ≡ out) × (keptBy c part next (stepOf c part next out) ≡ part)
+      → (answerOf c part next out ≡ answer.Room n) × (storedOf c part next out ≡ out) × (afterOf c part next out ≡ carries c part)
 
 abbrev pub BlocksRoomIsExact : Type 0
 BlocksRoomIsExact =
-    (c same : Conversion) (part : List ℕ) (next : Next) (old : List ℕ) (n : ℕ) → stepOf c part next old ≡ step.Room n same → RoomForBlocks c part next n
+    (c : Conversion) (part : List ℕ) (next : Next (List Record)) (old : List ℕ) (n : ℕ) → answerOf c part next old ≡ answer.Room n → RoomForBlocks c part next n
 
 -- ---- a trace that is converted whole
 

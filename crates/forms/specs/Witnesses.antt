@@ -1,8 +1,11 @@
 -- The hypotheses of the theorems can be met: for each of them, values that meet them all.
 use mathlib.Core.Path.{_≡_}
+use mathlib.Core.Bool.{true}
 use mathlib.Core.List.{List, [], _∷_, _++_}
-use Prim.Native.Nat.{ℕ, _*_, _≤_}
+use mathlib.Core.Option.{none}
+use Prim.Native.Nat.{ℕ, _*_, _^_, _≤_, _<_}
 use lib.ListN.{length, drop, replicate}
+use Rattle.answers.specs.declared.Written.the-variants.{Room}
 use Rattle.format.specs.Blocks.{blockBytes, bodyBytes}
 use Rattle.format.specs.Forms.{shapeOf}
 use Rattle.format.specs.declared.Form.the-variants.{One}
@@ -12,12 +15,18 @@ use Rattle.trace.specs.Theorems.{Below}
 use Rattle.trace.specs.declared.Block.the-variants.{Label}
 use Rattle.trace.specs.declared.Record.{Record}
 use Rattle.walk.specs.Blocks.{blocksOf}
-use Rattle.forms.specs.Conversions.{beginOf, goes, stepOf}
+use Rattle.walk.specs.Programs.{Printed}
+use Rattle.walk.specs.Pieces.{wholes}
+use Rattle.walk.specs.Steps.{goes}
+use Rattle.walk.specs.Machines.{Session}
+use Rattle.walk.specs.declared.Ended.the-variants.{Going}
+use Rattle.forms.specs.Conversions.{sound, beginOf, answerOf}
 use Rattle.forms.specs.Converted.{converted}
 use Rattle.forms.specs.Theorems.{Convertible, FullButLast}
+use Rattle.forms.specs.Pieces.{tookOf, calls}
+use Rattle.forms.specs.declared.pieces.Progress.{Progress}
 use Rattle.forms.specs.declared.Conversion.{Conversion}
 use Rattle.forms.specs.declared.Begin.the-variants as begin
-use Rattle.forms.specs.declared.Step.the-variants as step
 
 -- a trace of form 1: its label, a full block and one that is not
 abbrev pub text : List ℕ
@@ -35,6 +44,13 @@ trace = labelBlock (shapeOf One) text 1 ++ (arrivalsBlock (shapeOf One) fully 1 
 -- a conversion of it that holds no record
 abbrev pub fresh : Conversion
 fresh = record { form = One; ssrc = 1; held = 0 }
+
+-- behind the label block, and the bytes that are left then
+abbrev pub begun : Progress
+begun = record { conversion = fresh; block = 1; ended = Going }
+
+abbrev pub piece : List ℕ
+piece = drop blockBytes trace
 
 -- lent bytes
 abbrev pub zeros : ℕ → List ℕ
@@ -56,4 +72,11 @@ pub record Met : Type 0 where
   pub behind : Below 256 (drop blockBytes trace)
   -- LabelRoomIsExact, BlocksRoomIsExact: an empty output
   pub label-short : beginOf (blocksOf trace .zeroth) [] ≡ begin.Room 512
-  pub short : stepOf fresh [] (goes fully) [] ≡ step.Room 512 fresh
+  pub short : answerOf fresh [] (goes fully) [] ≡ Room 512
+  -- TracePrints: a session of one piece
+  pub few : length trace < blockBytes * 2 ^ 64
+  pub session : (q : Printed) × Session (calls (zeros 502)) trace q
+  -- BlocksHaveRoom, EndHasRoom
+  pub sound : sound fresh (zeros 502) ≡ true
+  pub blocks : wholes piece ≤ 256
+  pub none-refused : tookOf begun (zeros 502) piece (320 * blockBytes) .refusal ≡ none

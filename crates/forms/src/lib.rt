@@ -1,19 +1,23 @@
-// A trace converted to the other form, block by block (request L10). The records of a block that is not full yet stand in a part that the caller lends to each call.
+// A trace converted to the other form (request L10): block by block here, and over pieces of a trace in `pieces`. The records of a block that is not full yet
+// stand in a part that the caller lends to each call.
+ghost use mathlib.Core.Path.{_≡_};
 ghost use Rattle.answers.specs.Writers.{Wrote};
-ghost use Rattle.forms.specs.Conversions.{Began, callNext, Stepped, closeFault, closeBytes};
+ghost use Rattle.trace.specs.Reading.{blockOf};
+ghost use Rattle.trace.specs.declared.Block.{Block};
+ghost use Rattle.forms.specs.Conversions.{Began, callNext, TakesBlock, closeFault, closeBytes};
 
 mod moving;
 mod packing;
+pub mod pieces;
 mod soundness;
+mod taking;
 
 use answers::Refusal;
 use answers::Written;
 use format::Form;
 use format::block::BODY;
-use format::block::CHECK;
-use trace::Block;
-use trace::read::fault_of;
-use trace::read::read_block;
+use trace::Zeroth;
+use trace::places::read_label;
 use trace::write::write_label;
 use trace::write::write_records;
 
@@ -32,60 +36,54 @@ pub enum Begin {
     Refused(Refusal),
 }
 
-// The answer to a later block: the next conversion and the length of the blocks that are full, or a refusal with the conversion that was given.
-pub enum Step {
-    Taken(Conversion, usize),
-    // 12: the output is too small; the blocks have so many bytes.
-    Room(usize, Conversion),
-    Refused(Refusal, Conversion),
+// The answer to a later block: what the writer of the blocks that are full says, and the next conversion where they were written, else the one that was given.
+pub struct Step {
+    pub answer: Written,
+    pub conversion: Conversion,
+}
+
+// Writes the label of block 0 in the other form at the front of out.
+fn started(form: Form, length: usize, ssrc: u32, zeroth: &[u8], out: &mut [u8]) -> Begin
+    requires { ⌜ blockOf (now zeroth) ≡ Block.Label form length ssrc ⌝ }
+    ensures { λ r. ⌜ Began (now (zeroth .entry)) (now (out .entry)) r (now (out .exit)) ⌝ }
+{
+    let end = BODY + length;
+    match write_label(form.other(), &zeroth[BODY..end], ssrc, out) {
+        Written::Length(n) => {
+            let start = Conversion {
+                form,
+                ssrc,
+                held: 0,
+            };
+            Begin::Started(start, n)
+        }
+        Written::Room(n) => Begin::Room(n),
+        Written::Refused(refusal) => Begin::Refused(refusal),
+    }
 }
 
 impl Conversion {
-    // Takes block 0, which must be a label block, and writes it in the other form at the front of out. Refusals: 1, 13 and 14, as `read_block` gives them,
-    // and 14 for arrivals; 12 output too small.
+    // Takes block 0, which must be a label block, and writes it in the other form at the front of out. Refusals: 1, 13 and 14, as `read_label` gives them;
+    // 12 output too small.
     pub fn start(zeroth: &[u8], out: &mut [u8]) -> Begin
         ensures { λ r. ⌜ Began (now (zeroth .entry)) (now (out .entry)) r (now (out .exit)) ⌝ }
     {
-        let read = read_block(zeroth);
-        let Block::Label { form, length, ssrc } = read else {
-            return Begin::Refused(fault_of(read));
-        };
-        let end = BODY + length;
-        match write_label(form.other(), &zeroth[BODY..end], ssrc, out) {
-            Written::Length(n) => {
-                let start = Conversion {
-                    form,
-                    ssrc,
-                    held: 0,
-                };
-                Begin::Started(start, n)
-            }
-            Written::Room(n) => Begin::Room(n),
-            Written::Refused(refusal) => Begin::Refused(refusal),
+        match read_label(zeroth) {
+            Zeroth::Label { form, length, ssrc } => started(form, length, ssrc, zeroth, out),
+            Zeroth::Refused(refusal) => Begin::Refused(refusal),
         }
     }
 
     // Takes a later block, which must hold arrivals of the label's form and SSRC: its records go behind those in the part, the blocks that are full with them are
-    // written at the front of out, and the records left over stay in the part. Refusals: 9 a malformed conversion or part; 1, 13 and 14, as `read_block`
-    // gives them, and 14 for a label, another form or another SSRC; 17 a time that needs form 2; 12 output too small, with the blocks' length.
+    // written at the front of out, and the records left over stay in the part. Refusals: 9 a malformed conversion or part; 1, 13 and 14, as `read_own`
+    // gives them; 17 a time that needs form 2; 12 output too small, with the blocks' length.
     pub fn block(self, part: &mut [u8], block: &[u8], out: &mut [u8]) -> Step
-        ensures { λ r. ⌜ Stepped self (now (part .entry)) (callNext self (now (part .entry)) (now (block .entry))) (now (out .entry)) r (now (part .exit)) (now (out .exit)) ⌝ }
+        ensures { λ r. ⌜ TakesBlock self (now (part .entry)) (callNext self (now (part .entry)) (now (block .entry))) (now (out .entry)) r (now (part .exit)) (now (out .exit)) ⌝ }
     {
         if !soundness::is_sound(self, part) {
-            return Step::Refused(Refusal::Malformed, self);
+            return taking::refused(self, Refusal::Malformed);
         }
-        let read = read_block(block);
-        let Block::Arrivals { form, count, ssrc } = read else {
-            return Step::Refused(fault_of(read), self);
-        };
-        if !soundness::is_own(self, form, ssrc) {
-            return Step::Refused(Refusal::Contents, self);
-        }
-        let body = &block[BODY..CHECK];
-        if !moving::all_times(form, count, body) {
-            return Step::Refused(Refusal::FormTwo, self);
-        }
-        packing::arrivals(self, part, count, body, out)
+        taking::step(self, part, block, out)
     }
 
     // Writes the records in the part, if there are any, as a last block at the front of out. Refusals: 9 a malformed conversion or part; 12 output too small.

@@ -2,6 +2,7 @@
 use crate::Conversion;
 use crate::Step;
 use crate::moving::put_records;
+use answers::Written;
 use answers::copy::put_bytes;
 use format::Form;
 use format::block::BLOCK;
@@ -17,7 +18,8 @@ ghost use Rattle.format.specs.Forms.{shapeOf, width, otherForm};
 ghost use Rattle.trace.specs.Layout.{recordsBytes, arrivalsBlock};
 ghost use Rattle.trace.specs.Theorems.{recordsIn};
 ghost use Rattle.forms.specs.Packing.{fullBlocks};
-ghost use Rattle.forms.specs.Conversions.{toShape, heldIn, goes, Stepped};
+ghost use Rattle.walk.specs.Steps.{goes};
+ghost use Rattle.forms.specs.Conversions.{toShape, heldIn, TakesBlock};
 ghost use Rattle.forms.specs.Steps.{Joinable, joined, Packable, Parted};
 
 // Stores the first `held` records in the part and behind them the first n of a body in out from a place on, all in the other form.
@@ -103,7 +105,7 @@ fn pack(c: Conversion, part: &mut [u8], n: usize, body: &[u8], out: &mut [u8])
 // Packs the n records of a body behind those in the part, where out has room for the full blocks.
 pub fn arrivals(c: Conversion, part: &mut [u8], n: usize, body: &[u8], out: &mut [u8]) -> Step
     requires { ⌜ Packable c (now part) n (now body) ⌝ }
-    ensures { λ r. ⌜ Stepped c (now (part .entry)) (goes (recordsIn (shapeOf (c .form)) n (now (body .entry)))) (now (out .entry)) r (now (part .exit)) (now (out .exit)) ⌝ }
+    ensures { λ r. ⌜ TakesBlock c (now (part .entry)) (goes (recordsIn (shapeOf (c .form)) n (now (body .entry)))) (now (out .entry)) r (now (part .exit)) (now (out .exit)) ⌝ }
 {
     let form = c.form;
     let ssrc = c.ssrc;
@@ -113,7 +115,10 @@ pub fn arrivals(c: Conversion, part: &mut [u8], n: usize, body: &[u8], out: &mut
     let full = total / most;
     let bytes = full * BLOCK;
     if out.len() < bytes {
-        return Step::Room(bytes, c);
+        return Step {
+            answer: Written::Room(bytes),
+            conversion: c,
+        };
     }
     pack(c, part, n, body, out);
     let next = Conversion {
@@ -121,5 +126,8 @@ pub fn arrivals(c: Conversion, part: &mut [u8], n: usize, body: &[u8], out: &mut
         ssrc,
         held: total - full * most,
     };
-    Step::Taken(next, bytes)
+    Step {
+        answer: Written::Length(bytes),
+        conversion: next,
+    }
 }

@@ -16,11 +16,12 @@ use Rattle.trace.specs.Reading.{blockOf}
 use Rattle.trace.specs.declared.Block.the-variants as read
 use Rattle.trace.proofs.Accepted.{accepted}
 use Rattle.walk.specs.Blocks.{joined}
+use Rattle.walk.specs.Steps.{goes}
 use Rattle.mixed.specs.declared.Line.{Line}
 use Rattle.mixed.specs.declared.Run.{Run}
 use Rattle.mixed.specs.Lines.{linesIn, byValue, inWords}
-use Rattle.mixed.specs.Blocks.{goes, nextOf}
-use Rattle.mixed.specs.Runs.{soundRun, callNext}
+use Rattle.mixed.specs.Blocks.{nextOf}
+use Rattle.mixed.specs.Runs.{soundRun, callNext, holding}
 use Rattle.mixed.specs.Rows.{labelOf, ownLabel}
 use Rattle.mixed.specs.Tables.{Kept}
 use Rattle.mixed.proofs.Restored.{wordsOf, stored-back}
@@ -39,10 +40,6 @@ pub record Holds (zeroth : List ℕ) (run : Run) (ws : List ℕ) (k : Kept) : Ty
   pub few : length (k .lines) ≤ 16
   pub good : Each GoodLine (k .lines)
 
--- the run behind a block that gives lines
-abbrev pub holding : Run → List Line → Run
-holding run ls = record { form = run .form; length = run .length; held = length (map wordsOf ls) }
-
 module _ {zeroth : List ℕ} {run : Run} {ws : List ℕ} {k : Kept} (h : Holds zeroth run ws k) where
   pub sound : soundRun run ws ≡ true
   unfolding soundRun
@@ -53,7 +50,7 @@ module _ {zeroth : List ℕ} {run : Run} {ws : List ℕ} {k : Kept} (h : Holds z
   call-next b =
       rw sound (ap₂ (λ (f : Form) (ls : List (List ℕ)). nextOf inWords f b ls) (h .form) (h .words) ∙ next-alike (k .form) b (k .lines) (h .good))
 
-  pub still-holds : (ls : List Line) → Keeps (goes ls) → Holds zeroth (holding run ls) (sets ws 0 (joined (map wordsOf ls))) (with k ls)
+  pub still-holds : (ls : List Line) → Keeps (goes ls) → Holds zeroth (holding run (map wordsOf ls)) (sets ws 0 (joined (map wordsOf ls))) (with k ls)
   unfolding ownLabel
   still-holds ls s = record {
     form = h .form;

@@ -3,6 +3,7 @@ use mathlib.Core.Path.{_≡_, refl, sym, ap, _∙_}
 use mathlib.Core.Bool.{true, false, and-true}
 use mathlib.Core.Logic.{⊎-elim}
 use mathlib.Core.List.{List, [], _∷_}
+use mathlib.Core.Option.{none}
 use Prim.Native.Nat.{ℕ, _≤_, _<_}
 use native.Mathlib.Omega.{arith}
 use borrow.Author.Tests.{leb-true, le-leb, lt-ltb, le-ltb}
@@ -13,7 +14,9 @@ use lib.Seq.{sets}
 use types.Run.{OneOf}
 use Rattle.answers.specs.declared.Refusal.{Refusal}
 use Rattle.answers.specs.declared.Refusal.the-variants.{Malformed, Contents, Places}
+use Rattle.answers.specs.declared.Written.the-variants.{Length, Refused}
 use Rattle.answers.proofs.Conditions.{all-true}
+use Rattle.answers.proofs.Stores.{wrote-all}
 use Rattle.source.specs.declared.Totals.{Totals}
 use Rattle.source.specs.Totals.{freshTotals}
 use Rattle.format.specs.Forms.{sameForm}
@@ -24,14 +27,14 @@ use Rattle.trace.specs.declared.Block.{Block}
 use Rattle.trace.specs.declared.Block.the-variants as read
 use Rattle.trace.proofs.Block.{the-type}
 use Rattle.walk.specs.Blocks.{joined}
+use Rattle.walk.specs.Steps.{Next, goes, refuses}
+use Rattle.walk.proofs.Putting.{step-refuses}
 use Rattle.mixed.specs.declared.Run.{Run}
 use Rattle.mixed.specs.declared.Begin.the-variants as begin
-use Rattle.mixed.specs.declared.Step.{Step}
-use Rattle.mixed.specs.declared.Step.the-variants as step
 use Rattle.mixed.specs.Lines.{linesIn, ssrcIn, totalsIn, lineWords, inWords}
 use Rattle.mixed.specs.Places.{addedBy, placeBy}
-use Rattle.mixed.specs.Blocks.{counted, Next, goes, refuses, newLine, heldLine, settledBy, settled, nextBy, nextOf}
-use Rattle.mixed.specs.Runs.{startBy, startOf, runConditions, soundRun, callNext, stepOf, storedOf, Stepped}
+use Rattle.mixed.specs.Blocks.{counted, newLine, heldLine, settledBy, settled, nextBy, nextOf}
+use Rattle.mixed.specs.Runs.{startBy, startOf, runConditions, soundRun, callNext, carries, carriedBy, TakesBlock}
 use Rattle.mixed.proofs.Cuts.{length-lines}
 use Rattle.mixed.proofs.Standing.{found-none, found-there}
 
@@ -77,7 +80,7 @@ module _ (run : Run) (ws b : List ℕ) where
     abbrev lines : List (List ℕ)
     lines = linesIn (run .held) ws
 
-    call-by : {r : Block} {next : Next (List ℕ)} → blockOf b ≡ r → nextBy inWords (run .form) b lines r ≡ next → callNext run ws b ≡ next
+    call-by : {r : Block} {next : Next (List (List ℕ))} → blockOf b ≡ r → nextBy inWords (run .form) b lines r ≡ next → callNext run ws b ≡ next
     unfolding callNext nextOf
     call-by e n = rw (g, e) n
 
@@ -125,13 +128,13 @@ module _ (count : Totals → Totals) (ssrc n : ℕ) (ws : List ℕ) where
 
 -- ---- what the call gives
 
-module _ (run : Run) (ws : List ℕ) {next : Next (List ℕ)} where
-  pub step-refuses : {refusal : Refusal} → next ≡ refuses refusal → Stepped run ws next (step.Refused refusal run) ws
-  step-refuses e = record { answers = rw e; stores = rw e }
+module _ (run : Run) (ws : List ℕ) {next : Next (List (List ℕ))} where
+  pub takes-refuses : {refusal : Refusal} → next ≡ refuses refusal → TakesBlock run ws next (record { answer = Refused refusal; run = run }) ws
+  takes-refuses e = step-refuses (carries run ws) [] [] (ap (carriedBy run ws) e) refl refl
 
-  pub step-goes : {ls : List (List ℕ)} {n : ℕ} {out : List ℕ} → next ≡ goes ls → n ≡ length ls → out ≡ sets ws 0 (joined ls)
-      → Stepped run ws next (step.Taken (record { form = run .form; length = run .length; held = n })) out
-  step-goes e h o = record { answers = rw (e, h); stores = rw (e, o) }
-
-  pub stepped-as : {other : Next (List ℕ)} {answer : Step} {out : List ℕ} → next ≡ other → Stepped run ws other answer out → Stepped run ws next answer out
-  stepped-as e s = record { answers = s .answers ∙ ap (stepOf run) (sym e); stores = s .stores ∙ ap (storedOf ws) (sym e) }
+  pub takes-goes : {ls : List (List ℕ)} {n : ℕ} {kept : List ℕ} → next ≡ goes ls → n ≡ length ls → kept ≡ sets ws 0 (joined ls)
+      → TakesBlock run ws next (record { answer = Length 0; run = record { form = run .form; length = run .length; held = n } }) kept
+  takes-goes e h k = rw e (record {
+    wrote = wrote-all {fault = none} [] [] refl (omega arith) refl refl;
+    after = λ i. carries (record { form = run .form; length = run .length; held = h i }) (k i);
+  })

@@ -14,15 +14,16 @@ use Rattle.source.specs.Totals.{freshTotals}
 use Rattle.trace.specs.Reading.{blockOf}
 use Rattle.trace.specs.declared.Block.{Block}
 use Rattle.trace.specs.declared.Block.the-variants as read
+use Rattle.walk.specs.Steps.{Next, goes, refuses}
 use Rattle.mixed.specs.declared.Line.{Line}
 use Rattle.mixed.specs.Places.{foundBy, addedBy}
 use Rattle.mixed.specs.Lines.{byValue, ssrcIn, lineWords, inWords}
-use Rattle.mixed.specs.Blocks.{counted, Next, goes, refuses, heldLine, settledBy, settled, nextBy, nextOf}
+use Rattle.mixed.specs.Blocks.{counted, heldLine, settledBy, settled, nextBy, nextOf}
 use Rattle.mixed.proofs.Alike.{mapped, found-alike, renewed-alike, added-alike}
 use Rattle.mixed.proofs.Restored.{totals-back, wordsOf}
 use Rattle.mixed.proofs.Kept.{Each, found-each, GoodLine}
 
-abbrev pub nextWords : Next Line → Next (List ℕ)
+abbrev pub nextWords : Next (List Line) → Next (List (List ℕ))
 nextWords (goes ls) = goes (map wordsOf ls)
 nextWords (refuses refusal) = refuses refusal
 

@@ -27,11 +27,12 @@ use Rattle.trace.specs.Reading.{blockOf}
 use Rattle.trace.specs.declared.Block.{Block}
 use Rattle.trace.specs.declared.Block.the-variants as read
 use Rattle.trace.proofs.Accepted.{accepted}
-use Rattle.trace.proofs.Octets.{octets-take, octets-drop}
+use Rattle.numbers.proofs.Octets.{octets-take, octets-drop}
+use Rattle.walk.specs.Steps.{Next, goes, refuses}
 use Rattle.mixed.specs.declared.Line.{Line}
 use Rattle.mixed.specs.Places.{foundBy, renewedBy, addedBy}
 use Rattle.mixed.specs.Lines.{byValue}
-use Rattle.mixed.specs.Blocks.{counted, Next, goes, refuses, settledBy, settled, nextBy, nextOf}
+use Rattle.mixed.specs.Blocks.{counted, settledBy, settled, nextBy, nextOf}
 use Rattle.mixed.proofs.Restored.{Good}
 use Rattle.mixed.proofs.Standing.{length-added}
 
@@ -122,7 +123,7 @@ pub record GoodLine (l : Line) : Type 0 where
   pub totals : Good (l .totals)
 
 -- the lines that a block gives are good, and at most 16
-abbrev pub Keeps : Next Line → Type 0
+abbrev pub Keeps : Next (List Line) → Type 0
 Keeps (goes ls) = Each GoodLine ls × (length ls ≤ 16)
 Keeps (refuses refusal) = Unit {0}
 

@@ -11,13 +11,14 @@ use Rattle.trace.specs.declared.Block.{Block}
 use Rattle.trace.specs.declared.Block.the-variants as read
 use Rattle.table.specs.Lines.{headBytes, refusedLine}
 use Rattle.walk.specs.Blocks.{blocksOf}
-use Rattle.walk.specs.Programs.{Printed, both, Run as Runs, turned, onward, walk, walked, closed, printedBy}
+use Rattle.walk.specs.Programs.{Printed, both, toOutput, Run as Runs, turned, onward, walk, walked, closed, printedBy}
 use Rattle.walk.proofs.Walks.{closed-goes, closed-ends}
+use Rattle.walk.specs.Steps.{Next, goes, refuses}
 use Rattle.mixed.specs.declared.Line.{Line}
 use Rattle.mixed.specs.Lines.{byValue}
-use Rattle.mixed.specs.Blocks.{Next, goes, refuses, nextOf}
+use Rattle.mixed.specs.Blocks.{nextOf}
 use Rattle.mixed.specs.Rows.{labelOf}
-use Rattle.mixed.specs.Tables.{Kept, toOutput, begunBy, taken, ecnstreams, printed}
+use Rattle.mixed.specs.Tables.{Kept, begunBy, taken, ecnstreams, printed}
 
 -- ---- from block i on
 
@@ -32,9 +33,9 @@ module _ (i : ℕ) (b : List ℕ) (bs : List (List ℕ)) (k : Kept) where
   more : Kept → Runs Kept
   more = walk ecnstreams (suc i) bs
 
-  by-next : {next : Next Line} → nextOf byValue (k .form) b (k .lines) ≡ next → rest i (b ∷ bs) k ≡ closed ecnstreams (onward (turned i (taken k next)) more)
+  by-next : {next : Next (List Line)} → nextOf byValue (k .form) b (k .lines) ≡ next → rest i (b ∷ bs) k ≡ closed ecnstreams (onward (turned i (taken k next)) more)
   unfolding walk more
-  by-next e = ap (λ (n : Next Line). closed ecnstreams (onward (turned i (taken k n)) (walk ecnstreams (suc i) bs))) e
+  by-next e = ap (λ (n : Next (List Line)). closed ecnstreams (onward (turned i (taken k n)) (walk ecnstreams (suc i) bs))) e
 
   pub rest-ends : {refusal : Refusal} → nextOf byValue (k .form) b (k .lines) ≡ refuses refusal → rest i (b ∷ bs) k ≡ toOutput (refusedLine (numberOf refusal) i)
   unfolding closed

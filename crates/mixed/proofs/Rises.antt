@@ -17,12 +17,13 @@ use Rattle.trace.specs.Reading.{blockOf}
 use Rattle.trace.specs.declared.Block.{Block}
 use Rattle.trace.specs.declared.Block.the-variants as read
 use Rattle.table.specs.Lines.{headBytes}
-use Rattle.walk.specs.Programs.{Printed, nothing, both, turned, onward, walk, walked, closed, printedBy}
+use Rattle.walk.specs.Programs.{Printed, nothing, both, toOutput, turned, onward, walk, walked, closed, printedBy}
+use Rattle.walk.specs.Steps.{Next, goes, refuses}
 use Rattle.mixed.specs.declared.Line.{Line}
 use Rattle.mixed.specs.Places.{foundBy, renewedBy, addedBy}
 use Rattle.mixed.specs.Lines.{byValue}
-use Rattle.mixed.specs.Blocks.{counted, Next, goes, refuses, settledBy, settled, nextBy, nextOf}
-use Rattle.mixed.specs.Tables.{Kept, toOutput, begunBy, taken, ended, ecnstreams}
+use Rattle.mixed.specs.Blocks.{counted, settledBy, settled, nextBy, nextOf}
+use Rattle.mixed.specs.Tables.{Kept, begunBy, taken, ended, ecnstreams}
 use Rattle.mixed.specs.Theorems.{Rising, InOrder, LinesRise, HeadThenRows}
 use Rattle.mixed.proofs.Alike.{mapped, found-alike, renewed-alike, added-alike}
 use Rattle.mixed.proofs.Kept.{length-renewed}
@@ -75,7 +76,7 @@ module _ (new : ℕ) where
 abbrev pub ssrcOf : Line → ℕ
 ssrcOf l = l .ssrc
 
-abbrev Keeps : Next Line → Type 0
+abbrev Keeps : Next (List Line) → Type 0
 Keeps (goes ls) = InOrder ls
 Keeps (refuses refusal) = Unit {0}
 
@@ -121,7 +122,7 @@ unfolding walk onward
 walk-rises i [] k o = o
 walk-rises i (b ∷ bs) k o = go (nextOf byValue (k .form) b (k .lines)) (next-keeps (k .form) b (k .lines) o) (λ k. walk-rises (suc i) bs k)
   where
-    go : (next : Next Line) → Keeps next → ((k : Kept) → InOrder (k .lines) → InOrder (walk ecnstreams (suc i) bs k .state .lines))
+    go : (next : Next (List Line)) → Keeps next → ((k : Kept) → InOrder (k .lines) → InOrder (walk ecnstreams (suc i) bs k .state .lines))
         → InOrder (onward (turned i (taken k next)) (walk ecnstreams (suc i) bs) .state .lines)
     go (goes ls) s later = later (record { form = k .form; label = k .label; lines = ls }) s
     go (refuses refusal) s later = o
@@ -145,7 +146,7 @@ unfolding walk onward
 walk-prints i [] k = refl
 walk-prints i (b ∷ bs) k = go (nextOf byValue (k .form) b (k .lines)) (λ k. walk-prints (suc i) bs k)
   where
-    go : (next : Next Line) → ((k : Kept) → walk ecnstreams (suc i) bs k .printed ≡ nothing)
+    go : (next : Next (List Line)) → ((k : Kept) → walk ecnstreams (suc i) bs k .printed ≡ nothing)
         → onward (turned i (taken k next)) (walk ecnstreams (suc i) bs) .printed ≡ nothing
     go (goes ls) later = later (record { form = k .form; label = k .label; lines = ls })
     go (refuses refusal) later = refl

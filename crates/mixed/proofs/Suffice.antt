@@ -16,10 +16,11 @@ use Rattle.trace.specs.Reading.{blockOf}
 use Rattle.trace.specs.declared.Block.the-variants as read
 use Rattle.walk.specs.Blocks.{blocksOf}
 use Rattle.walk.specs.Programs.{turned, onward, walk, walked}
+use Rattle.walk.specs.Steps.{Next, goes, refuses}
 use Rattle.mixed.specs.declared.Line.{Line}
 use Rattle.mixed.specs.Places.{foundBy, renewedBy, addedBy}
 use Rattle.mixed.specs.Lines.{byValue}
-use Rattle.mixed.specs.Blocks.{counted, Next, goes, refuses, settledBy, settled, nextOf}
+use Rattle.mixed.specs.Blocks.{counted, settledBy, settled, nextOf}
 use Rattle.mixed.specs.Tables.{Kept, taken, ecnstreams}
 use Rattle.mixed.specs.Theorems.{among, OfSources, SixteenSuffice}
 use Rattle.mixed.proofs.Alike.{mapped, found-alike, renewed-alike, added-alike}
@@ -95,7 +96,7 @@ record Covered (ssrcs : List ℕ) (ls : List Line) : Type 0 where
   covers : (ssrc : ℕ) → among ssrc ssrcs ≡ true → (among ssrc (map ssrcOf ls) || among ssrc left) ≡ true
 
 module _ (ssrcs : List ℕ) where
-  abbrev Continues : Next Line → Type 0
+  abbrev Continues : Next (List Line) → Type 0
   Continues (goes ls) = Covered ssrcs ls
   Continues (refuses refusal) = ⊥
 
@@ -151,7 +152,7 @@ module _ (ssrcs : List ℕ) where
   walk-covers i (b ∷ bs) k o c =
       go (nextOf byValue (k .form) b (k .lines)) (next-covers (k .form) b (o .0) (o .1) (o .2) (o .3) (k .lines) c) (λ k. walk-covers (suc i) bs k)
     where
-      go : (next : Next Line) → Continues next → ((k : Kept) → OfSources (k .form) ssrcs bs → Covered ssrcs (k .lines) → walk ecnstreams (suc i) bs k .ended ≡ none)
+      go : (next : Next (List Line)) → Continues next → ((k : Kept) → OfSources (k .form) ssrcs bs → Covered ssrcs (k .lines) → walk ecnstreams (suc i) bs k .ended ≡ none)
           → onward (turned i (taken k next)) (walk ecnstreams (suc i) bs) .ended ≡ none
       go (goes ls) c later = later (record { form = k .form; label = k .label; lines = ls }) (o .4) c
       go (refuses refusal) c later = absurd c

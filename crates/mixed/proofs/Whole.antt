@@ -16,25 +16,26 @@ use Rattle.format.specs.Blocks.{blockBytes}
 use Rattle.trace.specs.Reading.{blockOf}
 use Rattle.trace.specs.declared.Block.{Block}
 use Rattle.trace.specs.declared.Block.the-variants as read
-use Rattle.trace.proofs.Octets.{octets-take, octets-drop}
+use Rattle.numbers.proofs.Octets.{octets-take, octets-drop}
 use Rattle.table.specs.Lines.{headBytes, rowBytes}
 use Rattle.walk.specs.Blocks.{blocksOf, joined}
-use Rattle.walk.specs.Programs.{Printed, turned, walk, closed}
+use Rattle.walk.specs.Programs.{Printed, toOutput, turned, walk, closed}
 use Rattle.walk.proofs.Cuts.{Each as EachBlock, cut-each}
 use Rattle.walk.proofs.Walks.{closed-ends}
+use Rattle.walk.specs.Steps.{Next, goes, refuses}
 use Rattle.mixed.specs.declared.Line.{Line}
 use Rattle.mixed.specs.declared.Run.{Run}
 use Rattle.mixed.specs.Lines.{byValue}
-use Rattle.mixed.specs.Blocks.{Next, goes, refuses, nextOf}
-use Rattle.mixed.specs.Runs.{startBy, startOf, stepOf, storedOf}
+use Rattle.mixed.specs.Blocks.{nextOf}
+use Rattle.mixed.specs.Runs.{startBy, startOf, holding, carriedBy}
 use Rattle.mixed.specs.Rows.{lineAt, totalsAt, rowFault, rowOf}
-use Rattle.mixed.specs.Tables.{Kept, toOutput, begunBy, rowsOf, ecnstreams, printed}
+use Rattle.mixed.specs.Tables.{Kept, begunBy, rowsOf, ecnstreams, printed}
 use Rattle.mixed.specs.Theorems.{Walked, answered, calls, callsBy, callsOver, rowBy, rowsBy, linesBy, EnoughBy, CallsPrint}
 use Rattle.mixed.proofs.Restored.{totals-back, wordsOf}
 use Rattle.mixed.proofs.Kept.{Each, GoodLine, Keeps, next-keeps}
 use Rattle.mixed.proofs.InWords.{nextWords, ssrc-of}
 use Rattle.mixed.proofs.Onward.{rest, with, rest-ends, rest-goes, printed-by, begun, printed-started}
-use Rattle.mixed.proofs.Beside.{Holds, holding, sound, call-next, still-holds, start-holds}
+use Rattle.mixed.proofs.Beside.{Holds, sound, call-next, still-holds, start-holds}
 
 -- ---- the rows
 
@@ -99,15 +100,15 @@ module _ (outs : ℕ → List ℕ) (zeroth : List ℕ) where
   rest-prints i [] run ws k o h = λ room.
       prints-is (ap toOutput (sym (ap (rowsBy outs run ws zeroth 0) (h .held) ∙ rows-from outs h room 0 (k .lines) refl (omega (arith, h .held)) (h .good))))
   rest-prints i (b ∷ bs) run ws k o h =
-      subst (λ (n : Next (List ℕ)). Same i (b ∷ bs) k (answered i (stepOf run n) (storedOf ws n) (calls (suc i) bs))) (sym (call-next h b))
+      subst (λ (n : Next (List (List ℕ))). Same i (b ∷ bs) k (answered i (carriedBy run ws n) (calls (suc i) bs))) (sym (call-next h b))
       (go (nextOf byValue (k .form) b (k .lines)) refl (next-keeps (k .form) b (k .lines) (o .0) (h .good) (h .few)) (λ run ws k. rest-prints (suc i) bs run ws k (o .1)))
     where
-      go : (next : Next Line) → nextOf byValue (k .form) b (k .lines) ≡ next → Keeps next
+      go : (next : Next (List Line)) → nextOf byValue (k .form) b (k .lines) ≡ next → Keeps next
           → ((run : Run) (ws : List ℕ) (k : Kept) → Holds zeroth run ws k → Same (suc i) bs k (calls (suc i) bs run ws))
-          → Same i (b ∷ bs) k (answered i (stepOf run (nextWords next)) (storedOf ws (nextWords next)) (calls (suc i) bs))
+          → Same i (b ∷ bs) k (answered i (carriedBy run ws (nextWords next)) (calls (suc i) bs))
       go (goes ls) e s later = λ room.
-          subst (λ (p : Printed). Prints (linesBy outs zeroth (calls (suc i) bs (holding run ls) (sets ws 0 (joined (map wordsOf ls))))) p) (sym (rest-goes i b bs k e))
-          (later (holding run ls) (sets ws 0 (joined (map wordsOf ls))) (with k ls) (still-holds h ls s) room)
+          subst (λ (p : Printed). Prints (linesBy outs zeroth (calls (suc i) bs (holding run (map wordsOf ls)) (sets ws 0 (joined (map wordsOf ls))))) p) (sym (rest-goes i b bs k e))
+          (later (holding run (map wordsOf ls)) (sets ws 0 (joined (map wordsOf ls))) (with k ls) (still-holds h ls s) room)
       go (refuses refusal) e s later = λ room. prints-is (rest-ends i b bs k e)
 
 -- ---- over all blocks

@@ -6,7 +6,6 @@ use mathlib.Core.List.{List}
 use mathlib.Core.Option.{Option, none, some}
 use lib.Dec.{ltb}
 use lib.ListN.{length, take, drop}
-use Rattle.answers.specs.declared.Refusal.{Refusal}
 use Rattle.answers.specs.declared.Refusal.the-variants.{Malformed, Contents, Places}
 use Rattle.format.specs.Blocks.{bodyAt}
 use Rattle.format.specs.Forms.{shapeOf, width, sameForm}
@@ -17,6 +16,7 @@ use Rattle.source.specs.Totals.{freshTotals, withBlock}
 use Rattle.trace.specs.Reading.{blockOf}
 use Rattle.trace.specs.declared.Block.{Block}
 use Rattle.trace.specs.declared.Block.the-variants as read
+use Rattle.walk.specs.Steps.{Next, goes, refuses}
 use Rattle.mixed.specs.Places.{foundBy, renewedBy, addedBy}
 use Rattle.mixed.specs.Lines.{Holding}
 
@@ -28,32 +28,29 @@ mostLines = 16
 unfoldable pub counted : Form → ℕ → List ℕ → Totals → Totals
 counted form n b t = withBlock t (blockCount (t .source) (width (shapeOf form)) (take (n * width (shapeOf form)) (drop bodyAt b)))
 
--- the lines behind a block, or its refusal
-pub data Next (A : Type 0) : Type 0 where
-  goes : List A → Next A
-  refuses : Refusal → Next A
+-- ---- the lines behind a block, or its refusal
 
 -- a new SSRC: 15 where all lines are held
-abbrev pub newLine : {A : Type 0} → Holding A → (Totals → Totals) → ℕ → List A → Next A
+abbrev pub newLine : {A : Type 0} → Holding A → (Totals → Totals) → ℕ → List A → Next (List A)
 newLine h count ssrc ls = cond (ltb (length ls) mostLines) (goes (addedBy (h .ssrcOf) (h .line ssrc (count freshTotals)) ls)) (refuses Places)
 
 -- one that a line has: 9 for a malformed one
-abbrev pub heldLine : {A : Type 0} → Holding A → (Totals → Totals) → ℕ → List A → Option Totals → Next A
+abbrev pub heldLine : {A : Type 0} → Holding A → (Totals → Totals) → ℕ → List A → Option Totals → Next (List A)
 heldLine h count ssrc ls (some t) = goes (renewedBy (h .ssrcOf) (h .line ssrc (count t)) ls)
 heldLine h count ssrc ls none = refuses Malformed
 
-abbrev pub settledBy : {A : Type 0} → Holding A → (Totals → Totals) → ℕ → List A → Option A → Next A
+abbrev pub settledBy : {A : Type 0} → Holding A → (Totals → Totals) → ℕ → List A → Option A → Next (List A)
 settledBy h count ssrc ls none = newLine h count ssrc ls
 settledBy h count ssrc ls (some l) = heldLine h count ssrc ls (h .totals l)
 
-unfoldable pub settled : {A : Type 0} → Holding A → (Totals → Totals) → ℕ → List A → Next A
+unfoldable pub settled : {A : Type 0} → Holding A → (Totals → Totals) → ℕ → List A → Next (List A)
 settled h count ssrc ls = settledBy h count ssrc ls (foundBy (h .ssrcOf) ssrc ls)
 
 -- 14 for another form than the label's, and for a label
-abbrev pub nextBy : {A : Type 0} → Holding A → Form → List ℕ → List A → Block → Next A
+abbrev pub nextBy : {A : Type 0} → Holding A → Form → List ℕ → List A → Block → Next (List A)
 nextBy h own b ls (read.Arrivals form n ssrc) = cond (sameForm form own) (settled h (counted own n b) ssrc ls) (refuses Contents)
 nextBy h own b ls (read.Label form n ssrc) = refuses Contents
 nextBy h own b ls (read.Refused refusal) = refuses refusal
 
-unfoldable pub nextOf : {A : Type 0} → Holding A → Form → List ℕ → List A → Next A
+unfoldable pub nextOf : {A : Type 0} → Holding A → Form → List ℕ → List A → Next (List A)
 nextOf h own b ls = nextBy h own b ls (blockOf b)

@@ -1,6 +1,6 @@
 -- The whole run (document 02, L1): what ecnstreams prints for a trace.
 use Prim.Native.Nat.{ℕ}
-use mathlib.Core.List.{List, [], _∷_, map}
+use mathlib.Core.List.{List, [], map}
 use mathlib.Core.Option.{Option, none, some}
 use lib.ListN.{take, drop}
 use Rattle.answers.specs.Refusals.{numberOf}
@@ -13,19 +13,17 @@ use Rattle.trace.specs.declared.Block.{Block}
 use Rattle.trace.specs.declared.Block.the-variants as read
 use Rattle.table.specs.Lines.{headBytes, rowBytes, refusedLine}
 use Rattle.walk.specs.Blocks.{blocksOf, joined}
-use Rattle.walk.specs.Programs.{Printed, nothing, Turn, Ending, Program, printedBy}
+use Rattle.walk.specs.Programs.{Printed, nothing, toOutput, Turn, Ending, Program, printedBy}
+use Rattle.walk.specs.Steps.{Next, goes, refuses}
 use Rattle.mixed.specs.declared.Line.{Line}
 use Rattle.mixed.specs.Lines.{byValue}
-use Rattle.mixed.specs.Blocks.{Next, goes, refuses, nextOf}
+use Rattle.mixed.specs.Blocks.{nextOf}
 
 -- the form and the label of block 0, and the lines so far
 pub record Kept : Type 0 where
   pub form : Form
   pub label : List ℕ
   pub lines : List Line
-
-abbrev pub toOutput : List ℕ → Printed
-toOutput bytes = record { out = bytes; err = [] }
 
 -- block 0: the head line always; a label starts a run, 14 for arrivals
 abbrev pub begunBy : List ℕ → Block → Turn Kept
@@ -38,7 +36,7 @@ begunBy zeroth (read.Arrivals form n ssrc) = record { state = record { form = On
 begunBy zeroth (read.Refused refusal) = record { state = record { form = One; label = []; lines = [] }; printed = toOutput headBytes; refusal = some refusal }
 
 -- nothing is printed after an arrivals block
-abbrev pub taken : Kept → Next Line → Turn Kept
+abbrev pub taken : Kept → Next (List Line) → Turn Kept
 taken k (goes ls) = record { state = record { form = k .form; label = k .label; lines = ls }; printed = nothing; refusal = none }
 taken k (refuses refusal) = record { state = k; printed = nothing; refusal = some refusal }
 

@@ -15,17 +15,16 @@ use Rattle.trace.specs.Reading.{blockOf}
 use Rattle.trace.specs.declared.Block.the-variants.{Label, Arrivals}
 use Rattle.table.specs.Lines.{headBytes, refusedLine}
 use Rattle.walk.specs.Blocks.{Blocks, blocksOf}
-use Rattle.walk.specs.Programs.{both, walked, printedBy}
+use Rattle.walk.specs.Programs.{both, toOutput, walked, printedBy}
+use Rattle.walk.specs.Steps.{Next, goes, refuses}
 use Rattle.mixed.specs.declared.Line.{Line}
 use Rattle.mixed.specs.declared.Run.{Run}
 use Rattle.mixed.specs.declared.Begin.{Begin}
 use Rattle.mixed.specs.declared.Begin.the-variants as begin
-use Rattle.mixed.specs.declared.Step.{Step}
-use Rattle.mixed.specs.declared.Step.the-variants as step
 use Rattle.mixed.specs.Blocks.{mostLines}
-use Rattle.mixed.specs.Runs.{startOf, callNext, stepOf, storedOf}
+use Rattle.mixed.specs.Runs.{startOf, callNext, Carried, carriedBy}
 use Rattle.mixed.specs.Rows.{rowFault, rowOf}
-use Rattle.mixed.specs.Tables.{toOutput, ended, ecnstreams, printed}
+use Rattle.mixed.specs.Tables.{ended, ecnstreams, printed}
 
 -- ---- a list of calls: one for each block, on the run and the words that the call before handed back
 
@@ -34,13 +33,13 @@ pub data Walked : Type 0 where
   whole : Run → List ℕ → Walked
   refused : Refusal → ℕ → Walked
 
-abbrev pub answered : ℕ → Step → List ℕ → (Run → List ℕ → Walked) → Walked
-answered i (step.Taken next) ws more = more next ws
-answered i (step.Refused refusal run) ws more = refused refusal i
+abbrev pub answered : ℕ → Next Carried → (Run → List ℕ → Walked) → Walked
+answered i (goes k) more = more (k .run) (k .words)
+answered i (refuses refusal) more = refused refusal i
 
 unfoldable pub calls : ℕ → List (List ℕ) → Run → List ℕ → Walked
 calls i [] run ws = whole run ws
-calls i (b ∷ bs) run ws = answered i (stepOf run (callNext run ws b)) (storedOf ws (callNext run ws b)) (calls (suc i) bs)
+calls i (b ∷ bs) run ws = answered i (carriedBy run ws (callNext run ws b)) (calls (suc i) bs)
 
 abbrev pub callsBy : Blocks → List ℕ → Begin → Walked
 callsBy bs ws (begin.Started run) = calls 1 (bs .others) run ws

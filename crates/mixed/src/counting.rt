@@ -6,6 +6,7 @@ use crate::words;
 use crate::words::Loaded;
 use crate::words::WORDS;
 use answers::Refusal;
+use answers::Written;
 use engine::count_block;
 use format::Form;
 use format::block::BODY;
@@ -15,12 +16,23 @@ ghost use mathlib.Core.Bool.{true};
 ghost use mathlib.Core.List.{[]};
 ghost use Prim.Native.Nat.{_<_};
 ghost use lib.ListN.{getD};
+ghost use Rattle.answers.specs.declared.Written.the-variants.{Refused};
 ghost use Rattle.trace.specs.Reading.{blockOf};
 ghost use Rattle.trace.specs.declared.Block.{Block};
 ghost use Rattle.mixed.specs.Lines.{linesIn, inWords, ssrcIn};
-ghost use Rattle.mixed.specs.Places.{foundBy, placeBy};
+ghost use Rattle.mixed.specs.Places.{placeBy};
 ghost use Rattle.mixed.specs.Blocks.{counted, newLine, heldLine, settled};
-ghost use Rattle.mixed.specs.Runs.{soundRun, Stepped};
+ghost use Rattle.mixed.specs.Runs.{soundRun, TakesBlock};
+
+// A refusal, with the run that was given.
+pub fn refused(run: Run, refusal: Refusal) -> Step
+    ensures { λ r. ⌜ r ≡ record { answer = Refused refusal; run = run } ⌝ }
+{
+    Step {
+        answer: Written::Refused(refusal),
+        run,
+    }
+}
 
 // The totals with the n arrivals of a block.
 fn counted(totals: Totals, form: Form, n: usize, ssrc: u32, block: &[u8]) -> Totals
@@ -36,12 +48,12 @@ fn counted(totals: Totals, form: Form, n: usize, ssrc: u32, block: &[u8]) -> Tot
 // A new SSRC: its line is put in its place among the others.
 fn add(run: Run, n: usize, ssrc: u32, lines: &mut [u64], block: &[u8]) -> Step
     requires { ⌜ (soundRun run (now lines) ≡ true) × (blockOf (now block) ≡ Block.Arrivals (run .form) n ssrc) ⌝ }
-    ensures { λ r. ⌜ Stepped run (now (lines .entry)) (newLine inWords (counted (run .form) n (now (block .entry))) ssrc (linesIn (run .held) (now (lines .entry)))) r (now (lines .exit)) ⌝ }
+    ensures { λ r. ⌜ TakesBlock run (now (lines .entry)) (newLine inWords (counted (run .form) n (now (block .entry))) ssrc (linesIn (run .held) (now (lines .entry)))) r (now (lines .exit)) ⌝ }
 {
     let form = run.form;
     let held = run.held;
     if Run::MOST <= held {
-        return Step::Refused(Refusal::Places, run);
+        return refused(run, Refusal::Places);
     }
     let totals = counted(Totals::fresh(), form, n, ssrc, block);
     let at = finding::lower(lines, held, ssrc);
@@ -49,34 +61,41 @@ fn add(run: Run, n: usize, ssrc: u32, lines: &mut [u64], block: &[u8]) -> Step
     let from = WORDS * at;
     let end = from + WORDS;
     words::store(ssrc, totals, &mut lines[from..end]);
-    Step::Taken(Run {
+    let next = Run {
         form,
         length: run.length,
         held: held + 1,
-    })
+    };
+    Step {
+        answer: Written::Length(0),
+        run: next,
+    }
 }
 
 // An SSRC that line `at` has.
 fn renew(run: Run, at: usize, n: usize, ssrc: u32, lines: &mut [u64], block: &[u8]) -> Step
     requires { ⌜ (soundRun run (now lines) ≡ true) × (blockOf (now block) ≡ Block.Arrivals (run .form) n ssrc) ⌝ }
     requires { ⌜ (at < run .held) × (at ≡ placeBy ssrcIn ssrc (linesIn (run .held) (now lines))) ⌝ }
-    ensures { λ r. ⌜ Stepped run (now (lines .entry)) (heldLine inWords (counted (run .form) n (now (block .entry))) ssrc (linesIn (run .held) (now (lines .entry))) (inWords .totals (getD (linesIn (run .held) (now (lines .entry))) at []))) r (now (lines .exit)) ⌝ }
+    ensures { λ r. ⌜ TakesBlock run (now (lines .entry)) (heldLine inWords (counted (run .form) n (now (block .entry))) ssrc (linesIn (run .held) (now (lines .entry))) (inWords .totals (getD (linesIn (run .held) (now (lines .entry))) at []))) r (now (lines .exit)) ⌝ }
 {
     let form = run.form;
     let from = WORDS * at;
     let end = from + WORDS;
     let Loaded::Held(before) = words::load(&lines[from..end]) else {
-        return Step::Refused(Refusal::Malformed, run);
+        return refused(run, Refusal::Malformed);
     };
     let totals = counted(before, form, n, ssrc, block);
     words::store(ssrc, totals, &mut lines[from..end]);
-    Step::Taken(run)
+    Step {
+        answer: Written::Length(0),
+        run,
+    }
 }
 
 // Counts the n arrivals of a block.
 pub fn arrivals(run: Run, n: usize, ssrc: u32, lines: &mut [u64], block: &[u8]) -> Step
     requires { ⌜ (soundRun run (now lines) ≡ true) × (blockOf (now block) ≡ Block.Arrivals (run .form) n ssrc) ⌝ }
-    ensures { λ r. ⌜ Stepped run (now (lines .entry)) (settled inWords (counted (run .form) n (now (block .entry))) ssrc (linesIn (run .held) (now (lines .entry)))) r (now (lines .exit)) ⌝ }
+    ensures { λ r. ⌜ TakesBlock run (now (lines .entry)) (settled inWords (counted (run .form) n (now (block .entry))) ssrc (linesIn (run .held) (now (lines .entry)))) r (now (lines .exit)) ⌝ }
 {
     let at = finding::find(lines, run.held, ssrc);
     if at < run.held {

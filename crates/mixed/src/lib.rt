@@ -9,7 +9,7 @@ use trace::read::fault_of;
 use trace::read::read_block;
 ghost use mathlib.Core.Path.{_≡_};
 ghost use Rattle.answers.specs.Writers.{Wrote};
-ghost use Rattle.mixed.specs.Runs.{startOf, callNext, Stepped};
+ghost use Rattle.mixed.specs.Runs.{startOf, callNext, TakesBlock};
 ghost use Rattle.mixed.specs.Rows.{rowFault, rowOf};
 
 mod counting;
@@ -37,10 +37,10 @@ pub enum Begin {
     Refused(Refusal),
 }
 
-// The answer to a later block: the next run, or a refusal with the run that was given.
-pub enum Step {
-    Taken(Run),
-    Refused(Refusal, Run),
+// The answer to a later block: a writer's that has no bytes to write, and the next run, or with a refusal the run that was given.
+pub struct Step {
+    pub answer: Written,
+    pub run: Run,
 }
 
 impl Run {
@@ -72,17 +72,17 @@ impl Run {
     // Takes a later block, which must hold arrivals of the label's form: they are counted in the line of their SSRC. Refusals: 9 a malformed run or too few
     // words; 1, 13 and 14, as `read_block` gives them, and 14 for a label or another form; 9 a malformed line of that SSRC; 15 a seventeenth SSRC.
     pub fn block(self, lines: &mut [u64], block: &[u8]) -> Step
-        ensures { λ r. ⌜ Stepped self (now (lines .entry)) (callNext self (now (lines .entry)) (now (block .entry))) r (now (lines .exit)) ⌝ }
+        ensures { λ r. ⌜ TakesBlock self (now (lines .entry)) (callNext self (now (lines .entry)) (now (block .entry))) r (now (lines .exit)) ⌝ }
     {
         if !soundness::is_sound(self, lines) {
-            return Step::Refused(Refusal::Malformed, self);
+            return counting::refused(self, Refusal::Malformed);
         }
         let read = read_block(block);
         let Block::Arrivals { form, count, ssrc } = read else {
-            return Step::Refused(fault_of(read), self);
+            return counting::refused(self, fault_of(read));
         };
         if !soundness::is_of_trace(self, form) {
-            return Step::Refused(Refusal::Contents, self);
+            return counting::refused(self, Refusal::Contents);
         }
         counting::arrivals(self, count, ssrc, lines, block)
     }

@@ -3,3 +3,4 @@ pub mod BigEndian
 pub mod Integers
 pub mod Differences
 pub mod Signed
+pub mod Octets

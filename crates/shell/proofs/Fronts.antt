@@ -1,6 +1,6 @@
--- Bytes moved to the front of a buffer, one after another. Assumes nothing.
+-- Bytes at the front of a buffer: those that are printed, and those that are moved there one after another. Assumes nothing.
 use mathlib.Core.Path.{_≡_, refl, sym, ap, _∙_}
-use mathlib.Core.Bool.{Bool, true, false}
+use mathlib.Core.Bool.{Bool, true, false, cond}
 use mathlib.Core.List.{List}
 use Prim.Native.Nat.{ℕ, suc, _+_, _-_, _≤_, _<_, min}
 use native.Mathlib.Nat.{add-comm}
@@ -11,6 +11,8 @@ use lib.Dec.{leb}
 use lib.ListN.{length, take, drop, set, getD, length-drop}
 use lib.Seq.{sets, drop-drop, drop-set-lt, getD-drop, getD-take, length-take-le}
 use Rattle.answers.proofs.Stores.{sets-turn}
+use Rattle.shell.specs.Kept.{dueOf}
+use Rattle.shell.specs.declared.printing.Output.{Output}
 
 -- a turn: the bytes from i on are still the old ones, so the one that is moved is
 module _ (old buffer : List ℕ) (from n i : ℕ) (turn : i < n) (room : from + n ≤ length old) (same : drop i buffer ≡ drop i old) where
@@ -47,3 +49,12 @@ front-clipped old used bytes {end} e = go (leb bytes used) refl
     go false h =
         let none : used - end ≡ 0 = omega (arith, leb-false bytes used h) in
         ap (λ (k : ℕ). take k (drop end old)) none ∙ sym (ap (λ (k : ℕ). take k (drop bytes old)) none)
+
+-- no more is printed than the buffer has
+pub due-within : (out : Output) (n : ℕ) → dueOf out n ≤ n
+unfolding dueOf
+due-within out n = go (out .failed)
+  where
+    go : (t : Bool) → cond t 0 (min (out .used) n) ≤ n
+    go true = omega arith
+    go false = omega arith

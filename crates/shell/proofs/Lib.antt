@@ -1,3 +1,6 @@
--- The laws that other crates cite.
-pub mod Blocks
+-- The laws of this crate.
+mod Answered
+mod Filling
 mod Fronts
+mod Joining
+mod Taking

@@ -1,2 +1,5 @@
-pub mod Ranges
+pub mod Tries
+pub mod Fills
+pub mod Writes
 pub mod Kept
+pub mod Told

@@ -1,65 +1,97 @@
 // Lines kept in a lent buffer and printed in large pieces, on standard output or standard error.
 use crate::clipped::least;
 use crate::failures::tell;
+use crate::retries::Outcome;
 use crate::retries::TRIES;
-use crate::retries::tries_after;
+use crate::retries::judged;
 use answers::Written;
 use libc::STDOUT_FILENO;
-use table::write_refused;
 ghost use mathlib.Core.Path.{_≡_};
-ghost use mathlib.Core.Bool.{false};
-ghost use Prim.Native.Nat.{_-_, _≤_};
+ghost use mathlib.Core.Bool.{false, _||_};
+ghost use Prim.Native.Nat.{_+_, _-_, _≤_, _<_};
 ghost use lib.ListN.{length, take, drop};
 ghost use lib.Seq.{sets};
-ghost use Rattle.shell.specs.Kept.{Empty, Flushed, Kept, Moved, Roomy};
-
-// More than `refused N block I` takes: a number of 3 digits at most, a block's of 20, the words between them, CR and LF.
-const REFUSED: usize = 64;
+ghost use Rattle.answers.specs.Writers.{lengthIn};
+ghost use Rattle.shell.specs.Kept.{Empty, Flushed, Kept, Moved, dueOf};
+ghost use Rattle.shell.specs.Tries.{bytesIn};
+ghost use Rattle.shell.specs.Writes.{Ended, unwritten, isUnwritten, hasFailed, isTold, writingAfter};
 
 // The file descriptor, how many bytes at the front of the lent buffer are kept for it, and whether a write to it has failed. Nothing is
-// printed behind a failure.
+// printed after a failure.
 pub struct Output {
     pub fd: i32,
     pub used: usize,
     pub failed: bool,
 }
 
-// Writes once, and again where that was interrupted or took nothing. Answers how many bytes were taken; none is a failure, which errno names.
-fn write_some(fd: i32, part: &[u8]) -> usize
-    ensures { λ r. ⌜ r ≤ length (now (part .entry)) ⌝ }
-{
-    let mut left = TRIES;
-    while 0 < left {
-        let put = libc::write(fd, part);
-        let n = io::count(put, part);
-        if 0 < n {
-            return n;
-        }
-        if put == 0 {
-            left /= 2;
-        } else {
-            left = tries_after(left, os::errno());
-        }
-    }
-    0
+// How many bytes were taken, and the tries left for the next write: none if one has failed.
+struct Writing {
+    at: usize,
+    left: u64,
 }
 
-// Writes all of the bytes, and answers whether they were taken.
-fn write_all(fd: i32, bytes: &[u8]) -> bool {
-    let mut at = 0;
-    while at < bytes.len() {
-        let put = write_some(fd, &bytes[at..]);
-        if put == 0 {
+impl Writing {
+    // Before the first write.
+    fn begun() -> Writing
+        ensures { λ r. ⌜ r ≡ unwritten ⌝ }
+    {
+        Writing { at: 0, left: TRIES }
+    }
+
+    // Whether a write has failed.
+    fn has_failed(self) -> bool
+        ensures { λ r. ⌜ r ≡ hasFailed self ⌝ }
+    {
+        self.left == 0
+    }
+
+    // Whether more of so many bytes is written: if some are left and no write has failed.
+    fn goes_on(self, length: usize) -> bool
+        ensures { λ r. ⌜ r ≡ isUnwritten self length ⌝ }
+    {
+        if self.left == 0 {
             return false;
         }
-        at += put;
+        self.at < length
     }
-    true
+
+    // After a write: its bytes count, and the next has all tries again; one that took nothing leaves half of the tries.
+    fn after(self, outcome: Outcome) -> Writing
+        requires { ⌜ self .at + bytesIn outcome < 18446744073709551616 ⌝ }
+        ensures { λ r. ⌜ r ≡ writingAfter self outcome ⌝ }
+    {
+        let at = self.at;
+        match outcome {
+            Outcome::Bytes(n) => Writing {
+                at: at + n,
+                left: TRIES,
+            },
+            Outcome::Nothing => Writing {
+                at,
+                left: self.left / 2,
+            },
+            Outcome::Again(left) => Writing { at, left },
+            Outcome::Failed => Writing { at, left: 0 },
+        }
+    }
+}
+
+// Writes the bytes, to the last of them or to a failure, which errno names.
+fn write_all(fd: i32, bytes: &[u8]) -> Writing
+    ensures { λ r. ⌜ Ended (length (now (bytes .entry))) r ⌝ }
+{
+    let mut writing = Writing::begun();
+    while writing.goes_on(bytes.len()) {
+        let at = writing.at;
+        let answer = libc::write(fd, &bytes[at..]);
+        writing = writing.after(judged(answer, os::errno(), writing.left, bytes.len() - at));
+    }
+    writing
 }
 
 // An output for which nothing is kept.
 fn empty(fd: i32, failed: bool) -> Output
-    ensures { λ r. ⌜ Empty failed r ⌝ }
+    ensures { λ r. ⌜ Empty fd failed r ⌝ }
 {
     Output {
         fd,
@@ -84,9 +116,39 @@ fn move_front(buffer: &mut [u8], from: usize, to: usize)
 impl Output {
     // An output for which nothing is kept yet.
     pub fn new(fd: i32) -> Output
-        ensures { λ r. ⌜ Empty false r ⌝ }
+        ensures { λ r. ⌜ Empty fd false r ⌝ }
     {
         empty(fd, false)
+    }
+
+    // How many bytes of a buffer of so many are to be printed: those that are kept, and none after a failure.
+    fn due(self, length: usize) -> usize
+        ensures { λ r. ⌜ r ≡ dueOf self length ⌝ }
+    {
+        if self.failed {
+            return 0;
+        }
+        least(self.used, length)
+    }
+
+    // Whether it is told that a write has failed: only of standard output, since nothing can be told if standard error has failed.
+    fn is_told(self, done: Writing) -> bool
+        ensures { λ r. ⌜ r ≡ isTold (self .fd) done ⌝ }
+    {
+        if !done.has_failed() {
+            return false;
+        }
+        self.fd == STDOUT_FILENO
+    }
+
+    // Once all is written, or a write has failed: nothing is kept.
+    fn emptied(self, done: Writing) -> Output
+        ensures { λ r. ⌜ Empty (self .fd) (self .failed || hasFailed done) r ⌝ }
+    {
+        if self.failed {
+            return empty(self.fd, true);
+        }
+        empty(self.fd, done.has_failed())
     }
 
     // Prints what is kept. A write that fails is told on standard error, but for one to standard error itself.
@@ -94,21 +156,15 @@ impl Output {
         ensures { λ r. ⌜ Flushed self r ⌝ }
     {
         let from = 0;
-        let fd = self.fd;
-        let end = least(self.used, buffer.len());
-        if self.failed {
-            return empty(fd, true);
-        }
-        if write_all(fd, &buffer[from..end]) {
-            return empty(fd, false);
-        }
-        if fd == STDOUT_FILENO {
+        let end = self.due(buffer.len());
+        let done = write_all(self.fd, &buffer[from..end]);
+        if self.is_told(done) {
             tell(program, b"writing standard output");
         }
-        empty(fd, true)
+        self.emptied(done)
     }
 
-    // Prints the first bytes of what is kept, at most so many, and moves those behind them to the front of the buffer.
+    // Prints the first bytes of what is kept, at most so many, and moves those after them to the front of the buffer.
     pub fn with_printed(self, bytes: usize, program: &[u8], buffer: &mut [u8]) -> Output
         ensures { λ r. ⌜ Moved bytes self (now (buffer .entry)) r (now (buffer .exit)) ⌝ }
     {
@@ -129,43 +185,28 @@ impl Output {
         }
     }
 
-    // Prints what is kept where less room than this is left behind it.
-    pub fn with_room(self, room: usize, program: &[u8], buffer: &[u8]) -> Output
-        ensures { λ r. ⌜ Roomy (length (now (buffer .entry))) room self r ⌝ }
-    {
-        if buffer.len() < self.used {
-            return self.flushed(program, buffer);
-        }
-        if buffer.len() - self.used < room {
-            return self.flushed(program, buffer);
-        }
-        self
-    }
-
-    // Keeps so many bytes more, which the caller has stored behind those that are kept.
+    // Keeps so many bytes more, which the caller has stored after those that are kept.
     pub fn with_kept(self, bytes: usize, buffer: &[u8]) -> Output
         ensures { λ r. ⌜ Kept (length (now (buffer .entry))) bytes self r ⌝ }
     {
-        let fd = self.fd;
         let failed = self.failed;
         let used = least(self.used, buffer.len());
         let more = least(bytes, buffer.len() - used);
         Output {
-            fd,
+            fd: self.fd,
             used: used + more,
             failed,
         }
     }
 
-    // Keeps the line `refused N block I`.
-    pub fn with_refused(self, number: u8, block: u64, program: &[u8], buffer: &mut [u8]) -> Output
-        ensures { λ r. ⌜ r .used ≤ length (now (buffer .exit)) ⌝ }
+    // Keeps what a writer wrote after the bytes that are kept.
+    pub fn with_written(self, answer: Written, buffer: &[u8]) -> Output
+        ensures { λ r. ⌜ Kept (length (now (buffer .entry))) (lengthIn answer) self r ⌝ }
     {
-        let out = self.with_room(REFUSED, program, buffer);
-        let used = out.used;
-        match write_refused(number, block, &mut buffer[used..]) {
-            Written::Length(n) => out.with_kept(n, buffer),
-            _ => out,
+        match answer {
+            Written::Length(n) => self.with_kept(n, buffer),
+            Written::Room(_) => self.with_kept(0, buffer),
+            Written::Refused(_) => self.with_kept(0, buffer),
         }
     }
 }

@@ -1,14 +1,14 @@
-// The blocks of standard input in turn.
-use crate::clipped::least;
-use crate::failures::tell_reading;
+// Standard input, read in pieces of whole blocks.
+use crate::retries::Outcome;
 use crate::retries::TRIES;
-use crate::retries::tries_after;
+use crate::retries::judged;
 use format::block::BLOCK;
 use libc::STDIN_FILENO;
 ghost use mathlib.Core.Path.{_≡_};
-ghost use Prim.Native.Nat.{_<_, _≤_};
+ghost use Prim.Native.Nat.{_+_, _<_};
 ghost use lib.ListN.{length};
-ghost use Rattle.shell.specs.Ranges.{Came, Within, nextOf};
+ghost use Rattle.shell.specs.Fills.{Filled, filling, begun, goesOn, readingAfter, isFailure, leftEnd};
+ghost use Rattle.shell.specs.Tries.{bytesIn};
 
 // How the input stands: more may come, it has ended, or a read has failed.
 pub enum Ahead {
@@ -17,139 +17,105 @@ pub enum Ahead {
     Failure,
 }
 
-// The bytes of the lent buffer that are read and not given yet, and what comes behind them.
+// How many bytes at the front of the lent buffer were read, and what comes after them.
 pub struct Input {
-    pub from: usize,
-    pub to: usize,
+    pub bytes: usize,
     pub ahead: Ahead,
 }
 
-// The next block, as a range of the lent buffer, with the input behind it; or that there is none. A block under 512 bytes is the last one.
-pub enum Next {
-    Block { from: usize, to: usize, rest: Input },
-    End,
-    Failed,
+// How far a buffer is filled, and the tries left for the next read.
+struct Reading {
+    input: Input,
+    left: u64,
 }
 
-// What one read brought.
-enum Got {
-    Bytes(usize),
-    End,
-    Failed,
-}
-
-// Tells a failed read under the program's name, if one is given.
-fn tell_at_once(program: &[u8]) {
-    if program.len() == 0 {
-        return;
+impl Reading {
+    // Before the first read.
+    fn begun() -> Reading
+        ensures { λ r. ⌜ r ≡ begun ⌝ }
+    {
+        let input = Input {
+            bytes: 0,
+            ahead: Ahead::More,
+        };
+        Reading { input, left: TRIES }
     }
-    tell_reading(program);
+
+    // Whether a buffer of so many bytes is read into again: while it is not full, and neither the end nor a failure was met.
+    fn goes_on(self, whole: usize) -> bool
+        ensures { λ r. ⌜ r ≡ goesOn self whole ⌝ }
+    {
+        let input = self.input;
+        let ahead = input.ahead;
+        let Ahead::More = ahead else {
+            return false;
+        };
+        input.bytes < whole
+    }
+
+    // After a read: its bytes count, and the next has all tries again; a read that brings none is the end; after a failure only whole blocks count.
+    fn after(self, outcome: Outcome) -> Reading
+        requires { ⌜ self .input .bytes + bytesIn outcome < 18446744073709551616 ⌝ }
+        ensures { λ r. ⌜ r ≡ readingAfter self outcome ⌝ }
+    {
+        let input = self.input;
+        let bytes = input.bytes;
+        match outcome {
+            Outcome::Bytes(n) => reached(bytes + n, Ahead::More, TRIES),
+            Outcome::Nothing => reached(bytes, Ahead::End, self.left),
+            Outcome::Again(left) => reached(bytes, Ahead::More, left),
+            Outcome::Failed => reached(bytes - bytes % BLOCK, Ahead::Failure, self.left),
+        }
+    }
 }
 
-// Reads once into a part of the buffer, and again where that was interrupted or found nothing yet.
-fn read_some(program: &[u8], part: &mut [u8]) -> Got
-    ensures { λ r. ⌜ Came (length (now (part .entry))) r ⌝ }
+// A filling of so many bytes.
+fn reached(bytes: usize, ahead: Ahead, left: u64) -> Reading
+    ensures { λ r. ⌜ r ≡ filling bytes ahead left ⌝ }
 {
-    let mut left = TRIES;
-    while 0 < left {
-        let got = libc::read(STDIN_FILENO, part);
-        let n = io::count(got, part);
-        if 0 < n {
-            return Got::Bytes(n);
-        }
-        if got == 0 {
-            return Got::End;
-        }
-        left = tries_after(left, os::errno());
-    }
-    tell_at_once(program);
-    Got::Failed
+    let input = Input { bytes, ahead };
+    Reading { input, left }
 }
 
-// Fills the buffer with as many whole blocks as fit. Where a read fails only the whole blocks before it are kept.
-fn fill(program: &[u8], buffer: &mut [u8]) -> Input
-    ensures { λ r. ⌜ r .to ≤ length (now (buffer .entry)) ⌝ }
+// Fills the buffer from its front with as many whole blocks as fit. Where a read fails only the whole blocks before it count, and the caller tells the
+// failure (`tell_reading`, before another call of the system fails).
+pub fn fill(buffer: &mut [u8]) -> Input
+    ensures { λ r. ⌜ Filled (length (now (buffer .entry))) r ⌝ }
 {
     let whole = buffer.len() - buffer.len() % BLOCK;
-    let mut at = 0;
-    while at < whole {
-        match read_some(program, &mut buffer[at..whole]) {
-            Got::Bytes(n) => {
-                at += n;
-            }
-            Got::End => {
-                return Input {
-                    from: 0,
-                    to: at,
-                    ahead: Ahead::End,
-                };
-            }
-            Got::Failed => {
-                return Input {
-                    from: 0,
-                    to: at - at % BLOCK,
-                    ahead: Ahead::Failure,
-                };
-            }
-        }
+    let mut reading = Reading::begun();
+    while reading.goes_on(whole) {
+        let input = reading.input;
+        let at = input.bytes;
+        let answer = libc::read(STDIN_FILENO, &mut buffer[at..whole]);
+        reading = reading.after(judged(answer, os::errno(), reading.left, whole - at));
     }
-    Input {
-        from: 0,
-        to: at,
-        ahead: Ahead::More,
-    }
-}
-
-// The next block of what is held in a buffer of so many bytes, or what comes behind it. (Where more may come the buffer has no room for a block.)
-fn first_of(held: Input, length: usize) -> Next
-    ensures { λ r. ⌜ r ≡ nextOf held length ⌝ }
-{
-    let from = held.from;
-    let to = least(held.to, length);
-    let ahead = held.ahead;
-    if from < to {
-        let end = from + least(to - from, BLOCK);
-        let rest = Input {
-            from: end,
-            to,
-            ahead,
-        };
-        return Next::Block {
-            from,
-            to: end,
-            rest,
-        };
-    }
-    match ahead {
-        Ahead::More => Next::Failed,
-        Ahead::End => Next::End,
-        Ahead::Failure => Next::Failed,
-    }
+    reading.input
 }
 
 impl Input {
-    // Fills the buffer with as many whole blocks as fit in it, and gives the first. A read that fails is told on standard error at once, or, where the
-    // program's name is empty, by the caller (`tell_reading`, before another call of the system fails); the whole blocks before it are still given, and then
-    // the failure.
-    pub fn begin(program: &[u8], buffer: &mut [u8]) -> Next
-        ensures { λ r. ⌜ Within (length (now (buffer .entry))) r ⌝ }
-    {
-        let held = fill(program, buffer);
-        first_of(held, buffer.len())
-    }
-
-    // Gives the next block. Where the buffer has given all that it held, it or another in its place is filled as by `begin`.
-    pub fn next(self, program: &[u8], buffer: &mut [u8]) -> Next
-        ensures { λ r. ⌜ Within (length (now (buffer .entry))) r ⌝ }
-        ensures { λ r. ⌜ (self .from < self .to → r ≡ nextOf self (length (now (buffer .entry)))) ⌝ }
+    // Whether a read has failed.
+    pub fn has_failed(self) -> bool
+        ensures { λ r. ⌜ r ≡ isFailure (self .ahead) ⌝ }
     {
         let ahead = self.ahead;
-        if self.from < self.to {
-            return first_of(self, buffer.len());
+        match ahead {
+            Ahead::More => false,
+            Ahead::End => false,
+            Ahead::Failure => true,
         }
-        let Ahead::More = ahead else {
-            return first_of(self, buffer.len());
-        };
-        Input::begin(program, buffer)
+    }
+
+    // Where what is left in a buffer of so many bytes ends: after a failed read one byte more is left, since a block that could not be read is not a whole one.
+    pub fn left_end(self, length: usize) -> usize
+        ensures { λ r. ⌜ r ≡ leftEnd self length ⌝ }
+    {
+        if length <= self.bytes {
+            return length;
+        }
+        if self.has_failed() {
+            return self.bytes + 1;
+        }
+        self.bytes
     }
 }

@@ -7,7 +7,7 @@ use lib.ListN.{length, set, length-append}
 use lib.Seq.{sets}
 use Rattle.answers.proofs.Stores.{sets-step}
 use Rattle.table.specs.Decimal.{decimal}
-use Rattle.table.specs.Texts.{codes}
+use Rattle.answers.specs.Texts.{codes}
 use Rattle.table.specs.Lines.{refusedLine}
 use Rattle.table.proofs.Backwards.{store-end}
 

@@ -1,4 +1,3 @@
-pub mod Texts
 pub mod Decimal
 pub mod Field
 pub mod Rfc4180

@@ -10,7 +10,7 @@ use Rattle.source.specs.declared.Totals.{Totals}
 use Rattle.source.specs.Record.{sound, lost}
 use Rattle.source.specs.Totals.{mostTold}
 use Rattle.trace.specs.Contents.{labelOk}
-use Rattle.table.specs.Texts.{codes}
+use Rattle.answers.specs.Texts.{codes}
 use Rattle.table.specs.Decimal.{decimal, signed}
 use Rattle.table.specs.Field.{asField, line}
 

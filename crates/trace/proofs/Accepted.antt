@@ -27,7 +27,7 @@ use Rattle.trace.specs.declared.Block.the-variants.{Label, Arrivals, Ref
 use Rattle.trace.specs.declared.Found.the-variants.{Is}
 use Rattle.trace.specs.declared.Record.{Record}
 use Rattle.trace.proofs.Decisions.{count-right, found-there, label-taken, label-rest, lists-taken, lists-rest}
-use Rattle.trace.proofs.Octets.{octets-take, octets-drop, bytes-word}
+use Rattle.numbers.proofs.Octets.{octets-take, octets-drop, bytes-word}
 use Rattle.trace.proofs.Records.{record-next, record-at, of-shape-in, of-shape-times, bytes-records, length-list, length-recordsIn, marks-in, times, marks}
 use Rattle.trace.proofs.Checks.{right-checked}
 

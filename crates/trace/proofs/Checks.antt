@@ -16,7 +16,7 @@ use Rattle.trace.specs.Layout.{checked}
 use Rattle.trace.specs.Reading.{rightCheck, checkIn}
 use Rattle.trace.proofs.Tallies.{tally, tally-append}
 use Rattle.trace.proofs.Sums.{total, carried, ones-total, words-append}
-use Rattle.trace.proofs.Octets.{octets-append, octets-bytes, octets-take, bytes-word, read-last}
+use Rattle.numbers.proofs.Octets.{octets-append, octets-bytes, octets-take, bytes-word, read-last}
 
 -- ---- numbers
 

@@ -3,8 +3,8 @@ pub mod Tallies
 pub mod Sums
 pub mod Labels
 pub mod Decisions
+pub mod Placed
 pub mod Layouts
-pub mod Octets
 pub mod Limits
 pub mod Records
 pub mod Checks

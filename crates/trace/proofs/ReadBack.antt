@@ -27,7 +27,7 @@ use Rattle.trace.proofs.Tallies.{tally}
 use Rattle.trace.proofs.Sums.{total}
 use Rattle.trace.proofs.Decisions.{found-there, label-short, label-bytes, lists-taken}
 use Rattle.trace.proofs.Layouts.{length-records, length-header, length-filled, length-front, length-checked, length-recordsOf}
-use Rattle.trace.proofs.Octets.{octets-nil, octets-cons, octets-append, octets-bytes, octets-zeros, read-field}
+use Rattle.numbers.proofs.Octets.{octets-nil, octets-cons, octets-append, octets-bytes, octets-zeros, read-field}
 use Rattle.trace.proofs.Checks.{check-right}
 use Rattle.trace.proofs.Records.{AllOfShape, marks, record-at, records-bytes, good-bytes, octets-records}
 

@@ -17,7 +17,7 @@ use Rattle.trace.specs.Contents.{every, isZero, isMark, isTime, goodReco
 use Rattle.trace.specs.Writing.{arrivalsOk, arrivalsFault, bodyOk, bodyFault}
 use Rattle.trace.specs.Theorems.{recordsIn, listOf, recordsFault}
 use Rattle.trace.specs.declared.Record.{Record}
-use Rattle.trace.proofs.Octets.{octets-nil, octets-cons, octets-append, octets-drop, octets-bytes, bytes-word, read-field}
+use Rattle.numbers.proofs.Octets.{octets-nil, octets-cons, octets-append, octets-drop, octets-bytes, bytes-word, read-field}
 use Rattle.trace.proofs.Layouts.{length-record, length-records}
 
 -- ---- the record at a place

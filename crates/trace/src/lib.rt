@@ -7,6 +7,7 @@ mod checksum;
 mod contents;
 mod fields;
 pub mod label;
+pub mod places;
 pub mod read;
 pub mod write;
 
@@ -23,6 +24,22 @@ pub enum Block {
         count: usize,
         ssrc: u32,
     },
+    Refused(Refusal),
+}
+
+// What block 0 of a trace is: a label of `length` bytes, with the trace's form and SSRC; or why it is refused.
+pub enum Zeroth {
+    Label {
+        form: Form,
+        length: usize,
+        ssrc: u32,
+    },
+    Refused(Refusal),
+}
+
+// What a later block of a trace is: `count` arrivals of the label's form and SSRC, or why it is refused.
+pub enum Later {
+    Arrivals { count: usize },
     Refused(Refusal),
 }
 

@@ -17,7 +17,7 @@ module _ {S : Type 0} where
   onward-ended r rest ending e = ap (more r rest) e
 
   -- one rest after another is one rest
-  onward-assoc : (r : Run S) (f g : S → Run S) → onward (onward r f) g ≡ onward r (λ s. onward (f s) g)
+  pub onward-assoc : (r : Run S) (f g : S → Run S) → onward (onward r f) g ≡ onward r (λ s. onward (f s) g)
   unfolding onward
   onward-assoc r f g = go (r .ended) refl
     where

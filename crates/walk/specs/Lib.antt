@@ -1,3 +1,9 @@
 pub mod Blocks
 pub mod Programs
 pub mod Theorems
+pub mod Pieces
+pub mod Fitting
+pub mod Machines
+pub mod Endings
+pub mod Steps
+pub mod Puts

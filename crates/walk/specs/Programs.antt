@@ -14,6 +14,9 @@ pub record Printed : Type 0 where
 abbrev pub nothing : Printed
 nothing = record { out = []; err = [] }
 
+abbrev pub toOutput : List ℕ → Printed
+toOutput bytes = record { out = bytes; err = [] }
+
 abbrev pub both : Printed → Printed → Printed
 both p q = record { out = p .out ++ q .out; err = p .err ++ q .err }
 

@@ -7,10 +7,10 @@ use Rattle.ecnstreams.proofs.with_rows.Statement.{statement}
 use Rattle.ecnstreams.proofs.with_rows.Tie as tie
 
 abbrev Inv-loop : tie.InvT-loop
-Inv-loop run block name lines zeroth rows₀ out₀ i₀ rows out i = length rows ≡ length rows₀
+Inv-loop run block lines zeroth rows₀ out₀ i₀ rows out i = length rows ≡ length rows₀
 
 abbrev μ-loop : tie.MeasureT-loop
-μ-loop run block name lines zeroth rows₀ out₀ i₀ rows out i = run .held - i
+μ-loop run block lines zeroth rows₀ out₀ i₀ rows out i = run .held - i
 
 pub with-rows-spec : {M : Type 1} → statement M
 with-rows-spec =

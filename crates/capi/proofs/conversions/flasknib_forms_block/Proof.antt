@@ -5,6 +5,7 @@ use native.Mathlib.Omega.{arith}
 use denote.Ref.{now}
 use Rattle.numbers.proofs.Signed.{seen-is}
 use Rattle.lent.proofs.ConversionLaws.{held}
+use Rattle.capi.proofs.StepLaws.{takes-as}
 use Rattle.capi.proofs.FormsSteps.{forms-other, forms-stepped, forms-size}
 use Rattle.capi.proofs.conversions.flasknib_forms_block.Statement.{statement}
 use Rattle.capi.proofs.conversions.flasknib_forms_block.Tie as tie
@@ -13,7 +14,7 @@ returns : tie.Need-returns
 returns c =
     let a = c .before .before .before .before .before .before .before .before .before .args in
     let w = forms-other (now (a .words)) (now (a .part)) (now (a .block)) (now (a .out)) (sym (c .before .before .before .load .ensures) ∙ c .before .enum-told .given .1) in
-    record { answers = seen-is (c .minus .result) (search needs) ∙ c .minus .ensures ∙ w .answers; keeps = w .keeps; holds = w .holds; stores = w .stores }
+    record { takes = takes-as (seen-is (c .minus .result) (search needs) ∙ c .minus .ensures) (w .takes); holds = w .holds }
 
 put-back-requires : tie.Need-put-back-requires
 put-back-requires c κs =
@@ -28,7 +29,7 @@ returns-2 c =
     let a = s .before .before .before .before .before .before .before .before .args in
     let e = sym (s .before .before .load .ensures) ∙ s .given .given .1 in
     let w = forms-stepped (now (a .words)) (now (a .part)) (now (a .block)) (now (a .out)) e (c .before .before .before .before .before .before .before .before .block .ensures) (c .before .before .put-back .ensures) in
-    record { answers = seen-is (c .before .before .put-back .result) (search needs) ∙ w .answers; keeps = w .keeps; holds = w .holds; stores = w .stores }
+    record { takes = takes-as (seen-is (c .before .before .put-back .result) (search needs)) (w .takes); holds = w .holds }
 
 pub flasknib-forms-block-spec : {M : Type 1} → statement M
 flasknib-forms-block-spec =

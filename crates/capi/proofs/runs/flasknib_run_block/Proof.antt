@@ -6,6 +6,7 @@ use denote.Ref.{now}
 use Rattle.numbers.proofs.BigEndian.{Octets}
 use Rattle.numbers.proofs.Signed.{seen-is}
 use Rattle.lent.proofs.RunLaws.{held}
+use Rattle.capi.proofs.StepLaws.{takes-as}
 use Rattle.capi.proofs.RunSteps.{run-other, run-stepped, run-size}
 use Rattle.capi.proofs.runs.flasknib_run_block.Statement.{statement}
 use Rattle.capi.proofs.runs.flasknib_run_block.Tie as tie
@@ -13,8 +14,8 @@ use Rattle.capi.proofs.runs.flasknib_run_block.Tie as tie
 returns : tie.Need-returns
 returns c =
     let a = c .before .before .before .before .before .before .before .before .before .args in
-    let w = run-other (now (a .run)) (now (a .zeroth)) (now (a .block)) (now (a .out)) (sym (c .before .before .before .load .ensures) ∙ c .before .enum-told .given .1) in
-    record { answers = seen-is (c .minus .result) (search needs) ∙ c .minus .ensures ∙ w .answers; keeps = w .keeps; stores = w .stores }
+    takes-as (seen-is (c .minus .result) (search needs) ∙ c .minus .ensures)
+    (run-other (now (a .run)) (now (a .zeroth)) (now (a .block)) (now (a .out)) (sym (c .before .before .before .load .ensures) ∙ c .before .enum-told .given .1))
 
 put-back-requires : tie.Need-put-back-requires
 put-back-requires c κs =
@@ -29,8 +30,8 @@ returns-2 c =
     let s = c .before .before .before .before .before .before .before .before .before in
     let a = s .before .before .before .before .before .before .before .before .args in
     let e = sym (s .before .before .load .ensures) ∙ s .given .given .1 in
-    let w = run-stepped (now (a .run)) (now (a .zeroth)) (now (a .block)) (now (a .out)) e (c .before .before .before .before .before .before .block .ensures) (c .before .before .put-back .ensures) in
-    record { answers = seen-is (c .before .before .put-back .result) (search needs) ∙ w .answers; keeps = w .keeps; stores = w .stores }
+    takes-as (seen-is (c .before .before .put-back .result) (search needs))
+    (run-stepped (now (a .run)) (now (a .zeroth)) (now (a .block)) (now (a .out)) e (c .before .before .before .before .before .before .block .ensures) (c .before .before .put-back .ensures))
 
 pub flasknib-run-block-spec : {M : Type 1} → statement M
 flasknib-run-block-spec =

@@ -2,6 +2,7 @@
 use borrow.Author.Needs.{needs}
 use mathlib.Core.Path.{sym, _∙_}
 use denote.Ref.{now}
+use Rattle.capi.proofs.StepLaws.{takes-as}
 use Rattle.capi.proofs.StreamsLaws.{held}
 use Rattle.capi.proofs.StreamsSteps.{streams-other, streams-stepped}
 use Rattle.capi.proofs.streams_runs.flasknib_streams_block.Statement.{statement}
@@ -11,7 +12,7 @@ returns : tie.Need-returns
 returns c =
     let a = c .before .before .before .before .before .before .before .before .args in
     let w = streams-other (now (a .run)) (now (a .lines)) (now (a .block)) (sym (c .before .before .before .load .ensures) ∙ c .before .enum-told .given .1) in
-    record { answers = c .number .ensures ∙ w .answers; keeps = w .keeps; stores = w .stores }
+    record { takes = takes-as (c .number .ensures) (w .takes); holds = w .holds }
 
 put-back-requires : tie.Need-put-back-requires
 put-back-requires c κs =

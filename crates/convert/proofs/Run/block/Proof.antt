@@ -1,57 +1,35 @@
 -- `convert::Run::block` meets its contract. Assumes nothing.
 use borrow.Author.Needs.{needs}
-use mathlib.Core.Path.{sym, ap, _∙_}
 use denote.Ref.{now}
 use Rattle.answers.proofs.Conditions.{was-true, was-false}
-use Rattle.convert.specs.Runs.{refuses}
-use Rattle.convert.proofs.Steps.{call-malformed, call-other, call-foreign, call-goes, of-trace, step-refuses}
+use Rattle.walk.proofs.Putting.{step-refuses}
+use Rattle.convert.specs.Runs.{rowIn, callNext}
+use Rattle.convert.proofs.Steps.{call-malformed, call-sound}
 use Rattle.convert.proofs.Run.block.Statement.{statement}
 use Rattle.convert.proofs.Run.block.Tie as tie
 
 returns : tie.Need-returns
 returns c =
-    let a = c .before .before .before .before .before .args in
-    step-refuses (a .self) (now (a .zeroth)) (now (a .out)) (call-malformed (a .self) (now (a .zeroth)) (now (a .block)) (was-false (c .before .is-sound .ensures) (c .if1 .taken)))
+    let a = c .before .before .before .before .before .before .args in
+    let zeroth = now (a .zeroth) in
+    let b = now (a .block) in
+    step-refuses (a .self) (rowIn zeroth (callNext (a .self) zeroth b)) (now (a .out)) (call-malformed (a .self) zeroth b (was-false (c .before .before .is-sound .ensures) (c .before .if1 .taken))) (c .refused .ensures .0) (c .refused .ensures .1)
+
+step-requires : tie.Need-step-requires
+step-requires c κs = was-true (c .before .before .is-sound .ensures) (c .before .if1 .left)
 
 returns-2 : tie.Need-returns-2
 returns-2 c =
-    let a = c .before .before .before .before .before .before .before .before .args in
-    let read = c .before .before .read-block in
-    step-refuses (a .self) (now (a .zeroth)) (now (a .out))
-    (call-other (a .self) (now (a .zeroth)) (now (a .block)) (was-true (c .before .before .before .before .is-sound .ensures) (c .before .before .before .if1 .left)) (read .result) (sym (read .ensures)) (c .before .match .keys2) ∙ ap refuses (sym (c .fault-of .ensures)))
-
-returns-3 : tie.Need-returns-3
-returns-3 c =
-    let a = c .before .before .before .before .before .before .before .before .before .before .before .args in
-    let read = c .before .before .before .before .before .read-block in
-    step-refuses (a .self) (now (a .zeroth)) (now (a .out))
-    (call-foreign (a .self) (now (a .zeroth)) (now (a .block)) (was-true (c .before .before .before .before .before .before .before .is-sound .ensures) (c .before .before .before .before .before .before .if1 .left)) (sym (read .ensures) ∙ c .before .before .before .read .given .1) (was-false (c .before .is-of-trace .ensures) (c .if2 .taken)))
-
-arrivals-requires : tie.Need-arrivals-requires
-arrivals-requires c κs =
-    let read = c .before .before .before .before .before .before .read-block in
-    let is = c .before .before .before .before .read .given in
-    ((was-true (c .before .before .before .before .before .before .before .before .is-sound .ensures) (c .before .before .before .before .before .before .before .if1 .left)), sym (read .ensures) ∙ is .1 ∙ of-trace (c .before .before .before .before .before .before .before .before .before .before .before .before .args .self) (is .0 .0) (is .0 .1 .0) (is .0 .1 .1 .0) (was-true (c .before .before .is-of-trace .ensures) (c .before .if2 .left)))
-
-returns-4 : tie.Need-returns-4
-returns-4 c =
-    let a = c .before .before .before .before .before .before .before .before .before .before .before .before .before .before .before .args in
-    let read = c .before .before .before .before .before .before .before .before .before .read-block in
-    rw (call-goes (a .self) (now (a .zeroth)) (now (a .block)) (was-true (c .before .before .before .before .before .before .before .before .before .before .before .is-sound .ensures) (c .before .before .before .before .before .before .before .before .before .before .if1 .left)) (sym (read .ensures) ∙ c .before .before .before .before .before .before .before .read .given .1) (was-true (c .before .before .before .before .before .is-of-trace .ensures) (c .before .before .before .before .if2 .left)))
-    (c .before .before .arrivals .ensures)
+    let a = c .before .before .before .before .before .before .before .before .before .args in
+    rw (call-sound (a .self) (now (a .zeroth)) (now (a .block)) (was-true (c .before .before .before .before .before .is-sound .ensures) (c .before .before .before .before .if1 .left))) (c .before .before .step .ensures)
 
 pub block-spec : {M : Type 1} → statement M
 block-spec =
     tie.close
     (tie.spec
     (λ c κs. search needs)
+    (λ c κs. search needs)
     returns
-    (λ c κs. search needs)
+    step-requires
     (λ c. search needs)
-    (λ c κs. search needs)
-    returns-2
-    (λ c κs. search needs)
-    returns-3
-    arrivals-requires
-    (λ c. search needs)
-    returns-4)
+    returns-2)

@@ -10,9 +10,10 @@ use mathlib.Core.Option.{none}
 use Rattle.answers.specs.Writers.{Wrote}
 use Rattle.answers.proofs.Stores.{wrote-same}
 use Rattle.table.specs.Lines.{rowFault, rowBytes}
-use Rattle.convert.specs.Runs.{rowOf, goes, stepBy}
+use Rattle.walk.specs.Steps.{goes, stateAfter}
+use Rattle.walk.proofs.Putting.{after-other}
+use Rattle.convert.specs.Runs.{rowOf}
 use Rattle.convert.proofs.Kept.{good, whole, row-fits}
-use Rattle.convert.proofs.Steps.{step-goes}
 use Rattle.convert.proofs.rows.row.Statement.{statement}
 use Rattle.convert.proofs.rows.row.Tie as tie
 
@@ -36,24 +37,13 @@ part-write-row-end c = let g = good (c .before .before .before .pre) in omega (a
 
 returns : tie.Need-returns
 returns c =
-    let s = c .before .before .before .before .before .before .before .before .before .before .before in
-    let next = s .args .next in
-    let zeroth = now (s .args .zeroth) in
-    step-goes (s .args .run) zeroth (now (s .args .out)) (written-row (c .before .before .before .before .before)) (sym (ap (stepBy (s .args .run) (goes next)) (c .before .n .given .1)))
+    let a = c .before .before .before .before .before .before .before .before .before .before .args in
+    record { wrote = written-row (c .before .before .before .before); after = sym (ap (stateAfter (a .run) (goes (a .next))) (c .enum-told .given .1)) }
 
 returns-2 : tie.Need-returns-2
 returns-2 c =
-    let s = c .before .before .before .before .before .before .before .before .before .before .before in
-    let next = s .args .next in
-    let zeroth = now (s .args .zeroth) in
-    step-goes (s .args .run) zeroth (now (s .args .out)) (written-row (c .before .before .before .before .before)) (sym (ap (stepBy (s .args .run) (goes next)) (c .before .n2 .given .1)))
-
-returns-3 : tie.Need-returns-3
-returns-3 c =
-    let s = c .before .before .before .before .before .before .before .before .before .before .before in
-    let next = s .args .next in
-    let zeroth = now (s .args .zeroth) in
-    step-goes (s .args .run) zeroth (now (s .args .out)) (written-row (c .before .before .before .before .before)) (sym (ap (stepBy (s .args .run) (goes next)) (c .before .refusal .given .1)))
+    let a = c .before .before .before .before .before .before .before .before .before .args in
+    record { wrote = written-row (c .before .before .before); after = sym (after-other (a .run) (a .next) (c .before .before .before .write-row .result) (c .match .keys2)) }
 
 pub row-spec : {M : Type 1} → statement M
 row-spec =
@@ -66,10 +56,6 @@ row-spec =
     (λ c κs. search needs)
     (λ c. search needs)
     (λ c. search needs)
-    (λ c. search needs)
-    (λ c. search needs)
     returns
     (λ c. search needs)
-    returns-2
-    (λ c. search needs)
-    returns-3)
+    returns-2)

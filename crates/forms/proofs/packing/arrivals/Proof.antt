@@ -34,8 +34,8 @@ pack-requires c κs =
 mul-t14 : tie.Need-mul-t14
 mul-t14 c = let a = c .before .before .before .before .before .before .before .before .before .before .before .before .before .before .args in omega (arith, few-records (c .before .before .before .before .before .before .before .before .before .before .before .before .before .before .pre) .0, div-mul-le-self (a .c .held + a .n) (c .before .before .before .before .before .before .before .before .most .result))
 
-sub-t21 : tie.Need-sub-t21
-sub-t21 c = let a = c .before .before .before .before .before .before .before .before .before .before .before .before .before .before .args in omega (arith, div-mul-le-self (a .c .held + a .n) (c .before .before .before .before .before .before .before .before .most .result))
+sub-t22 : tie.Need-sub-t22
+sub-t22 c = let a = c .before .before .before .before .before .before .before .before .before .before .before .before .before .before .args in omega (arith, div-mul-le-self (a .c .held + a .n) (c .before .before .before .before .before .before .before .before .most .result))
 
 returns-2 : tie.Need-returns-2
 returns-2 c =
@@ -54,7 +54,7 @@ arrivals-spec =
     returns
     pack-requires
     mul-t14
-    sub-t21
+    sub-t22
     (λ c. search needs)
     (λ c. search needs)
     returns-2)

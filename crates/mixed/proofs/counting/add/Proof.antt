@@ -12,14 +12,15 @@ use Rattle.mixed.specs.Places.{addedBy}
 use Rattle.mixed.proofs.Cuts.{length-lines}
 use Rattle.mixed.proofs.Standing.{length-added}
 use Rattle.mixed.proofs.Stored.{line-added}
-use Rattle.mixed.proofs.Calls.{is-sound, new-full, new-goes, step-refuses, step-goes}
+use Rattle.mixed.proofs.Calls.{is-sound, new-full, new-goes, takes-refuses, takes-goes}
 use Rattle.mixed.proofs.counting.add.Statement.{statement}
 use Rattle.mixed.proofs.counting.add.Tie as tie
 
 returns : tie.Need-returns
 returns c =
-    let a = c .before .before .before .args in
-    step-refuses (a .run) (now (a .lines)) (new-full (counted (a .run .form) (a .n) (now (a .block))) (a .ssrc) (a .run .held) (now (a .lines)) (c .if1 .taken))
+    let a = c .before .before .before .before .args in
+    rw (c .refused .ensures)
+    (takes-refuses (a .run) (now (a .lines)) (new-full (counted (a .run .form) (a .n) (now (a .block))) (a .ssrc) (a .run .held) (now (a .lines)) (c .before .if1 .taken)))
 
 lower-requires : tie.Need-lower-requires
 lower-requires c κs = let s = is-sound (c .before .before .before .before .before .before .pre .0) in (s .few, omega (arith, s .room, s .few))
@@ -52,7 +53,7 @@ returns-2 c =
     let size : 13 * lower .result + 13 - 13 * lower .result ≡ 13 = omega arith in
     let more : n + 1 ≡ length (addedBy ssrcIn (lineWords (a .ssrc) (count freshTotals)) (linesIn n ws)) = omega (arith, length-lines n ws, length-added ssrcIn (lineWords (a .ssrc) (count freshTotals)) (linesIn n ws)) in
     let long = is-sound (s .pre .0) .room in
-    step-goes (a .run) ws (new-goes count (a .ssrc) n ws room) more
+    takes-goes (a .run) ws (new-goes count (a .ssrc) n ws room) more
     (line-added ws n (lower .result) (13 * lower .result + 13 - 13 * lower .result) (a .ssrc) (count freshTotals) (store .last .1 .1 .0) size (store .ensures ∙ ap (lineWords (a .ssrc)) made)
     (push .last .0) (lower .ensures .0) (lower .ensures .1) (omega (arith, room, long)) (push .ensures))
 
@@ -60,6 +61,7 @@ pub add-spec : {M : Type 1} → statement M
 add-spec =
     tie.close
     (tie.spec
+    (λ c κs. search needs)
     returns
     (λ c κs. search needs)
     (λ c κs. search needs)

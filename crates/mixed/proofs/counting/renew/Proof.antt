@@ -13,7 +13,7 @@ use Rattle.mixed.proofs.Cuts.{length-lines, line-at}
 use Rattle.mixed.proofs.Standing.{renewed-at}
 use Rattle.mixed.proofs.Stored.{line-renewed}
 use Rattle.mixed.proofs.Taking.{loaded-held, loaded-malformed}
-use Rattle.mixed.proofs.Calls.{is-sound, step-refuses, step-goes}
+use Rattle.mixed.proofs.Calls.{is-sound, takes-refuses, takes-goes}
 use Rattle.mixed.proofs.counting.renew.Statement.{statement}
 use Rattle.mixed.proofs.counting.renew.Tie as tie
 
@@ -45,11 +45,11 @@ part-load-end c = omega (arith, inside (c .before .before .before))
 
 returns : tie.Need-returns
 returns c =
-    let a = c .before .before .before .before .before .before .before .args in
+    let a = c .before .before .before .before .before .before .before .before .args in
     let ws = now (a .lines) in
     let count = counted (a .run .form) (a .n) (now (a .block)) in
-    let none = loaded-malformed (totalsIn (getD (linesIn (a .run .held) ws) (a .at) [])) (told (c .before .before) ∙ c .enum-told .given .1) in
-    step-refuses (a .run) ws (ap (heldLine inWords count (a .ssrc) (linesIn (a .run .held) ws)) none)
+    let none = loaded-malformed (totalsIn (getD (linesIn (a .run .held) ws) (a .at) [])) (told (c .before .before .before) ∙ c .before .enum-told .given .1) in
+    rw (c .refused .ensures) (takes-refuses (a .run) ws (ap (heldLine inWords count (a .ssrc) (linesIn (a .run .held) ws)) none))
 
 mul-store : tie.Need-mul-store
 mul-store c = omega (arith, is-sound (c .before .before .before .before .before .before .before .before .before .pre .0 .0) .few)
@@ -74,7 +74,7 @@ returns-2 c =
     let size : 13 * a .at + 13 - 13 * a .at ≡ 13 = omega arith in
     let same : n ≡ length (renewedBy ssrcIn new lines) = sym (ap length (renewed-at ssrcIn new lines) ∙ length-set lines _ new ∙ length-lines n ws) in
     let sound = is-sound (s .pre .0 .0) in
-    step-goes (a .run) ws (ap (heldLine inWords count (a .ssrc) lines) found) same
+    takes-goes (a .run) ws (ap (heldLine inWords count (a .ssrc) lines) found) same
     (line-renewed ws n (a .at) (13 * a .at + 13 - 13 * a .at) (a .ssrc) (count before) (store .last .1 .1 .0) size (store .ensures ∙ ap (lineWords (a .ssrc)) made)
     (s .pre .1 .1) (s .pre .1 .0) (omega (arith, sound .room, sound .few)))
 
@@ -91,6 +91,7 @@ renew-spec =
     (λ c κs. search needs)
     (λ c. search needs)
     (λ c. search needs)
+    (λ c κs. search needs)
     (λ c. search needs)
     returns
     (λ c κs. search needs)

@@ -1,6 +1,6 @@
 -- `trace::read::fault_of` meets its contract. Assumes nothing.
 use borrow.Author.Needs.{needs}
-use mathlib.Core.Path.{_≡_, refl}
+use mathlib.Core.Path.{_≡_, refl, sym, ap}
 use mathlib.Core.Logic.{⊎-elim}
 use mathlib.Core.List.{[], _∷_}
 use native.Mathlib.Omega.{arith}
@@ -20,8 +20,11 @@ fault-other (Label form n ssrc) h = refl
 fault-other (Arrivals form n ssrc) h = refl
 fault-other (Refused refusal) h = ⊎-elim (λ z. absurd (omega arith)) (λ z. absurd (omega arith)) h
 
+returns : tie.Need-returns
+returns c = ap faultOf (sym (c .before .block .given .1))
+
 returns-2 : tie.Need-returns-2
 returns-2 c = fault-other (c .before .args .block) (c .match .keys2)
 
 pub fault-of-spec : {M : Type 1} → statement M
-fault-of-spec = tie.close (tie.spec (λ c. search needs) (λ c. search needs) returns-2)
+fault-of-spec = tie.close (tie.spec (λ c. search needs) returns returns-2)

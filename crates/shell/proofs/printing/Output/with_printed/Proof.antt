@@ -6,6 +6,8 @@ use native.Mathlib.Omega.{arith}
 use lib.ListN.{length}
 use lib.Seq.{sets}
 use denote.Ref.{now}
+use mir.Syntax.{w32}
+use mir.ValLaws.{toZ-ofZ}
 use Rattle.shell.proofs.Fronts.{front-clipped}
 use Rattle.shell.proofs.printing.Output.with_printed.Statement.{statement}
 use Rattle.shell.proofs.printing.Output.with_printed.Tie as tie
@@ -20,6 +22,7 @@ returns : tie.Need-returns
 returns c =
     let a = c .before .before .before .before .before .before .before .before .before .before .before .args in
     record {
+      same = toZ-ofZ w32 (a .self .fd) (search needs);
       fewer = omega (arith, c .before .before .before .before .before .before .before .least .ensures, c .before .before .before .before .before .before .least2 .ensures);
       front = c .before .before .move-front .ensures ∙ ap (sets (now (a .buffer)) 0) (front-clipped (now (a .buffer)) (c .before .before .before .before .before .before .before .least .result) (a .bytes) (c .before .before .before .before .before .before .least2 .ensures));
       still = c .before .before .before .before .flushed .ensures .still;

@@ -1,0 +1,37 @@
+-- `convert::pieces::Progress::end` meets its contract. Assumes nothing.
+use borrow.Author.Needs.{needs}
+use denote.Ref.{now}
+use mathlib.Core.Path.{sym}
+use native.Mathlib.Omega.{arith}
+use Rattle.convert.proofs.Calls.{end-whole, end-refused, end-part, ends-none, ends-line}
+use Rattle.convert.proofs.pieces.Progress.end.Statement.{statement}
+use Rattle.convert.proofs.pieces.Progress.end.Tie as tie
+
+returns : tie.Need-returns
+returns c =
+    let a = c .before .before .before .before .before .before .args in
+    ends-none (a .self) (now (a .rest)) (now (a .out)) (now (a .err)) (end-whole (a .self) (now (a .rest)) (c .before .enum-told .given .1) (c .if1 .taken))
+
+returns-2 : tie.Need-returns-2
+returns-2 c =
+    let a = c .before .before .before .before .before .before .before .before .before .before .args in
+    ends-line (a .self) (now (a .rest)) (end-refused (a .self) (now (a .rest)) (c .before .before .before .before .before .ended .given .1)) (c .before .before .refused-at .ensures)
+
+returns-3 : tie.Need-returns-3
+returns-3 c =
+    let a = c .before .before .before .before .before .before .before .before .before .before .args in
+    ends-line (a .self) (now (a .rest)) (end-part (a .self) (now (a .rest)) (c .before .before .before .before .before .enum-told .given .1) (omega (arith, c .before .before .before .before .if1 .left))) (c .before .before .refused-at2 .ensures)
+
+pub end-spec : {M : Type 1} → statement M
+end-spec =
+    tie.close
+    (tie.spec
+    (λ c. search needs)
+    (λ c κs. search needs)
+    (λ c. search needs)
+    returns
+    (λ c κs. search needs)
+    (λ c. search needs)
+    returns-2
+    (λ c. search needs)
+    returns-3)

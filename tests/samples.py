@@ -1,0 +1,74 @@
+"""The traces that the gate runs the programs on (crates/ecntable, ecnforms and ecnstreams, `stdin`): each longer than a piece that a program reads.
+
+What ecntable and ecnforms print of theirs is longer than what they keep for output. ecntable's trace ends in a block whose check is wrong and one block
+more; ecnstreams' has several sources, and is whole. With --write they are written; without it the files are held to what this writes.
+"""
+import pathlib
+import struct
+import sys
+
+from faults.run import block
+
+CRATES = pathlib.Path(__file__).resolve().parent.parent / "crates"
+
+
+def record(time, number, mark):
+    return struct.pack(">IHBB", time, number % 65536, mark, 0)
+
+
+def lossy(n):
+    """Numbers with a gap now and then, a duplicate, a packet that comes late, and every mark."""
+    number = n + n // 7 - (2 if n % 11 == 5 else 0)
+    return record(20 * n, number, (n // 3) % 4)
+
+
+def ecntable():
+    """580 blocks of 1 to 5 records behind a label of quotes and commas, which makes long rows; a jump at block 300, confirmed; then a wrong check."""
+    label = (b'"ward 3", bed 12; ' + b'"' * 502)[:502]
+    blocks, n = [block(1, len(label), 0x6B287B, label)], 0
+    for i in range(1, 581):
+        count = 1 + i % 5
+        body = b"".join(lossy(n + k + (20_000 if i >= 300 else 0)) for k in range(count))
+        blocks.append(block(2, count, 0x6B287B, body))
+        n += count
+    wrong = bytearray(blocks[-1])
+    wrong[-1] ^= 1
+    return b"".join(blocks) + bytes(wrong) + blocks[1]
+
+
+def ecnforms():
+    """720 full blocks of form 1 and one of 17 records, which fill 893 of form 2."""
+    label = b"probe 2, left\r\nsecond line"
+    blocks = [block(1, len(label), 7, label)]
+    for first in range(0, 720 * 62 + 17, 62):
+        count = min(62, 720 * 62 + 17 - first)
+        blocks.append(block(2, count, 7, b"".join(lossy(first + k) for k in range(count))))
+    return b"".join(blocks)
+
+
+def ecnstreams():
+    """300 blocks of five sources in turn, of which one begins again."""
+    label = b"five probes"
+    blocks = [block(1, len(label), 0, label)]
+    for i in range(300):
+        ssrc, turn = 100 + 7 * (i % 5), i // 5
+        first = 30 * turn + (9_000 if ssrc == 114 and turn >= 40 else 0)
+        blocks.append(block(2, 30, ssrc, b"".join(lossy(first + k) for k in range(30))))
+    return b"".join(blocks)
+
+
+def main(words):
+    wrong = []
+    for name, made in (("ecntable", ecntable()), ("ecnforms", ecnforms()), ("ecnstreams", ecnstreams())):
+        path = CRATES / name / "stdin"
+        if words == ["--write"]:
+            path.write_bytes(made)
+        elif path.read_bytes() != made:
+            wrong.append(f"crates/{name}/stdin is not what tests/samples.py writes")
+    for line in wrong:
+        print("samples: FAILED,", line)
+    return 1 if wrong else 0
+
+
+if __name__ == "__main__":
+    sys.exit(main(sys.argv[1:]))
