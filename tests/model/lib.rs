@@ -7,6 +7,7 @@ pub mod converter;
 pub mod forms;
 pub mod refusal;
 pub mod report;
+pub mod sdp;
 pub mod source;
 pub mod streams;
 pub mod table;

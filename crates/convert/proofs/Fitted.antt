@@ -86,7 +86,7 @@ module _ {start : Run} {zeroth piece old : List ℕ} {run : Run} {at : ℕ} {out
         let does = ap (nextOf run) (sym block-is) ∙ w .does in
         let row : rowIn zeroth (nextOf run block) ≡ rowOf (w .brings) zeroth = ap (rowIn zeroth) (w .does) in
         let r = going-pauses ecntable first piece old (kept start zeroth) (l .going first) inside (kept (w .brings) zeroth) (rowOf (w .brings) zeroth)
-            (turn-goes (first + l .going first .done) run zeroth (take blockBytes (drop at piece)) does) (omega (arith, w .room, loop-size, ap length row)) in
+        (turn-goes (first + l .going first .done) run zeroth (take blockBytes (drop at piece)) does) (omega (arith, w .room, loop-size, ap length row)) in
         rw (w .stores) r
 
     pub loop-refused : {refusal : Refusal} {now : List ℕ} → WasRefused {A = Run} (nextOf run block) refusal out now

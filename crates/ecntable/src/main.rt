@@ -18,6 +18,7 @@ const MOST: usize = 1228;
 
 // So many blocks are read at a time.
 const BLOCKS: usize = 256;
+
 const PIECE: usize = BLOCKS * BLOCK;
 
 // Output is printed in pieces of 256 KiB. Each begins at a multiple of that, where the system has large pieces of the file's pages to work with.
@@ -113,7 +114,13 @@ fn take_turn(s: State, name: &[u8], kept: &mut [u8], piece: &mut [u8], lines: &m
 }
 
 // Takes the blocks after block 0 to the end of the run.
-fn take_all(start: State, name: &[u8], kept: &mut [u8], piece: &mut [u8], lines: &mut [u8]) -> State {
+fn take_all(
+    start: State,
+    name: &[u8],
+    kept: &mut [u8],
+    piece: &mut [u8],
+    lines: &mut [u8],
+) -> State {
     let mut s = start;
     let mut turns: u64 = 0xffff_ffff_ffff_ffff;
     while 0 < turns {
@@ -157,7 +164,9 @@ fn finish(s: State, name: &[u8], piece: &[u8], lines: &mut [u8], told: &mut [u8]
     let printed = closed.out;
     let refused = closed.err;
     let out = kept.with_written(printed, lines);
-    Output::new(STDERR_FILENO).with_written(refused, told).flushed(name, told);
+    Output::new(STDERR_FILENO)
+        .with_written(refused, told)
+        .flushed(name, told);
     if input.has_failed() {
         tell_reading(name);
     }
@@ -165,7 +174,14 @@ fn finish(s: State, name: &[u8], piece: &[u8], lines: &mut [u8], told: &mut [u8]
 }
 
 // Takes the blocks after block 0, and ends the run. Nothing follows a write that has failed.
-fn take_rest(start: State, name: &[u8], kept: &mut [u8], piece: &mut [u8], lines: &mut [u8], told: &mut [u8]) {
+fn take_rest(
+    start: State,
+    name: &[u8],
+    kept: &mut [u8],
+    piece: &mut [u8],
+    lines: &mut [u8],
+    told: &mut [u8],
+) {
     let end = take_all(start, name, kept, piece, lines);
     let out = end.out;
     if out.failed {
@@ -189,11 +205,5 @@ fn main() {
     let mut piece = [0u8; PIECE];
     let mut lines = [0u8; KEPT];
     let mut told = [0u8; TOLD];
-    convert(
-        b"ecntable",
-        &mut kept,
-        &mut piece,
-        &mut lines,
-        &mut told,
-    );
+    convert(b"ecntable", &mut kept, &mut piece, &mut lines, &mut told);
 }

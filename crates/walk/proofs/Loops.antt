@@ -123,7 +123,7 @@ module _ {S : Type 0} (p : Program S) (first : ℕ) (piece old : List ℕ) (star
           let room : length bytes ≤ length old - used = omega (arith, k, fits, g .inside) in
           let turn = fits-goes p (first + g .done) block behind s (length old - used) next bytes e room in
           let same : fitting p (suc (first + g .done)) behind next (length old - used - length bytes) ≡ fitting p (first + suc (g .done)) behind next (length old - (used + n)) =
-              ap₂ (λ (i m : ℕ). fitting p i behind next m) (omega arith) (omega (arith, k)) in
+          ap₂ (λ (i m : ℕ). fitting p i behind next m) (omega arith) (omega (arith, k)) in
           record {
             done = suc (g .done);
             at-block = omega (arith, g .at-block);

@@ -39,7 +39,7 @@ module _ (xs : List ℕ) (at : ℕ) where
   part-front vs ys room e =
       let end : postOf at (length xs - at) xs ≡ [] = drop-of-length-le (drop at xs) {i = length xs - at} (rw (length-drop at xs) (omega arith)) in
       let whole : ys ≡ vs ++ drop (at + length vs) xs =
-          e ∙ ap (λ (l : List ℕ). vs ++ drop (length vs) l) part-is ∙ ap (λ (l : List ℕ). vs ++ l) (drop-drop (length vs) at xs) in
+      e ∙ ap (λ (l : List ℕ). vs ++ drop (length vs) l) part-is ∙ ap (λ (l : List ℕ). vs ++ l) (drop-drop (length vs) at xs) in
       ap (λ (l : List ℕ). take at xs ++ (ys ++ l)) end
       ∙ ap (λ (l : List ℕ). take at xs ++ l) (append-nil ys ∙ whole)
       ∙ sym (append-assoc (take at xs) vs (drop (at + length vs) xs))

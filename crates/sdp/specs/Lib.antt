@@ -1,0 +1,9 @@
+pub mod Grammar
+pub mod Reading
+pub mod Writing
+pub mod Answers
+pub mod Lengths
+pub mod Steps
+pub mod Tallies
+pub mod Texts
+pub mod Theorems
