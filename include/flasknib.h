@@ -1,5 +1,6 @@
 /* Flasknib: ECN counting of one RTP source and of several, ECN reports (RFC 6679), a compound RTCP reader, a sender's circuit breaker (RFC 8083),
- * the blocks of a trace, the rows of a table, and what the programs ecntable, ecnforms and ecnstreams do with a trace, block by block.
+ * the SDP attribute ecn-capable-rtp (RFC 6679), the blocks of a trace, the rows of a table, and what the programs ecntable, ecnforms and ecnstreams
+ * do with a trace, block by block.
  *
  * Every function returns on every input. A record is lent as an array of 64-bit words in one of the layouts below; a signed number is stored as its
  * two's complement, so (int64_t)word is the number. A refusal is its number below, and a refused call changes no word and no byte of what it was
@@ -29,9 +30,9 @@ extern "C" {
 
 /* ---- how the names are made ------------------------------------------------------------------------------------------------------
  * .._WORDS and .._BYTES are sizes of what is lent, and MOST is the greatest of something. FLASKNIB_REFUSAL_.. are the refusals, FLASKNIB_MARK_..,
- * _PROFILE_.., _FORM_.., _KIND_.., _REASON_.. and _PRESET_.. the values of an argument or a word. Any other name of a record and a field, as
- * FLASKNIB_SOURCE_CE, is the place of that word in the record, counted from 0, and no size: FLASKNIB_RUN_LABEL_LENGTH is 1, and
- * run[FLASKNIB_RUN_LABEL_LENGTH] is the length.
+ * _PROFILE_.., _FORM_.., _KIND_.., _REASON_.., _PRESET_.., _METHOD_.., _MODE_.. and _ECT_.. the values of an argument or a word. Any other name of
+ * a record and a field, as FLASKNIB_SOURCE_CE, is the place of that word in the record, counted from 0, and no size: FLASKNIB_RUN_LABEL_LENGTH is
+ * 1, and run[FLASKNIB_RUN_LABEL_LENGTH] is the length.
  */
 
 /* ---- what a caller owes ----------------------------------------------------------------------------------------------------------
@@ -67,7 +68,8 @@ enum {
     FLASKNIB_REFUSAL_CONTENTS = 14,    /* a block's contents, or a block of another kind, form or SSRC than its place wants */
     FLASKNIB_REFUSAL_PLACES = 15,      /* a new SSRC, and every place of the table is held */
     FLASKNIB_REFUSAL_RULES = 16,       /* a table against its rules */
-    FLASKNIB_REFUSAL_FORM_TWO = 17     /* a time needs form 2: given by the converter of forms alone */
+    FLASKNIB_REFUSAL_FORM_TWO = 17,    /* a time needs form 2: given by the converter of forms alone */
+    FLASKNIB_REFUSAL_ATTRIBUTE = 18    /* the line of an attribute is malformed */
 };
 
 /* ---- what a writer answers -------------------------------------------------------------------------------------------------------
@@ -416,6 +418,48 @@ enum { FLASKNIB_WHICH_HEARD = 0, FLASKNIB_WHICH_REPORT = 1, FLASKNIB_WHICH_REPOR
  * gives: time, round trip, packet size and rate are the caller's. Where the breaker refuses the call, put the kept words back to what they were
  * before, so that the next report counts from there. */
 uint8_t flasknib_breaker_call(const uint64_t *found, size_t found_words, uint64_t *kept, size_t kept_words, uint64_t *call, size_t call_words);
+
+/* ---- offer and answer ------------------------------------------------------------------------------------------------------------
+ * The SDP attribute ecn-capable-rtp (RFC 6679, section 6.1). The line runs from `a=` to before its CR LF: the name in either case, a colon, one
+ * space, 1 to 8 methods with commas between, and, behind one space, 1 to 8 parameters with a semicolon and a space between. Methods and parameters
+ * that are not known are passed over where they are well formed, and counted; a second mode or ect is malformed.
+ *
+ * 11 words: how many methods; eight methods, most wanted first; the mode; the ect. Of the methods only the first so many are looked at, and a
+ * function that gives words leaves 0 behind them. An absent mode means setread, and an absent ect 0: nobody fills them in. Another number of words,
+ * a mode or an ect above 3, and a method in use that is not 1 to 3 (of all eight where the number is above 8) are malformed (9).
+ */
+#define FLASKNIB_ATTRIBUTE_WORDS 11
+#define FLASKNIB_ATTRIBUTE_MOST_METHODS 8
+
+/* The places of the words. The methods are eight words. */
+enum { FLASKNIB_ATTRIBUTE_USED = 0, FLASKNIB_ATTRIBUTE_METHODS = 1, FLASKNIB_ATTRIBUTE_MODE = 9, FLASKNIB_ATTRIBUTE_ECT = 10 };
+
+/* The methods. */
+enum { FLASKNIB_METHOD_RTP = 1, FLASKNIB_METHOD_ICE = 2, FLASKNIB_METHOD_LEAP = 3 };
+
+/* The modes: bit 0 sets marks, bit 1 reads them. */
+enum { FLASKNIB_MODE_ABSENT = 0, FLASKNIB_MODE_SETONLY = 1, FLASKNIB_MODE_READONLY = 2, FLASKNIB_MODE_SETREAD = 3 };
+
+/* The ects: "1" and "0" are numbered as their marks are. */
+enum { FLASKNIB_ECT_ABSENT = 0, FLASKNIB_ECT_ONE = 1, FLASKNIB_ECT_ZERO = 2, FLASKNIB_ECT_RANDOM = 3 };
+
+/* What flasknib_answer gives where the attribute is left out of the answer. It is no refusal. */
+enum { FLASKNIB_LEFT_OUT = 129 };
+
+/* Reads a line. Gives 0 and 11 words at the front of `found`, or refusal 10 for over 255 bytes, 18 for a line that is not well formed, an empty one
+ * too, 10 for over 8 methods or 8 parameters, known or not, or 12 where `found` has fewer words. */
+uint8_t flasknib_read_attribute(const uint8_t *line, size_t length, uint64_t *found, size_t words);
+
+/* Writes the line of a record, 22 to 84 bytes, in lower case and with no CR LF: the methods, then the mode, then the ect. Gives its length, or
+ * minus refusal 9, 10 for no method or over 8, or 12 with its size. What it writes reads back to the same words, but for 0 behind the last method.
+ * */
+#define FLASKNIB_ATTRIBUTE_MOST_BYTES 84
+int64_t flasknib_write_attribute(const uint64_t *attribute, size_t words, uint8_t *out, size_t room);
+
+/* Answers an offer by our abilities, the record that we would offer: the first of our methods that the offer names, our mode and our ect. Gives 0
+ * and 11 words at the front of `found`. Gives FLASKNIB_LEFT_OUT, and changes no word, whatever `words` is, where no method is common, or both modes
+ * are setonly or both readonly. Refusal 9 for either record, 10 for over 8 methods in either, or 12 where `found` has fewer words. */
+uint8_t flasknib_answer(const uint64_t *offer, size_t offer_words, const uint64_t *ours, size_t our_words, uint64_t *found, size_t words);
 
 /* ---- trace blocks and table rows -------------------------------------------------------------------------------------------------
  * A trace is a row of blocks of 512 bytes: kind (2), count (2), SSRC (4), body (502) and a checksum (2), big-endian. Block 0 has the trace's label,

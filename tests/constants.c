@@ -539,6 +539,68 @@ static void streams_words(void)
     CHECK(flasknib_streams_block(run, words, lines, line_words, block, sizeof block) == FLASKNIB_REFUSAL_PLACES);
 }
 
+static uint8_t read_line(const char *line, uint64_t *found, size_t words)
+{
+    return flasknib_read_attribute((const uint8_t *)line, strlen(line), found, words);
+}
+
+/* Lines with each method, mode and ect; one of as many methods as a line may have, one more, and one that is malformed. */
+static void attribute_words(void)
+{
+    const size_t words = FLASKNIB_ATTRIBUTE_WORDS;
+    uint64_t found[FLASKNIB_ATTRIBUTE_WORDS + 1] = {0};
+
+    CHECK(read_line("a=ecn-capable-rtp: rtp,ice,leap", found, words - 1) == FLASKNIB_REFUSAL_ROOM);
+    CHECK(read_line("a=ecn-capable-rtp: rtp,ice,leap", found, words) == 0);
+    CHECK(found[FLASKNIB_ATTRIBUTE_USED] == 3);
+    CHECK(found[FLASKNIB_ATTRIBUTE_METHODS] == FLASKNIB_METHOD_RTP);
+    CHECK(found[FLASKNIB_ATTRIBUTE_METHODS + 1] == FLASKNIB_METHOD_ICE);
+    CHECK(found[FLASKNIB_ATTRIBUTE_METHODS + 2] == FLASKNIB_METHOD_LEAP);
+    CHECK(found[FLASKNIB_ATTRIBUTE_METHODS + FLASKNIB_ATTRIBUTE_MOST_METHODS - 1] == 0);
+    CHECK(found[FLASKNIB_ATTRIBUTE_MODE] == FLASKNIB_MODE_ABSENT);
+    CHECK(found[FLASKNIB_ATTRIBUTE_ECT] == FLASKNIB_ECT_ABSENT);
+    CHECK(read_line("a=ecn-capable-rtp: rtp mode=setonly; ect=1", found, words) == 0);
+    CHECK(found[FLASKNIB_ATTRIBUTE_MODE] == FLASKNIB_MODE_SETONLY);
+    CHECK(found[FLASKNIB_ATTRIBUTE_ECT] == FLASKNIB_ECT_ONE);
+    CHECK(read_line("a=ecn-capable-rtp: rtp mode=readonly; ect=0", found, words) == 0);
+    CHECK(found[FLASKNIB_ATTRIBUTE_MODE] == FLASKNIB_MODE_READONLY);
+    CHECK(found[FLASKNIB_ATTRIBUTE_ECT] == FLASKNIB_ECT_ZERO);
+    CHECK(read_line("a=ecn-capable-rtp: rtp mode=setread; ect=random", found, words) == 0);
+    CHECK(found[FLASKNIB_ATTRIBUTE_MODE] == FLASKNIB_MODE_SETREAD);
+    CHECK(found[FLASKNIB_ATTRIBUTE_ECT] == FLASKNIB_ECT_RANDOM);
+    CHECK(read_line("a=ecn-capable-rtp: a,b,c,d,e,f,g,h", found, words) == 0);
+    CHECK(read_line("a=ecn-capable-rtp: a,b,c,d,e,f,g,h,i", found, words) == FLASKNIB_REFUSAL_LIMITS);
+    CHECK(read_line("a=ecn-capable-rtp: ", found, words) == FLASKNIB_REFUSAL_ATTRIBUTE);
+}
+
+/* The longest line, and an answer that is left out, malformed, over its limits, or has no room. */
+static void attribute_answers(void)
+{
+    const size_t words = FLASKNIB_ATTRIBUTE_WORDS;
+    uint64_t ours[FLASKNIB_ATTRIBUTE_WORDS + 1] = {0}, offer[FLASKNIB_ATTRIBUTE_WORDS] = {1, FLASKNIB_METHOD_LEAP}, found[FLASKNIB_ATTRIBUTE_WORDS];
+    uint8_t out[FLASKNIB_ATTRIBUTE_MOST_BYTES];
+
+    ours[FLASKNIB_ATTRIBUTE_USED] = FLASKNIB_ATTRIBUTE_MOST_METHODS;
+    for (size_t i = 0; i < FLASKNIB_ATTRIBUTE_MOST_METHODS; i++)
+        ours[FLASKNIB_ATTRIBUTE_METHODS + i] = FLASKNIB_METHOD_LEAP;
+    ours[FLASKNIB_ATTRIBUTE_MODE] = FLASKNIB_MODE_READONLY;
+    ours[FLASKNIB_ATTRIBUTE_ECT] = FLASKNIB_ECT_RANDOM;
+    CHECK(flasknib_write_attribute(ours, words, out, sizeof out) == FLASKNIB_ATTRIBUTE_MOST_BYTES);
+    CHECK(flasknib_write_attribute(ours, words - 1, out, sizeof out) == -FLASKNIB_REFUSAL_MALFORMED);
+    CHECK(flasknib_write_attribute(ours, words + 1, out, sizeof out) == -FLASKNIB_REFUSAL_MALFORMED);
+    CHECK(flasknib_answer(offer, words, ours, words, found, words - 1) == FLASKNIB_REFUSAL_ROOM);
+    CHECK(flasknib_answer(offer, words, ours, words, found, words) == 0);
+    CHECK(found[FLASKNIB_ATTRIBUTE_USED] == 1);
+    CHECK(found[FLASKNIB_ATTRIBUTE_METHODS] == FLASKNIB_METHOD_LEAP);
+    CHECK(found[FLASKNIB_ATTRIBUTE_MODE] == FLASKNIB_MODE_READONLY);
+    CHECK(found[FLASKNIB_ATTRIBUTE_ECT] == FLASKNIB_ECT_RANDOM);
+    offer[FLASKNIB_ATTRIBUTE_MODE] = FLASKNIB_MODE_READONLY;
+    CHECK(flasknib_answer(offer, words, ours, words, found, 0) == FLASKNIB_LEFT_OUT);
+    ours[FLASKNIB_ATTRIBUTE_USED] = FLASKNIB_ATTRIBUTE_MOST_METHODS + 1;
+    CHECK(flasknib_answer(offer, words, ours, words, found, words) == FLASKNIB_REFUSAL_LIMITS);
+    CHECK(flasknib_write_attribute(ours, words, out, sizeof out) == -FLASKNIB_REFUSAL_LIMITS);
+}
+
 int main(void)
 {
     sources();
@@ -548,6 +610,8 @@ int main(void)
     compound_refusals();
     ecn_counts();
     packet_calls();
+    attribute_words();
+    attribute_answers();
     start_limits();
     report_limits();
     breaker_words();

@@ -88,7 +88,7 @@ FAILING = {
 
 def left(tree):
     """What an earlier run left, each file of which tells where it is run."""
-    for name in "program compare capture received count breaker count_rust libmodel.rlib libdraw.rlib compare.table capture.lines".split():
+    for name in "program compare capture received count breaker answer count_rust libmodel.rlib libdraw.rlib compare.table capture.lines".split():
         script(tree.top / "target/tests" / name, f"echo {name} >>\"$RAN\"\n")
     for name in ("ecntable", "ecnforms", "ecnstreams"):
         script(tree.top / "target/bin" / name, f"echo {name} >>\"$RAN\"\n")

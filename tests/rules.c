@@ -181,6 +181,68 @@ static void unseen_words(void)
     }
 }
 
+/* ---- the words of an attribute */
+
+/* The answer to a record of `used` methods, all rtp, with a word changed, on either side. */
+static uint8_t answer_with(uint64_t used, size_t place, uint64_t word)
+{
+    uint64_t good[FLASKNIB_ATTRIBUTE_WORDS] = {1, FLASKNIB_METHOD_RTP}, changed[FLASKNIB_ATTRIBUTE_WORDS] = {0}, found[FLASKNIB_ATTRIBUTE_WORDS];
+    uint8_t answer;
+
+    changed[FLASKNIB_ATTRIBUTE_USED] = used;
+    for (size_t i = 0; i < used && i < FLASKNIB_ATTRIBUTE_MOST_METHODS; i++)
+        changed[FLASKNIB_ATTRIBUTE_METHODS + i] = FLASKNIB_METHOD_RTP;
+    changed[place] = word;
+    answer = flasknib_answer(changed, FLASKNIB_ATTRIBUTE_WORDS, good, FLASKNIB_ATTRIBUTE_WORDS, found, FLASKNIB_ATTRIBUTE_WORDS);
+    CHECK(flasknib_answer(good, FLASKNIB_ATTRIBUTE_WORDS, changed, FLASKNIB_ATTRIBUTE_WORDS, found, FLASKNIB_ATTRIBUTE_WORDS) == answer);
+    return answer;
+}
+
+static void attribute_rules(void)
+{
+    const size_t last = FLASKNIB_ATTRIBUTE_METHODS + FLASKNIB_ATTRIBUTE_MOST_METHODS - 1;
+
+    for (size_t place = FLASKNIB_ATTRIBUTE_MODE; place <= FLASKNIB_ATTRIBUTE_ECT; place++) {
+        CHECK(answer_with(1, place, 3) == 0);
+        CHECK(answer_with(1, place, 4) == FLASKNIB_REFUSAL_MALFORMED);
+    }
+    CHECK(answer_with(2, FLASKNIB_ATTRIBUTE_METHODS + 1, 3) == 0);
+    CHECK(answer_with(2, FLASKNIB_ATTRIBUTE_METHODS + 1, 4) == FLASKNIB_REFUSAL_MALFORMED);
+    CHECK(answer_with(2, FLASKNIB_ATTRIBUTE_METHODS + 1, 0) == FLASKNIB_REFUSAL_MALFORMED);
+    CHECK(answer_with(1, FLASKNIB_ATTRIBUTE_METHODS + 1, 4) == 0);
+    CHECK(answer_with(0, FLASKNIB_ATTRIBUTE_METHODS, 4) == FLASKNIB_LEFT_OUT);
+    CHECK(answer_with(8, last, 0) == FLASKNIB_REFUSAL_MALFORMED);
+    CHECK(answer_with(9, last, 0) == FLASKNIB_REFUSAL_MALFORMED);
+    CHECK(answer_with(9, last, 3) == FLASKNIB_REFUSAL_LIMITS);
+    CHECK(answer_with(UINT64_MAX, last, 3) == FLASKNIB_REFUSAL_LIMITS);
+}
+
+/* The line as the header says it: spaces, letters, extensions that are passed over and counted, a second mode. */
+static uint8_t attribute_read(const char *line)
+{
+    uint64_t found[FLASKNIB_ATTRIBUTE_WORDS];
+
+    return flasknib_read_attribute((const uint8_t *)line, strlen(line), found, FLASKNIB_ATTRIBUTE_WORDS);
+}
+
+static void line_rules(void)
+{
+    char long_line[257] = "a=ecn-capable-rtp: ";
+
+    memset(long_line + 19, 'x', 255 - 19);
+    CHECK(attribute_read(long_line) == 0);
+    long_line[255] = ',';
+    CHECK(attribute_read(long_line) == FLASKNIB_REFUSAL_LIMITS);
+    CHECK(attribute_read("A=ECN-capable-RTP: Rtp,x Mode=setRead; y=\"; \"") == 0);
+    CHECK(attribute_read("") == FLASKNIB_REFUSAL_ATTRIBUTE);
+    CHECK(attribute_read("a=ecn-capable-rtp:rtp") == FLASKNIB_REFUSAL_ATTRIBUTE);
+    CHECK(attribute_read("a=ecn-capable-rtp: rtp, ice") == FLASKNIB_REFUSAL_ATTRIBUTE);
+    CHECK(attribute_read("a=ecn-capable-rtp: rtp ect=0;mode=setread") == FLASKNIB_REFUSAL_ATTRIBUTE);
+    CHECK(attribute_read("a=ecn-capable-rtp: rtp ect=0; ect=0") == FLASKNIB_REFUSAL_ATTRIBUTE);
+    CHECK(attribute_read("a=ecn-capable-rtp: rtp a=1; b=1; c=1; d=1; e=1; f=1; g=1; h=1") == 0);
+    CHECK(attribute_read("a=ecn-capable-rtp: rtp a=1; b=1; c=1; d=1; e=1; f=1; g=1; h=1; i=1") == FLASKNIB_REFUSAL_LIMITS);
+}
+
 /* ---- records and labels */
 
 /* The answer to a block of zeros but for the mark of its last record. */
@@ -264,6 +326,8 @@ int main(void)
     window_rules();
     call_rules();
     unseen_words();
+    attribute_rules();
+    line_rules();
     record_limits();
     byte_order();
     label_rules();

@@ -28,6 +28,7 @@ sys.path.insert(0, str(TOP / "tools"))
 from ecnlib import bars, make  # noqa: E402
 from ecnlib.blocks import FORMS, Record, Script, header, records_in  # noqa: E402
 from ecnlib.common import Ended  # noqa: E402
+from ecnlib.library import Attributes  # noqa: E402
 
 ECN, BIN, SAMPLES = TOP / "tools/ecn", TOP / "target/bin", TOP / "samples"
 BUILT = tempfile.TemporaryDirectory()
@@ -241,7 +242,7 @@ class Table(Tried):
             self.assertIn("4 blocks, 0 refused", self.ecn("look", path, "--streams", "--brief").stdout)
 
     def test_help(self):
-        for command in ([], ["table"], ["look"], ["make"], ["plot"]):
+        for command in ([], ["table"], ["look"], ["make"], ["plot"], ["answer"]):
             self.assertIn("xit status", self.ecn(*command, "--help").stdout)
         self.ecn("table", SAMPLES / "c1.trace", status=2)
         self.assertEqual(subprocess.run([ECN, "--help"], env=OURS, stdout=subprocess.DEVNULL).returncode, 0)
@@ -788,6 +789,94 @@ class Plot(Tried):
         self.assertIn(told, self.ecn("plot", self.out, "-o", self.folder / "o.svg", status=1).stderr)
         self.assertIn("ecn: /proc/self/mem: ", self.ecn("plot", "/proc/self/mem", "-o", self.folder / "o.svg", status=2).stderr)
         self.alone("out.csv")
+
+
+OFFER = """v=0\r
+o=jdoe 3502844782 3502844782 IN IP4 10.0.1.4\r
+s=VoIP call\r
+i=SDP offer for VoIP call with ICE and ECN for RTP\r
+t=0 0\r
+m=audio 45664 RTP/AVPF 97\r
+a=rtpmap:97 AMR/8000\r
+{line}\r
+a=rtcp-fb:* nack ecn\r
+"""
+
+
+@needs_library
+class Answers(Tried):
+    OURS = "a=ecn-capable-rtp: ice,rtp mode=setread; ect=0"
+
+    def answered(self, text, *words, ours=OURS, status=0, told="") -> bytes:
+        """What is printed for an offer on standard input, and what is told."""
+        words = [sys.executable, "-S", ECN, "answer", "--ours", ours, *words]
+        data = text if isinstance(text, bytes) else text.encode()
+        ran = subprocess.run(words, env=OURS | {"FLASKNIB_LIBRARY": str(SHARED)}, input=data, capture_output=True, timeout=LONG)
+        self.assertEqual((ran.returncode, ran.stderr.decode()), (status, told))
+        return ran.stdout
+
+    def test_one_line(self):
+        answer = b"a=ecn-capable-rtp: ice mode=setread; ect=0\r\n"
+        for end in ("", "\n", "\r\n"):
+            self.assertEqual(self.answered(f"a=ecn-capable-rtp: leap,rtp,ice{end}"), answer)
+        self.assertEqual(self.answered("A=ECN-Capable-RTP: X,RTP x=1\n"), b"a=ecn-capable-rtp: rtp mode=setread; ect=0\r\n")
+        self.assertEqual(self.answered("a=ecn-capable-rtp: ice", ours="a=ecn-capable-rtp: ICE"), b"a=ecn-capable-rtp: ice\r\n")
+
+    def test_offers_of_the_rfc(self):
+        """RFC 6679's offers: 12.2's line is answered, 12.1's breaks the grammar. From a file, and from standard input."""
+        sound = OFFER.format(line="a=ecn-capable-rtp: ice,rtp ect=0; mode=setread")
+        self.assertEqual(self.answered(sound, ours="a=ecn-capable-rtp: rtp mode=readonly"), b"a=ecn-capable-rtp: rtp mode=readonly\r\n")
+        offer = self.folder / "offer.sdp"
+        offer.write_text(sound.replace("\r", ""))
+        self.assertEqual(self.answered("", offer), b"a=ecn-capable-rtp: ice mode=setread; ect=0\r\n")
+        for line in ("a=ecn-capable-rtp: ice rtp ect=0 mode=setread", "a=ecn-capable-rtp: ice ect=0 mode=readonly"):
+            self.assertEqual(self.answered(OFFER.format(line=line), status=1, told="refused 18 line 8\n"), b"")
+
+    def test_left_out(self):
+        self.assertEqual(self.answered("\na=ecn-capable-rtp: leap\n", told="left out line 2\n"), b"")
+        one_way = "a=ecn-capable-rtp: ice mode=setonly"
+        self.assertEqual(self.answered(one_way, ours=one_way, told="left out line 1\n"), b"")
+        self.assertEqual(self.answered(one_way, ours="a=ecn-capable-rtp: x", told="left out line 1\n"), b"")
+
+    def test_several_lines(self):
+        """Each is answered by itself; lines of other names are passed over, the name without its colon is not."""
+        lines = ("a=ecn-capable-rtp: rtp", "a=ecn-capable-rtpx: rtp", "a=ecn-capable-rtp", " a=ecn-capable-rtp: ice", "a=ecn-capable-rtp: " + "x" * 240,
+                 "a=ecn-capable-rtp: leap", "a=ecn-capable-rtp: rtp,ice")
+        told = "refused 18 line 3\nrefused 10 line 5\nleft out line 6\n"
+        printed = b"a=ecn-capable-rtp: rtp mode=setread; ect=0\r\na=ecn-capable-rtp: ice mode=setread; ect=0\r\n"
+        self.assertEqual(self.answered("\r\n".join(lines), status=1, told=told), printed)
+
+    def test_bytes(self):
+        """What is no text is handed on as it is: NUL, CR and damaged UTF-8 are refused, and sound UTF-8 in a string is passed over."""
+        for middle, number in ((b"\0", 18), (b"\r", 18), (b"\xed\xa0\x80", 18), ("é".encode(), 0)):
+            line = b'a=ecn-capable-rtp: ice x="' + middle + b'"\n'
+            told = f"refused {number} line 1\n" if number else ""
+            self.assertEqual(self.answered(line, status=int(number > 0), told=told) == b"", number > 0)
+
+    def test_utf8(self):
+        """In a string just those bytes are taken that Python's decoder takes."""
+        calls, behind = Attributes(str(SHARED)), (b"", b"\x80", b"\xbf\xbf", b"\x80\x80\x80", b"\xc0")
+        for first in range(0x80, 0x100):
+            for second in range(0x70, 0xD0):
+                for more in behind:
+                    text = bytes((first, second)) + more
+                    try:
+                        sound = "\x7f" not in text.decode()
+                    except UnicodeDecodeError:
+                        sound = False
+                    self.assertEqual(calls.read(b'a=ecn-capable-rtp: rtp x="' + text + b'"')[0], 0 if sound else 18, text)
+
+    def test_refused(self):
+        self.assertEqual(self.answered("a=ecn-capable-rtp: ice", ours="ice,rtp", status=1, told="ecn: --ours is refused with 18\n"), b"")
+        many = "a=ecn-capable-rtp: " + ",".join(["ice"] * 9)
+        self.assertEqual(self.answered("a=ecn-capable-rtp: ice", ours=many, status=1, told="ecn: --ours is refused with 10\n"), b"")
+        self.assertEqual(self.answered("v=0\r\n", status=1, told="ecn: standard input has no line a=ecn-capable-rtp\n"), b"")
+
+    def test_failures(self):
+        self.assertIn("missing: No such file", self.ecn("answer", "--ours", self.OURS, self.folder / "missing", status=2, library=True).stderr)
+        self.assertIn("the library libflasknib.so is not there", self.ecn("answer", "--ours", self.OURS, input="", status=2).stderr)
+        self.assertIn("cannot be used", self.ecn("answer", "--ours", self.OURS, input="", status=2, env={"FLASKNIB_LIBRARY": "/dev/null"}).stderr)
+        self.assertIn("--ours", self.ecn("answer", input="", status=2, library=True).stderr)
 
 
 class Pages(Tried):

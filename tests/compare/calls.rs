@@ -22,6 +22,9 @@ pub trait Calls {
     fn breaker_tick(&self, breaker: &mut [u64], time: u64) -> u16;
     fn breaker_heard(&self, breaker: &mut [u64], time: u64) -> u16;
     fn breaker_call(&self, found: &[u64], kept: &mut [u64], call: &mut [u64]) -> u8;
+    fn read_attribute(&self, line: &[u8], found: &mut [u64]) -> u8;
+    fn write_attribute(&self, attribute: &[u64], out: &mut [u8]) -> i64;
+    fn answer(&self, offer: &[u64], ours: &[u64], found: &mut [u64]) -> u8;
     fn read_block(&self, block: &[u8], found: &mut [u64]) -> u8;
     fn record_at(&self, block: &[u8], index: usize, found: &mut [u64]) -> u8;
     fn write_label(&self, form: u8, label: &[u8], ssrc: u32, out: &mut [u8]) -> i64;
@@ -51,6 +54,8 @@ pub struct Settings {
 
 /// What flasknib_arrive answers for a restart.
 pub const RESTARTED: u8 = 128;
+/// What flasknib_answer answers where the attribute is left out.
+pub const LEFT_OUT: u8 = 129;
 /// flasknib_count_block answers this times the restarts, plus the jumps.
 pub const RESTART: i64 = 256;
 
@@ -61,7 +66,7 @@ pub const REFUSED: u16 = 0x200;
 
 /// Every function with every answer it can give; a length counts as 0, a writer's 12 with any size as -12, of a difference its sign, and of a block's
 /// jumps and restarts whether there are any.
-pub const FUNCTIONS: [(&str, &[i64]); 37] = [
+pub const FUNCTIONS: [(&str, &[i64]); 40] = [
     ("flasknib_arrive", &[0, 7, 8, 9, 10, 128]),
     ("flasknib_count_block", &[0, 1, 256, 257, -9, -10]),
     ("flasknib_lost", &[0, 9, 12]),
@@ -83,6 +88,9 @@ pub const FUNCTIONS: [(&str, &[i64]); 37] = [
     ("flasknib_breaker_tick", &[0, 0x101, 0x102, 0x103, 0x209, 0x20A, 0x20B]),
     ("flasknib_breaker_heard", &[0, 0x101, 0x102, 0x103, 0x209, 0x20A, 0x20B]),
     ("flasknib_breaker_call", &[0, 9, 12]),
+    ("flasknib_read_attribute", &[0, 10, 12, 18]),
+    ("flasknib_write_attribute", &[0, -9, -10, -12]),
+    ("flasknib_answer", &[0, 9, 10, 12, 129]),
     ("flasknib_read_block", &[0, 1, 12, 13, 14]),
     ("flasknib_record_at", &[0, 1, 10, 12, 14]),
     ("flasknib_write_label", &[0, -10, -12]),

@@ -1,5 +1,5 @@
 //! The same calls answered by the model.
-use crate::calls::{Calls, Settings, GO, REDUCE, REFUSED, RESTART, RESTARTED, STOP};
+use crate::calls::{Calls, Settings, GO, LEFT_OUT, REDUCE, REFUSED, RESTART, RESTARTED, STOP};
 use model::between::{between, kept_from_words, kept_to_words, lost_since, since, Carried, Packet};
 use model::breaker::{Answer, Breaker, Report};
 use model::compound::Profile;
@@ -9,7 +9,7 @@ use model::refusal::{put, require, Refusal, Written, JUMP, LIMITS, MALFORMED, RO
 use model::source::{count_block, Counted, Source};
 use model::streams::Table;
 use model::trace::{arrivals_block, label_block, records_block, Contents, Form, Record};
-use model::{compound, forms, report, streams, table, trace};
+use model::{compound, forms, report, sdp, streams, table, trace};
 
 pub struct Expected;
 
@@ -187,6 +187,23 @@ impl Calls for Expected {
             kept.copy_from_slice(&kept_to_words(then));
         }
         answer
+    }
+
+    fn read_attribute(&self, line: &[u8], found: &mut [u64]) -> u8 {
+        put_words(sdp::read(line).map(|attribute| sdp::to_words(&attribute)), found)
+    }
+
+    fn write_attribute(&self, attribute: &[u64], out: &mut [u8]) -> i64 {
+        sdp::from_words(attribute).map_or_else(minus, |attribute| length(sdp::write(&attribute, out)))
+    }
+
+    fn answer(&self, offer: &[u64], ours: &[u64], found: &mut [u64]) -> u8 {
+        let told = sdp::from_words(offer).and_then(|offer| sdp::answer(&offer, &sdp::from_words(ours)?));
+        match told {
+            Ok(None) => LEFT_OUT,
+            Ok(Some(answer)) => put_words(Ok(sdp::to_words(&answer)), found),
+            Err(refusal) => refusal.number(),
+        }
     }
 
     fn read_block(&self, block: &[u8], found: &mut [u64]) -> u8 {

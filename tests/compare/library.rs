@@ -28,6 +28,9 @@ extern "C" {
     fn flasknib_breaker_tick(breaker: *mut u64, words: usize, time: u64) -> u16;
     fn flasknib_breaker_heard(breaker: *mut u64, words: usize, time: u64) -> u16;
     fn flasknib_breaker_call(found: *const u64, found_words: usize, kept: *mut u64, kept_words: usize, call: *mut u64, call_words: usize) -> u8;
+    fn flasknib_read_attribute(line: *const u8, length: usize, found: *mut u64, words: usize) -> u8;
+    fn flasknib_write_attribute(attribute: *const u64, words: usize, out: *mut u8, room: usize) -> i64;
+    fn flasknib_answer(offer: *const u64, offer_words: usize, ours: *const u64, our_words: usize, found: *mut u64, words: usize) -> u8;
     fn flasknib_read_block(block: *const u8, length: usize, found: *mut u64, words: usize) -> u8;
     fn flasknib_record_at(block: *const u8, length: usize, i: usize, found: *mut u64, words: usize) -> u8;
     fn flasknib_write_label(form: u8, label: *const u8, length: usize, ssrc: u32, out: *mut u8, room: usize) -> i64;
@@ -143,6 +146,18 @@ impl Calls for Library {
 
     fn breaker_call(&self, found: &[u64], kept: &mut [u64], call: &mut [u64]) -> u8 {
         unsafe { flasknib_breaker_call(found.as_ptr(), found.len(), kept.as_mut_ptr(), kept.len(), call.as_mut_ptr(), call.len()) }
+    }
+
+    fn read_attribute(&self, line: &[u8], found: &mut [u64]) -> u8 {
+        unsafe { flasknib_read_attribute(line.as_ptr(), line.len(), found.as_mut_ptr(), found.len()) }
+    }
+
+    fn write_attribute(&self, attribute: &[u64], out: &mut [u8]) -> i64 {
+        unsafe { flasknib_write_attribute(attribute.as_ptr(), attribute.len(), out.as_mut_ptr(), out.len()) }
+    }
+
+    fn answer(&self, offer: &[u64], ours: &[u64], found: &mut [u64]) -> u8 {
+        unsafe { flasknib_answer(offer.as_ptr(), offer.len(), ours.as_ptr(), ours.len(), found.as_mut_ptr(), found.len()) }
     }
 
     fn read_block(&self, block: &[u8], found: &mut [u64]) -> u8 {

@@ -1,6 +1,7 @@
 //! compare [--only NAME,..] [--table FILE] [SEED]
 //! The library through its C interface against the model: each call's answer and all that it was lent. --only names functions of the
 //! header; the others are answered by the model alone. --table writes the number of calls and answers of each function.
+mod attributes;
 mod between;
 mod big;
 mod blocks;
@@ -62,10 +63,12 @@ fn main() {
     streams::calls(compare, draw);
     let (lists, orders) = lists::lists(compare, draw);
     let [heard, reports, with_counts] = between::packets(compare, draw);
+    let (lines, answers) = attributes::calls(compare, draw);
     compare.close(table.as_deref());
     let (calls, functions) = (compare.calls(), compare.functions());
     println!(
         "compare: {calls} calls of {functions} functions, {mutations} mutations of compounds, {lists} lists and {orders} other orders of them, \
-         {cuts} lists cut in two, packets for {heard} heard calls, {reports} reports and {with_counts} with counts, seed {seed}: as the model"
+         {cuts} lists cut in two, packets for {heard} heard calls, {reports} reports and {with_counts} with counts, \
+         {lines} lines that read and {answers} answers, seed {seed}: as the model"
     );
 }

@@ -1,9 +1,9 @@
-"""The proved library through ctypes: the reader and the writers of one block. include/flasknib.h says what each call does."""
+"""The proved library through ctypes: the reader and the writers of one block, and the lines of an offer. include/flasknib.h says what each call does."""
 import ctypes
 import ctypes.util
 import glob
 import os
-from typing import Optional, Sequence
+from typing import Optional, Sequence, Tuple
 
 from .blocks import BLOCK, Form, Record
 from .common import FAILED, REFUSED, Ended
@@ -53,13 +53,50 @@ class Library:
         return bytes(out)
 
 
-def library() -> Optional[Library]:
+class Attributes:
+    """The attribute ecn-capable-rtp: a line is read to 11 words, and an offer is answered with a line."""
+
+    WORDS, MOST_BYTES, LEFT_OUT = 11, 84, 129
+
+    def __init__(self, path: str):
+        self.name = f"the proved writer in {os.path.basename(path)}"
+        try:
+            calls = ctypes.CDLL(path)
+            self.read_line, self.write_line, self.answer_words = (
+                getattr(calls, f"flasknib_{name}") for name in ("read_attribute", "write_attribute", "answer")
+            )
+        except (OSError, AttributeError) as error:
+            raise Ended(FAILED, f"the library {path} cannot be used: {error}") from error
+        byte, size, words = ctypes.c_uint8, ctypes.c_size_t, ctypes.POINTER(ctypes.c_uint64)
+        self.read_line.restype, self.write_line.restype, self.answer_words.restype = byte, ctypes.c_int64, byte
+        self.read_line.argtypes = [ctypes.c_char_p, size, words, size]
+        self.write_line.argtypes = [words, size, ctypes.POINTER(byte), size]
+        self.answer_words.argtypes = [words, size] * 3
+
+    def read(self, line: bytes) -> Tuple[int, ctypes.Array]:
+        """The refusal, or 0, and the words."""
+        found = (ctypes.c_uint64 * self.WORDS)()
+        return self.read_line(line, len(line), found, self.WORDS), found
+
+    def answer(self, offer: ctypes.Array, ours: ctypes.Array) -> Optional[bytes]:
+        """The line of the answer, or None where it is left out."""
+        found, out = (ctypes.c_uint64 * self.WORDS)(), (ctypes.c_uint8 * self.MOST_BYTES)()
+        answer = self.answer_words(offer, self.WORDS, ours, self.WORDS, found, self.WORDS)
+        if answer == self.LEFT_OUT:
+            return None
+        length = self.write_line(found, self.WORDS, out, self.MOST_BYTES)
+        if answer or length < 0:
+            raise Ended(REFUSED, f"{self.name} refuses what its reader gave")
+        return bytes(out[:length])
+
+
+def library(kind: type = Library) -> Optional[object]:
     """That of $FLASKNIB_LIBRARY (set and empty: none), else beside the script or where it is installed with it, else on the system's path."""
     given = os.environ.get("FLASKNIB_LIBRARY")
     if given is not None:
-        return Library(given) if given else None
+        return kind(given) if given else None
     for place in PLACES:
         for path in sorted(glob.glob(os.path.join(glob.escape(BESIDE), place))):
-            return Library(path)
+            return kind(path)
     found = ctypes.util.find_library("flasknib")
-    return Library(found) if found else None
+    return kind(found) if found else None

@@ -14,3 +14,4 @@ pub mod FormsSteps
 pub mod StreamsLaws
 pub mod StreamsSteps
 pub mod PacketSteps
+pub mod AttributeSteps

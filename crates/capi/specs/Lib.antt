@@ -12,3 +12,4 @@ pub mod RunCalls
 pub mod FormsCalls
 pub mod StreamsWords
 pub mod StreamsCalls
+pub mod AttributeCalls

@@ -1,5 +1,6 @@
 // The functions of include/flasknib.h. A slice is a pointer and then its length; each function takes what it was lent apart, calls the proved
 // call of another crate, and puts the answer back.
+pub mod attributes;
 pub mod blocks;
 pub mod circuit;
 mod codes;
@@ -8,6 +9,7 @@ pub mod conversions;
 pub mod differences;
 pub mod ecn;
 pub mod losses;
+pub mod offers;
 pub mod packet_calls;
 pub mod rows;
 pub mod runs;

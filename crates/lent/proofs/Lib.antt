@@ -13,3 +13,4 @@ pub mod TableLaws
 pub mod FitLaws
 pub mod KeptLaws
 pub mod CompoundLaws
+pub mod AttributeLaws

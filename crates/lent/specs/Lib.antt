@@ -12,3 +12,4 @@ pub mod ConversionWords
 pub mod KeptWords
 pub mod CallWords
 pub mod Widths
+pub mod AttributeWords

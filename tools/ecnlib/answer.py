@@ -1,0 +1,62 @@
+"""Answers the ECN lines of an offer: prints the lines a=ecn-capable-rtp of the answer.
+
+Our abilities are the line that we would offer. The offer is a whole SDP or the one line, in a file or on standard input. Each of its lines that
+begins with a=ecn-capable-rtp (RFC 6679) is read, answered and written by the proved library (found by $FLASKNIB_LIBRARY, beside this script, or
+on the system's path); the script looks for the lines and judges nothing. The answer has the first of our methods that the offer names, our mode
+and our ect. Put each line below the m= line of the same stream, never above the first.
+
+On standard error, lines counted from 1: `left out line I` where the answer has no such line, and `refused N line I`.
+
+Exit status: 0 each line is answered or left out; 1 one of them or --ours is refused, or there is none; 2 a read or a write failed, the library
+is not there, or the arguments are wrong.
+"""
+import argparse
+import io
+import os
+import re
+import sys
+
+from .common import FAILED, REFUSED, WELL, Ended, file_name, printing, say
+from .files import Input, shown
+from .library import Attributes, library
+
+OURS = "a=ecn-capable-rtp: ice,rtp mode=setread; ect=0"
+LINE = re.compile(rb"a=ecn-capable-rtp(:.*)?", re.IGNORECASE | re.DOTALL)
+
+
+def add_arguments(parser: argparse.ArgumentParser) -> None:
+    parser.add_argument("sdp", nargs="?", default="-", type=file_name, metavar="SDP", help="the offer's file (else standard input)")
+    parser.add_argument("--ours", required=True, metavar="LINE", help=f"the line that we would offer, as '{OURS}'")
+
+
+def ended(line: bytes) -> bytes:
+    """A line without its CR LF or LF."""
+    return line[: -2 if line.endswith(b"\r\n") else -1] if line.endswith(b"\n") else line
+
+
+def run(options: argparse.Namespace) -> int:
+    calls = library(Attributes)
+    if calls is None:
+        raise Ended(FAILED, "the library libflasknib.so is not there: answer has no other reader")
+    refusal, ours = calls.read(os.fsencode(options.ours))
+    if refusal:
+        raise Ended(REFUSED, f"--ours is refused with {refusal}")
+    seen, status = 0, WELL
+    with io.BufferedReader(Input(options.sdp), 1 << 18) as offer, printing():
+        for number, line in enumerate(map(ended, offer), 1):
+            if not LINE.fullmatch(line):
+                continue
+            seen += 1
+            refusal, offered = calls.read(line)
+            if refusal:
+                say(f"refused {refusal} line {number}\n")
+                status = REFUSED
+                continue
+            answer = calls.answer(offered, ours)
+            if answer is None:
+                say(f"left out line {number}\n")
+            else:
+                sys.stdout.buffer.write(answer + b"\r\n")
+    if not seen:
+        raise Ended(REFUSED, f"{shown(options.sdp)} has no line a=ecn-capable-rtp")
+    return status
