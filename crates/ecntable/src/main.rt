@@ -63,7 +63,8 @@ fn read_on(s: State, piece: &mut [u8]) -> State {
     next
 }
 
-// Prints a piece of output where so much is kept. Where a read has failed it is not: printing could fail too, and put its error in the place of the read's.
+// Prints all whole pieces of output that are kept, so that less than one is left and what one read brings has room. After a failed read nothing is printed:
+// printing could fail too, and put its error in the place of the read's.
 fn print_on(s: State, name: &[u8], lines: &mut [u8]) -> State {
     let mut next = s;
     let input = s.input;
@@ -74,7 +75,8 @@ fn print_on(s: State, name: &[u8], lines: &mut [u8]) -> State {
     if out.used < PRINTED {
         return next;
     }
-    let printed = out.with_printed(PRINTED, name, lines);
+    let whole = out.used - out.used % PRINTED;
+    let printed = out.with_printed(whole, name, lines);
     next.out = printed;
     if printed.failed {
         next.going = false;
