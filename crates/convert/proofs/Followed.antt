@@ -15,13 +15,13 @@ use Rattle.walk.specs.Steps.{Next, goes, refuses}
 use Rattle.walk.specs.Pieces.{Octets, wholes, wholeIn}
 use Rattle.walk.specs.Fitting.{Took, fitting}
 use Rattle.walk.specs.Endings.{refusalIn, endedBy, isGoing, numberAfter}
-use Rattle.walk.specs.Machines.{Standing, begunBy, tookBy, stoodBy, endingBy, goesOn, Gives, Follows}
+use Rattle.walk.specs.Machines.{Standing, begunBy, fittingBy, stoodBy, endingBy, goesOn, Gives, Follows}
 use Rattle.walk.specs.declared.Ended.{Ended}
 use Rattle.walk.specs.declared.Ended.the-variants as ended
 use Rattle.walk.proofs.Pieces.{whole-many, octets-wholes}
 use Rattle.walk.proofs.Fits.{fitting-fits, fitting-keeps, fitting-quiet, room-is-enough}
 use Rattle.walk.proofs.Standing.{ended-back, going-of, number-small}
-use Rattle.walk.proofs.Sessions.{session-prints}
+use Rattle.walk.proofs.Sessions.{fitting-gives, session-prints}
 use Rattle.convert.specs.declared.Run.{Run}
 use Rattle.convert.specs.declared.Begin.{Begin}
 use Rattle.convert.specs.declared.Begin.the-variants as begin
@@ -38,7 +38,7 @@ use Rattle.convert.proofs.Steps.{next-by}
 -- ---- a block's turn
 
 -- a part of a block is refused with 1
-short-turn : (i : ℕ) (k : Kept) (b : List ℕ) → length b < blockBytes → ecntable .step i k b ≡ record { state = k; printed = nothing; refusal = some Incomplete }
+pub short-turn : (i : ℕ) (k : Kept) (b : List ℕ) → length b < blockBytes → ecntable .step i k b ≡ record { state = k; printed = nothing; refusal = some Incomplete }
 short-turn i k b h = ap (taken k) (next-by (k .run) b (later-short (k .run .form) (k .run .ssrc) b (λ e. omega (arith, e))))
 
 -- what is kept: the run is that of block 0
@@ -66,7 +66,7 @@ record StandsFor (h : Held) (s : Standing Kept) : Type 0 where
   standing : standing (h .progress) (h .zeroth) ≡ s
   sound : h .progress .ended ≡ ended.Going → soundRun (h .progress .run) (h .zeroth) ≡ true
 
-begins : (b : List ℕ) → StandsFor (calls .begin b .state) (begunBy (ecntable .begin b)) × (toOutput (calls .begin b .printed) ≡ ecntable .begin b .printed)
+begins : (b : List ℕ) → StandsFor (calls .begin b .state) (begunBy (ecntable .begin b)) × (calls .begin b .printed ≡ ecntable .begin b .printed)
 unfolding beginOf
 begins b = go (startOf b) refl
   where
@@ -80,7 +80,7 @@ module _ (h : Held) (piece : List ℕ) (room : ℕ) (o : Octets piece) (few : h 
   here = standing (h .progress) (h .zeroth)
 
   gives-by : (e : Ended) → h .progress .ended ≡ e
-      → Gives StandsFor here (tookBy ecntable here (refusalIn e) piece room) (gaveBy h (tookBy ecntable here (refusalIn e) piece room) (pieceFault (h .progress) (h .zeroth) e))
+      → Gives StandsFor here (fittingBy ecntable here (refusalIn e) piece room) (gaveBy h (fittingBy ecntable here (refusalIn e) piece room) (pieceFault (h .progress) (h .zeroth) e))
   gives-by (ended.Refused refusal) q =
       let number = number-small (h .progress .block) 0 (omega arith) in
       record {
@@ -108,7 +108,7 @@ module _ (h : Held) (piece : List ℕ) (room : ℕ) (o : Octets piece) (few : h 
         printed = λ i. record { out = w .printed .out; err = sym quiet i };
       })
 
-  gives : Gives StandsFor here (tookBy ecntable here (here .refusal) piece room) (calls .blocks h piece room)
+  gives : Gives StandsFor here (fittingBy ecntable here (here .refusal) piece room) (calls .blocks h piece room)
   unfolding tookOf
   gives = gives-by (h .progress .ended) refl
 
@@ -126,8 +126,9 @@ follows = record {
   going = λ h s st. going-by (h .progress .ended) ∙ ap (λ (s : Standing Kept). goesOn (s .refusal)) (st .standing);
   begins = λ b o. begins b;
   takes = λ h s piece room st o few.
-      subst (λ (s : Standing Kept). Gives StandsFor s (tookBy ecntable s (s .refusal) piece room) (calls .blocks h piece room)) (st .standing)
-      (gives h piece room o (omega (arith, few, ap (λ (s : Standing Kept). s .block) (st .standing))) (st .sound));
+      fitting-gives ecntable s (s .refusal) piece room
+      (subst (λ (s : Standing Kept). Gives StandsFor s (fittingBy ecntable s (s .refusal) piece room) (calls .blocks h piece room)) (st .standing)
+      (gives h piece room o (omega (arith, few, ap (λ (s : Standing Kept). s .block) (st .standing))) (st .sound)));
   ends = λ h s rest st. ends-as h rest ∙ ap (λ (s : Standing Kept). ecntable .close (s .state) (endingBy (s .block) (s .refusal) rest)) (st .standing);
   parts = λ i s b more less. short-turn i s b less;
 }

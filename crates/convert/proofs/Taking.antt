@@ -15,7 +15,7 @@ use Rattle.format.specs.Blocks.{blockBytes}
 use Rattle.walk.specs.Pieces.{wholeIn}
 use Rattle.walk.specs.Fitting.{Took, fitting}
 use Rattle.walk.specs.Endings.{refusalIn, endedBy, numberAfter}
-use Rattle.walk.specs.Machines.{tookBy}
+use Rattle.walk.specs.Machines.{fittingBy}
 use Rattle.walk.specs.declared.Ended.{Ended}
 use Rattle.walk.specs.declared.Ended.the-variants as ended
 use Rattle.walk.proofs.Fits.{fitting-fits}
@@ -30,13 +30,13 @@ use Rattle.convert.specs.Pieces.{standing, tookOf, afterTaking, pieceFau
 pub took-going : (p : Progress) (zeroth piece : List ℕ) (room : ℕ) → p .ended ≡ ended.Going
     → tookOf p zeroth piece room ≡ fitting ecntable (p .block) (wholeIn piece) (record { run = p .run; zeroth = zeroth }) room
 unfolding tookOf
-took-going p zeroth piece room e = ap (λ (e : Ended). tookBy ecntable (standing p zeroth) (refusalIn e) piece room) e
+took-going p zeroth piece room e = ap (λ (e : Ended). fittingBy ecntable (standing p zeroth) (refusalIn e) piece room) e
 
 module _ (p : Progress) (zeroth piece old : List ℕ) where
   -- what is taken, by how the run stands
-  took-by : {e : Ended} → p .ended ≡ e → tookOf p zeroth piece (length old) ≡ tookBy ecntable (standing p zeroth) (refusalIn e) piece (length old)
+  took-by : {e : Ended} → p .ended ≡ e → tookOf p zeroth piece (length old) ≡ fittingBy ecntable (standing p zeroth) (refusalIn e) piece (length old)
   unfolding tookOf
-  took-by e = ap (λ (e : Ended). tookBy ecntable (standing p zeroth) (refusalIn e) piece (length old)) e
+  took-by e = ap (λ (e : Ended). fittingBy ecntable (standing p zeroth) (refusalIn e) piece (length old)) e
 
   takes-by : {fault : Option Refusal} {w : Took Kept} {r : Taken} {out : List ℕ} → pieceFault p zeroth (p .ended) ≡ fault → tookOf p zeroth piece (length old) ≡ w
       → Wrote fault (w .printed .out) old (r .answer) out → takenBy p w fault r → Takes p zeroth piece old r out

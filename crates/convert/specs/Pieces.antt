@@ -13,11 +13,11 @@ use Rattle.answers.specs.declared.Written.the-variants.{Length, Room, Refused}
 use Rattle.format.specs.Blocks.{blockBytes}
 use Rattle.table.specs.Lines.{headBytes}
 use Rattle.table.specs.Theorems.{rowMost}
-use Rattle.walk.specs.Programs.{Printed, Turn}
+use Rattle.walk.specs.Programs.{Printed, nothing, toOutput, Turn}
 use Rattle.walk.specs.Pieces.{Octets, wholes, wholeIn}
 use Rattle.walk.specs.Fitting.{Took, fitting, Reached}
 use Rattle.walk.specs.Endings.{refusalIn, endedBy, isGoing, numberAfter}
-use Rattle.walk.specs.Machines.{Standing, nextBehind, tookBy, endingBy, Gave, Machine, Session}
+use Rattle.walk.specs.Machines.{Standing, nextBehind, fittingBy, endingBy, Gave, Machine, Session}
 use Rattle.walk.specs.declared.Ended.{Ended}
 use Rattle.walk.specs.declared.Ended.the-variants as ended
 use Rattle.walk.specs.declared.Closed.{Closed}
@@ -57,7 +57,7 @@ standing p zeroth = record { state = record { run = p .run; zeroth = zeroth }; b
 
 -- what is taken of the piece: nothing after a refusal
 unfoldable pub tookOf : Progress → List ℕ → List ℕ → ℕ → Took Kept
-tookOf p zeroth piece room = tookBy ecntable (standing p zeroth) (refusalIn (p .ended)) piece room
+tookOf p zeroth piece room = fittingBy ecntable (standing p zeroth) (refusalIn (p .ended)) piece room
 
 abbrev pub afterTaking : Progress → Took Kept → Progress
 afterTaking p w = record { run = w .state .run; block = numberAfter (p .block) (w .taken); ended = endedBy (w .refusal) }
@@ -96,12 +96,12 @@ pub record Held : Type 0 where
   pub zeroth : List ℕ
 
 abbrev pub gaveBy : Held → Took Kept → Option Refusal → Gave Held
-gaveBy h w none = record { state = record { progress = afterTaking (h .progress) w; zeroth = h .zeroth }; taken = blockBytes * w .taken; printed = w .printed .out }
-gaveBy h w (some refusal) = record { state = h; taken = 0; printed = [] }
+gaveBy h w none = record { state = record { progress = afterTaking (h .progress) w; zeroth = h .zeroth }; taken = blockBytes * w .taken; printed = toOutput (w .printed .out) }
+gaveBy h w (some refusal) = record { state = h; taken = 0; printed = nothing }
 
 abbrev pub calls : Machine Held
 calls = record {
-  begin = λ b. record { state = record { progress = beginOf b; zeroth = b }; taken = 0; printed = headBytes };
+  begin = λ b. record { state = record { progress = beginOf b; zeroth = b }; taken = 0; printed = toOutput headBytes };
   blocks = λ h piece room. gaveBy h (tookOf (h .progress) (h .zeroth) piece room) (pieceFault (h .progress) (h .zeroth) (h .progress .ended));
   end = λ h rest. endOf (h .progress) rest;
   going = λ h. isGoing (h .progress .ended);

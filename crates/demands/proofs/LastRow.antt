@@ -35,7 +35,7 @@ use Rattle.convert.specs.Runs.{startOf, rowOf, arrived, nextOf}
 use Rattle.convert.proofs.Kept.{Good, next-good, start-good}
 use Rattle.convert.proofs.Steps.{start-label, next-by}
 use Rattle.convert.proofs.Whole.{rest, rest-goes, printed-started}
-use Rattle.forms.proofs.Calls.{octets-blocks}
+use Rattle.walk.proofs.Pieces.{octets-blocks}
 use Rattle.demands.specs.PrintedTable.{inRecord, recordsBy, together, AllArrivals, EndsIn}
 use Rattle.demands.specs.BothForms.{recordsTotals}
 use Rattle.demands.proofs.Traces.{records-counted}

@@ -25,7 +25,7 @@ use Rattle.walk.specs.Blocks.{blocksOf}
 use Rattle.walk.specs.Programs.{Run, turned, onward, walk, walked}
 use Rattle.walk.specs.Steps.{Next, goes, refuses}
 use Rattle.walk.proofs.Cuts.{Each}
-use Rattle.forms.proofs.Calls.{octets-blocks}
+use Rattle.walk.proofs.Pieces.{octets-blocks}
 use Rattle.streams.specs.declared.Place.{Place}
 use Rattle.streams.specs.Places.{emptyPlace, heldOf, restOf}
 use Rattle.streams.specs.Rules.{rising, fault}
@@ -166,4 +166,4 @@ lines-are-table trace o e = go (blockOf (blocksOf trace .zeroth)) e
 
 -- the hypotheses are met
 used : Unit {0}
-used = let table = lines-are-table sources (sources-met .bytes) (met .none-refused) in tt
+used = let table = lines-are-table sources (octets-drop 512 sources (sources-met .bytes)) (met .none-refused) in tt

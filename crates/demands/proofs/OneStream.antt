@@ -24,7 +24,7 @@ use Rattle.walk.specs.Blocks.{blocksOf}
 use Rattle.walk.specs.Programs.{both, toOutput, walk, closed}
 use Rattle.walk.specs.Steps.{Next, goes}
 use Rattle.walk.proofs.Cuts.{Each}
-use Rattle.forms.proofs.Calls.{octets-blocks}
+use Rattle.walk.proofs.Pieces.{octets-blocks}
 use Rattle.mixed.specs.declared.Line.{Line}
 use Rattle.mixed.specs.Places.{foundBy, renewedBy, addedBy}
 use Rattle.mixed.specs.Lines.{byValue}

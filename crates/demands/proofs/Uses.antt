@@ -26,7 +26,6 @@ use Rattle.walk.proofs.Walks.{nothing-follows}
 use Rattle.walk.proofs.Putting.{step-room-is-exact}
 use Rattle.convert.specs.Runs.{callNext, rowIn}
 use Rattle.convert.specs.Tables.{ecntable}
-use Rattle.convert.proofs.Whole.{calls-print}
 use Rattle.demands.specs.Calls.{run}
 use Rattle.demands.specs.Witnesses.{wrapped, reordered, c1Packets, text, label, c1Block, whole, cut, begun}
 use Rattle.forms.specs.Witnesses.{trace}
@@ -45,7 +44,6 @@ used =
     let table = table-holds-count whole text 1 c1Packets (met .c1-described) (met .held) in
     let table-last = table .last (omega arith) in
     let last = same-last-row whole cut text 1 c1Packets c1Packets (met .c1-described) (met .c1-described) (met .held) (met .recut) (λ p. refl) refl (omega arith) in
-    let calls = calls-print (λ _. replicate 100 0) whole (met .bytes) (met .enough) in
     let follows = nothing-follows _ ecntable 1 (record { run = begun; zeroth = label }) ([] ∷ []) (c1Block ∷ []) _ (met .ends) in
     let label-back = label-reads-back One text 1 (met .label-fits) (met .ssrcs .1) in
     let label-written = label-is-written One label (length text) 1 (met .label-bytes) (met .label-reads) in

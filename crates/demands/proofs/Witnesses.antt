@@ -45,8 +45,7 @@ use Rattle.walk.specs.Blocks as Blocks
 use Rattle.walk.specs.Blocks.{blocksOf}
 use Rattle.walk.specs.Programs.{onward, walk, walked}
 use Rattle.walk.specs.Steps.{faultIn}
-use Rattle.convert.specs.Runs.{startOf as runFrom, nextOf, soundRun, callNext, rowIn, arrived, rowOf}
-use Rattle.convert.specs.Theorems.{taken, ends, EnoughBy}
+use Rattle.convert.specs.Runs.{nextOf, soundRun, callNext, rowIn, arrived, rowOf}
 use Rattle.mixed.specs.Places.{foundBy, renewedBy, addedBy}
 use Rattle.mixed.specs.Blocks as lines
 use Rattle.mixed.specs.Blocks.{settled}
@@ -79,10 +78,6 @@ some-blocks = leb→le 1 _ tt
 none-refused : walked ecnstreams (blocksOf sources) .ended ≡ none
 unfolding labelBlock arrivalsBlock recordsOf recordBytes recordsBytes header filled checked bytes words onesAdd onesSum word blockOf rightCheck contentsOf labelBody labelByte every arrivalsBody countOk goodRecords Blocks.cut blocksOf walk walked onward lines.nextOf settled foundBy renewedBy addedBy
 none-refused = refl
-
-whole-enough : EnoughBy (λ _. replicate 100 0) (blocksOf whole) (runFrom (blocksOf whole .zeroth))
-unfolding labelBlock arrivalsBlock recordsOf recordBytes recordsBytes header filled checked bytes words onesAdd onesSum word blockOf rightCheck contentsOf labelBody labelByte every arrivalsBody countOk goodRecords Blocks.cut blocksOf zerothOf laterOf runFrom nextOf arrived blockCount sound fresh hasCounted packets countAll arrival first counted distance reachOf ahead behind pack marks place moved added rowOf rowBytes asField anySpecial special doubled doubledByte decimal digitsOf signed line lost places ones
-whole-enough = taken _ refl (leb→le _ _ tt) ends
 
 row-room : written (faultIn (callNext begun label c1Block)) (rowIn label (callNext begun label c1Block)) (replicate 40 0) ≡ Room 41
 unfolding labelBlock arrivalsBlock recordsOf recordBytes recordsBytes header filled checked bytes words onesAdd onesSum word blockOf rightCheck contentsOf labelBody labelByte every arrivalsBody countOk goodRecords callNext soundRun labelOk laterOf nextOf arrived blockCount sound fresh hasCounted packets countAll arrival first counted distance reachOf ahead behind pack marks place moved added rowOf rowBytes asField anySpecial special doubled doubledByte decimal digitsOf signed line lost places ones onesIn written
@@ -126,8 +121,6 @@ met = record {
   whole-bytes = below 256 whole (omega arith) refl;
   some-blocks = some-blocks;
   none-refused = none-refused;
-  bytes = below 256 (drop blockBytes whole) (omega arith) refl;
-  enough = whole-enough;
   ends = refl;
   label-fits = refl;
   label-bytes = below 256 label (omega arith) refl;

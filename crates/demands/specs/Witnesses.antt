@@ -5,7 +5,7 @@ use mathlib.Core.List.{List, [], _∷_, _++_, map}
 use mathlib.Core.Option.{none, some}
 use Prim.Native.Nat.{ℕ, _^_, _≤_, _<_}
 use lib.IntN.{pos, negℤ, _-ℤ_}
-use lib.ListN.{length, take, drop, replicate}
+use lib.ListN.{length, take, replicate}
 use lib.Signed.{_≤ℤ_, _<ℤ_}
 use Rattle.answers.specs.Writers.{written}
 use Rattle.answers.specs.declared.Refusal.the-variants.{Incomplete, PacketSize}
@@ -36,9 +36,8 @@ use Rattle.walk.specs.Blocks.{blocksOf}
 use Rattle.walk.specs.Programs.{walk, walked}
 use Rattle.walk.specs.Steps.{faultIn}
 use Rattle.convert.specs.declared.Run.{Run}
-use Rattle.convert.specs.Runs.{startOf as runFrom, callNext, rowIn}
+use Rattle.convert.specs.Runs.{callNext, rowIn}
 use Rattle.convert.specs.Tables.{ecntable}
-use Rattle.convert.specs.Theorems.{EnoughBy}
 use Rattle.mixed.specs.Tables.{ecnstreams}
 use Rattle.mixed.specs.Witnesses.{trace as sources}
 use Rattle.demands.specs.Calls.{TruePacket, wireOf, arrivals, run, Described}
@@ -106,9 +105,6 @@ pub record Met : Type 0 where
   pub some-blocks : 1 ≤ length (blocksOf whole .others)
   -- LinesAreTable
   pub none-refused : walked ecnstreams (blocksOf sources) .ended ≡ none
-  -- CallsPrint
-  pub bytes : Below 256 (drop blockBytes whole)
-  pub enough : EnoughBy (λ _. replicate 100 0) (blocksOf whole) (runFrom (blocksOf whole .zeroth))
   -- NothingFollows: an empty block is 1
   pub ends :
       walk ecntable 1 ([] ∷ []) (record { run = begun; zeroth = label }) .ended

@@ -11,9 +11,12 @@ use Rattle.walk.specs.Programs.{Printed, nothing, both, toOutput, Program}
 use Rattle.walk.specs.Pieces.{Octets, IsWhole, wholes, wholeIn}
 use Rattle.walk.specs.Fitting.{fitting}
 use Rattle.walk.specs.Machines.{Gave, Session}
+use Rattle.walk.specs.Singles.{Held as Single, singly}
 use Rattle.walk.specs.declared.Ended.the-variants.{Going}
 use Rattle.convert.specs.declared.pieces.Progress.{Progress}
 use Rattle.convert.specs.Runs.{soundRun}
+use Rattle.convert.specs.Tables.{Kept}
+use Rattle.convert.specs.Theorems.{blockCalls}
 use Rattle.convert.specs.Pieces.{Held, calls, tookOf}
 use Rattle.demands.specs.Witnesses.{label, c1Block, whole, begun}
 
@@ -35,7 +38,14 @@ abbrev pub gave : List ℕ → Gave Held
 gave piece = calls .blocks (record { progress = started; zeroth = label }) piece rowMost
 
 abbrev pub given : List ℕ → List ℕ → Printed
-given piece rest = both (toOutput (calls .begin label .printed)) (both (toOutput (gave piece .printed)) (calls .end (gave piece .state) rest))
+given piece rest = both (calls .begin label .printed) (both (gave piece .printed) (calls .end (gave piece .state) rest))
+
+-- the calls for one block each: block 0, the next with room for its row, and the end
+abbrev pub single : Gave (Single Kept)
+single = singly blockCalls .blocks (singly blockCalls .begin label .state) c1Block rowMost
+
+abbrev pub singleGiven : Printed
+singleGiven = both (singly blockCalls .begin label .printed) (both (single .printed) (singly blockCalls .end (single .state) []))
 
 -- ---- a program of which each block prints one byte, and which refuses none
 
@@ -56,6 +66,8 @@ pub record MetPieces : Type 0 where
   pub parted-few : length parted < blockBytes * 2 ^ 64
   pub whole-session : Session calls whole (given c1Block [])
   pub parted-session : Session calls parted (given (c1Block ++ part) part)
+  -- CallsPrint and SinglesPrint
+  pub single-session : Session (singly blockCalls) whole singleGiven
   -- RowsHaveRoom
   pub sound : soundRun begun label ≡ true
   pub block-bytes : Octets c1Block

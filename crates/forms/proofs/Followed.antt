@@ -21,14 +21,14 @@ use Rattle.walk.specs.Pieces.{Octets, wholes, wholeIn}
 use Rattle.walk.specs.Fitting.{Took, noneTaken, oneMore, fitting}
 use Rattle.walk.specs.Steps.{Next, goes, refuses}
 use Rattle.walk.specs.Endings.{refusalIn, isGoing}
-use Rattle.walk.specs.Machines.{Standing, begunBy, tookBy, endingBy, goesOn, Gives, Follows}
+use Rattle.walk.specs.Machines.{Standing, begunBy, fittingBy, endingBy, goesOn, Gives, Follows}
 use Rattle.walk.specs.declared.Ended.{Ended}
 use Rattle.walk.specs.declared.Ended.the-variants as ended
 use Rattle.walk.proofs.Cuts.{Each}
 use Rattle.walk.proofs.Pieces.{whole-many, octets-wholes}
 use Rattle.walk.proofs.Fits.{fitting-fits, fitting-quiet}
 use Rattle.walk.proofs.Standing.{ended-back, number-small}
-use Rattle.walk.proofs.Sessions.{session-prints}
+use Rattle.walk.proofs.Sessions.{fitting-gives, session-prints}
 use Rattle.forms.specs.declared.Conversion.{Conversion}
 use Rattle.forms.specs.declared.pieces.Progress.{Progress}
 use Rattle.forms.specs.Conversions.{nextOf, Carried, carries, carriedBy, closeFault}
@@ -40,7 +40,7 @@ use Rattle.forms.proofs.Carrying.{Holds, holds-none, kept-none, turn-go
 
 -- ---- what is carried behind the blocks that are taken stands for the program's state
 
-abbrev Fit : Carried → Kept → Type 0
+abbrev pub Fit : Carried → Kept → Type 0
 Fit s k = Holds (s .conversion) (s .part) × (keptOf (s .conversion) (s .part) ≡ k)
 
 module _ (i : ℕ) (b : List ℕ) (bs : List (List ℕ)) (c : Conversion) (part : List ℕ) (room : ℕ) (h : Holds c part) where
@@ -98,7 +98,7 @@ pub record Stands (h : Held) (s : Standing Kept) : Type 0 where
   pub holds : Holds (h .progress .conversion) (h .part)
   pub is : standing (h .progress) (h .part) ≡ s
 
-no-fault : {c : Conversion} {part : List ℕ} → Holds c part → closeFault c part ≡ none
+pub no-fault : {c : Conversion} {part : List ℕ} → Holds c part → closeFault c part ≡ none
 unfolding closeFault
 no-fault h = rw (sound-is (h .sound))
 
@@ -132,7 +132,7 @@ module _ (lent : List ℕ) (c : Conversion) (block : ℕ) (part piece : List ℕ
   at e = record { progress = record { conversion = c; block = block; ended = e }; part = part }
 
   gives : (e : Ended)
-      → Gives Stands (standing (at e .progress) part) (tookBy ecnforms (standing (at e .progress) part) (refusalIn e) piece room) (calls lent .blocks (at e) piece room)
+      → Gives Stands (standing (at e .progress) part) (fittingBy ecnforms (standing (at e .progress) part) (refusalIn e) piece room) (calls lent .blocks (at e) piece room)
   unfolding tookOf carriedWith carriedOver
   gives ended.Going =
       let w = fitting ecnforms block (wholeIn piece) (keptOf c part) room in
@@ -161,7 +161,7 @@ unfolding endOf
 ends p part rest h = ap (endBy (endOf p part rest)) (no-fault h)
 
 -- a part of a block
-part-refused : (i : ℕ) (k : Kept) (b : List ℕ) → 1 ≤ length b → length b < blockBytes → ecnforms .step i k b ≡ record { state = k; printed = nothing; refusal = some Incomplete }
+pub part-refused : (i : ℕ) (k : Kept) (b : List ℕ) → 1 ≤ length b → length b < blockBytes → ecnforms .step i k b ≡ record { state = k; printed = nothing; refusal = some Incomplete }
 part-refused i k b some-left short = ap (taken k) (next-refused (k .form) (k .ssrc) b (later-short (k .form) (k .ssrc) b (λ e. omega arith)))
 
 follows : (lent : List ℕ) → bodyBytes ≤ length lent → Follows (calls lent) ecnforms
@@ -169,9 +169,10 @@ follows lent room = record {
   Stands = Stands;
   going = λ h s stands. going-is (h .progress .ended) ∙ ap (λ (s : Standing Kept). goesOn (s .refusal)) (stands .is);
   begins = λ b o. begins lent b room;
-  takes = λ h s piece room stands o.
-      subst (λ (s : Standing Kept). s .block + wholes piece < 2 ^ 64 → Gives Stands s (tookBy ecnforms s (s .refusal) piece room) (calls lent .blocks h piece room)) (stands .is)
-      (λ few. gives lent (h .progress .conversion) (h .progress .block) (h .part) piece room (stands .holds) o few (h .progress .ended));
+  takes = λ h s piece room stands o few.
+      fitting-gives ecnforms s (s .refusal) piece room
+      (subst (λ (s : Standing Kept). s .block + wholes piece < 2 ^ 64 → Gives Stands s (fittingBy ecnforms s (s .refusal) piece room) (calls lent .blocks h piece room)) (stands .is)
+      (λ few. gives lent (h .progress .conversion) (h .progress .block) (h .part) piece room (stands .holds) o few (h .progress .ended)) few);
   ends = λ h s rest stands.
       ends (h .progress) (h .part) rest (stands .holds) ∙ ap (λ (s : Standing Kept). ecnforms .close (s .state) (endingBy (s .block) (s .refusal) rest)) (stands .is);
   parts = part-refused;

@@ -24,7 +24,7 @@ use Rattle.trace.specs.declared.Zeroth.the-variants as zeroth
 use Rattle.table.specs.Lines.{refusedLine}
 use Rattle.walk.specs.Pieces.{wholeIn}
 use Rattle.walk.specs.Fitting.{Took, fitting}
-use Rattle.walk.specs.Machines.{tookBy, endingBy}
+use Rattle.walk.specs.Machines.{fittingBy, endingBy}
 use Rattle.walk.specs.Endings.{refusalIn, endedBy, numberAfter}
 use Rattle.walk.specs.declared.Ended.{Ended}
 use Rattle.walk.specs.declared.Ended.the-variants as ended
@@ -113,9 +113,9 @@ ended-same (ended.Refused refusal) = refl
 
 module _ (p : Progress) (part piece : List ℕ) where
   -- by how the run stands
-  pub took-by : (room : ℕ) {e : Ended} → p .ended ≡ e → tookOf p part piece room ≡ tookBy ecnforms (standing p part) (refusalIn e) piece room
+  pub took-by : (room : ℕ) {e : Ended} → p .ended ≡ e → tookOf p part piece room ≡ fittingBy ecnforms (standing p part) (refusalIn e) piece room
   unfolding tookOf
-  took-by room e = ap (λ (e : Ended). tookBy ecnforms (standing p part) (refusalIn e) piece room) e
+  took-by room e = ap (λ (e : Ended). fittingBy ecnforms (standing p part) (refusalIn e) piece room) e
 
   -- by what is taken and what is refused
   takes-by : (old : List ℕ) {w : Took Kept} {fault : Option Refusal} {r : Taken} {kept out : List ℕ} → tookOf p part piece (length old) ≡ w → pieceFault p part (p .ended) ≡ fault

@@ -25,7 +25,7 @@ use Rattle.walk.specs.Steps.{Next}
 use Rattle.forms.specs.Theorems.{takenFrom, recordsTaken, FullButLast, SameBytes}
 use Rattle.forms.proofs.Packed.{most-some, packed-parts, packed-short}
 use Rattle.forms.proofs.Whole.{Brings, brings, many-brought, few-brought, converted-started}
-use Rattle.forms.proofs.Calls.{octets-blocks}
+use Rattle.walk.proofs.Pieces.{octets-blocks}
 use Rattle.forms.proofs.Traces.{Goes}
 use Rattle.forms.proofs.Returns.{going-on, label-written, back}
 

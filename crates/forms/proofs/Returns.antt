@@ -37,7 +37,7 @@ use Rattle.forms.specs.Theorems.{takenFrom, recordsTaken, Convertible, C
 use Rattle.forms.proofs.Gathered.{Fine, fine-append, fine-other, every-append}
 use Rattle.forms.proofs.Steps.{next-goes}
 use Rattle.forms.proofs.Whole.{brings, fine-brought, next, rest, rest-none, rest-ends, rest-goes, converted-started, packs}
-use Rattle.forms.proofs.Calls.{octets-blocks}
+use Rattle.walk.proofs.Pieces.{octets-blocks}
 use Rattle.forms.proofs.Written.{octets-packed}
 use Rattle.forms.proofs.Traces.{blocksIn, packed-joined, Goes, Brought, packed-brought}
 

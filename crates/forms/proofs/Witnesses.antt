@@ -25,12 +25,13 @@ use Rattle.walk.specs.Programs.{Printed, both, toOutput, onward, walk, walked, 
 use Rattle.walk.specs.Pieces.{wholes, wholeIn}
 use Rattle.walk.specs.Fitting.{fitting}
 use Rattle.walk.specs.Steps.{goes}
-use Rattle.walk.specs.Machines.{Gave, Rest, more, done, Session, began}
+use Rattle.walk.specs.Machines.{Gave, Machine, Rest, more, done, Session, began}
+use Rattle.walk.specs.Singles.{Held as Single, singly}
 use Rattle.walk.proofs.Pieces.{wholes-fit}
 use Rattle.forms.specs.Packing.{fullBlocks}
-use Rattle.forms.specs.Conversions.{timed, nextOf, sound, beginOf, answerOf, closeFault}
+use Rattle.forms.specs.Conversions.{timed, nextOf, sound, callNext, Carried, holding, beginOf, answerOf, closeFault}
 use Rattle.forms.specs.Converted.{converted}
-use Rattle.forms.specs.Theorems.{Convertible, FullButLast}
+use Rattle.forms.specs.Theorems.{blockCalls, Convertible, FullButLast}
 use Rattle.forms.specs.Pieces.{progressOf, tookOf, Held, calls}
 use Rattle.forms.specs.Witnesses.{fully, trace, fresh, begun, piece, zeros, Met}
 use Rattle.forms.specs.declared.Begin.the-variants as begin
@@ -45,10 +46,6 @@ use Rattle.forms.proofs.Enough.{blocks-have-room, end-has-room}
 octets : Below 256 trace
 unfolding labelBlock arrivalsBlock recordBytes recordsBytes header filled checked bytes words onesAdd onesSum every
 octets = below 256 trace (omega arith) refl
-
-behind : Below 256 (drop blockBytes trace)
-unfolding labelBlock arrivalsBlock recordBytes recordsBytes header filled checked bytes words onesAdd onesSum every
-behind = below 256 (drop blockBytes trace) (omega arith) refl
 
 label-reads : blockOf (blocksOf trace .zeroth) ≡ Label One 2 1
 unfolding labelBlock arrivalsBlock recordBytes recordsBytes header filled checked bytes words onesAdd onesSum word blockOf rightCheck contentsOf labelBody labelByte every cut blocksOf
@@ -90,7 +87,7 @@ abbrev taking : Gave Held
 taking = calls (zeros 502) .blocks start piece 1024
 
 abbrev rest-printed : Printed
-rest-printed = both (toOutput (taking .printed)) (calls (zeros 502) .end (taking .state) (drop (taking .taken) (piece ++ [])))
+rest-printed = both (taking .printed) (calls (zeros 502) .end (taking .state) (drop (taking .taken) (piece ++ [])))
 
 all-taken : taking .taken ≡ 1024
 unfolding labelBlock arrivalsBlock recordBytes recordsBytes header filled checked bytes words onesAdd onesSum word blockOf rightCheck contentsOf labelBody labelByte every arrivalsBody countOk goodRecords recordsIn recordAt listOf cut wholes wholeIn zerothOf laterOf timed nextOf fullBlocks sound closeFault progressOf tookOf fitting
@@ -101,6 +98,48 @@ short-rest = omega (arith, length-drop (taking .taken) (piece ++ []), all-taken,
 
 session : (q : Printed) × Session (calls (zeros 502)) trace q
 session = (_, began rest-printed (subst (λ (l : List ℕ). Rest (calls (zeros 502)) start l rest-printed) (append-nil piece) (more start piece [] 1024 _ (done _ _ short-rest))))
+
+-- and one of a block at a time
+abbrev single : Machine (Single Carried)
+single = singly (blockCalls (zeros 502))
+
+abbrev single-start : Single Carried
+single-start = single .begin (take blockBytes trace) .state
+
+abbrev first : Gave (Single Carried)
+first = single .blocks single-start piece 1024
+
+abbrev first-left : List ℕ
+first-left = drop (first .taken) (piece ++ [])
+
+abbrev second : Gave (Single Carried)
+second = single .blocks (first .state) first-left 1024
+
+abbrev second-left : List ℕ
+second-left = drop (second .taken) (first-left ++ [])
+
+abbrev second-printed : Printed
+second-printed = both (second .printed) (single .end (second .state) second-left)
+
+abbrev first-printed : Printed
+first-printed = both (first .printed) second-printed
+
+one-each : (first .taken ≡ 512) × (second .taken ≡ 512)
+unfolding labelBlock arrivalsBlock recordBytes recordsBytes header filled checked bytes words onesAdd onesSum word blockOf rightCheck contentsOf labelBody labelByte every arrivalsBody countOk goodRecords recordsIn recordAt listOf cut wholes wholeIn zerothOf laterOf timed nextOf callNext fullBlocks sound holding written
+one-each = (refl, refl)
+
+none-left : length second-left < blockBytes
+none-left =
+    omega (arith, length-drop (second .taken) (first-left ++ []), one-each .0, one-each .1, length-append first-left [], length-drop (first .taken) (piece ++ []), length-append piece [], length-drop blockBytes trace, long)
+
+one-by-one : (q : Printed) × Session single trace q
+one-by-one = (
+  _,
+  began first-printed
+      (subst (λ (l : List ℕ). Rest single single-start l first-printed) (append-nil piece)
+      (more single-start piece [] 1024 second-printed
+      (subst (λ (l : List ℕ). Rest single (first .state) l second-printed) (append-nil first-left) (more (first .state) first-left [] 1024 _ (done _ _ none-left))))),
+)
 
 none-refused : tookOf begun (zeros 502) piece (320 * blockBytes) .refusal ≡ none
 unfolding labelBlock arrivalsBlock recordBytes recordsBytes header filled checked bytes words onesAdd onesSum word blockOf rightCheck contentsOf every arrivalsBody countOk goodRecords recordsIn recordAt listOf cut wholes wholeIn laterOf timed nextOf fullBlocks tookOf fitting
@@ -121,10 +160,8 @@ met = record {
   convertible = convertible;
   some = some;
   full = full;
-  enough = λ i. omega arith;
-  end = omega arith;
   part = omega arith;
-  behind = behind;
+  one-by-one = one-by-one;
   label-short = label-short;
   short = short;
   few = omega (arith, long);
@@ -138,7 +175,7 @@ used : Unit {0}
 used =
     let packing = packs trace One 2 1 (met .label) in
     let converts = converts-whole trace One 2 1 (met .label) (met .convertible) in
-    let calls = calls-convert (λ i. zeros 1024) (zeros 512) (zeros 502) trace (met .enough) (met .end) (met .part) (met .behind) in
+    let calls = calls-convert (zeros 502) trace (met .one-by-one .0) (met .part) (met .octets) (met .few) (met .one-by-one .1) in
     let label-room = label-room-is-exact (blocksOf trace .zeroth) [] 512 (met .label-short) in
     let label-given = label-room .given (zeros 512) refl in
     let label-changed = label-room .changed (zeros 512) refl in

@@ -11,13 +11,13 @@ use Rattle.answers.specs.declared.Written.{Written}
 use Rattle.answers.specs.declared.Written.the-variants.{Length, Room, Refused}
 use Rattle.format.specs.Blocks.{blockBytes, bodyBytes}
 use Rattle.trace.specs.declared.Record.{Record}
-use Rattle.walk.specs.Programs.{Printed, Turn}
+use Rattle.walk.specs.Programs.{Printed, nothing, toOutput, Turn}
 use Rattle.walk.specs.Pieces.{Octets, wholes, wholeIn}
 use Rattle.walk.specs.Fitting.{Took, fitting, Reached}
 use Rattle.walk.specs.Steps.{Next, goes, refuses, stateAfter}
 use Rattle.walk.specs.Puts.{PutBy}
 use Rattle.walk.specs.Endings.{refusalIn, endedBy, isGoing, numberAfter}
-use Rattle.walk.specs.Machines.{Standing, nextBehind, tookBy, endingBy, Gave, Machine, Session}
+use Rattle.walk.specs.Machines.{Standing, nextBehind, fittingBy, endingBy, Gave, Machine, Session}
 use Rattle.walk.specs.declared.Ended.{Ended}
 use Rattle.walk.specs.declared.Ended.the-variants as ended
 use Rattle.walk.specs.declared.Closed.{Closed}
@@ -62,7 +62,7 @@ standing p part = record { state = keptOf (p .conversion) part; block = p .block
 
 -- what is taken of the piece: nothing after a refusal
 unfoldable pub tookOf : Progress → List ℕ → List ℕ → ℕ → Took Kept
-tookOf p part piece room = tookBy ecnforms (standing p part) (refusalIn (p .ended)) piece room
+tookOf p part piece room = fittingBy ecnforms (standing p part) (refusalIn (p .ended)) piece room
 
 -- what is carried behind blocks that were taken, each as `Conversion.block` takes it
 abbrev pub nextIn : Carried → Next Carried → Carried
@@ -120,8 +120,8 @@ pub record Held : Type 0 where
   pub part : List ℕ
 
 abbrev pub gaveBy : Held → Carried → Took Kept → Option Refusal → Gave Held
-gaveBy h s w none = record { state = record { progress = afterTaking (h .progress) s w; part = s .part }; taken = blockBytes * w .taken; printed = w .printed .out }
-gaveBy h s w (some refusal) = record { state = h; taken = 0; printed = [] }
+gaveBy h s w none = record { state = record { progress = afterTaking (h .progress) s w; part = s .part }; taken = blockBytes * w .taken; printed = toOutput (w .printed .out) }
+gaveBy h s w (some refusal) = record { state = h; taken = 0; printed = nothing }
 
 abbrev pub gaveOf : Held → List ℕ → Took Kept → Gave Held
 gaveOf h piece w = gaveBy h (carriedWith (h .progress) (h .part) piece (w .taken)) w (pieceFault (h .progress) (h .part) (h .progress .ended))
@@ -133,7 +133,7 @@ endBy printed (some refusal) = record { out = []; err = printed .err }
 
 abbrev pub calls : List ℕ → Machine Held
 calls part = record {
-  begin = λ b. record { state = record { progress = progressOf b; part = part }; taken = 0; printed = ecnforms .begin b .printed .out };
+  begin = λ b. record { state = record { progress = progressOf b; part = part }; taken = 0; printed = toOutput (ecnforms .begin b .printed .out) };
   blocks = λ h piece room. gaveOf h piece (tookOf (h .progress) (h .part) piece room);
   end = λ h rest. endBy (endOf (h .progress) (h .part) rest) (closeFault (h .progress .conversion) (h .part));
   going = λ h. isGoing (h .progress .ended);

@@ -2,11 +2,9 @@
 use mathlib.Core.Path.{_≡_}
 use mathlib.Core.Bool.{true}
 use mathlib.Core.List.{List, [], _∷_, _++_}
-use Prim.Native.Nat.{ℕ, suc, _*_, _≤_, _<_}
+use mathlib.Core.Option.{some}
+use Prim.Native.Nat.{ℕ, _*_, _^_, _≤_, _<_}
 use lib.ListN.{length, take, drop}
-use Rattle.answers.specs.Refusals.{numberOf, roomNumber}
-use Rattle.answers.specs.Writers.{written, stored, lengthIn}
-use Rattle.answers.specs.declared.Written.{Written}
 use Rattle.answers.specs.declared.Written.the-variants as answer
 use Rattle.format.specs.Blocks.{blockBytes, bodyBytes}
 use Rattle.format.specs.Forms.{shapeOf, otherForm}
@@ -17,13 +15,18 @@ use Rattle.trace.specs.Places.{zerothOf}
 use Rattle.trace.specs.Theorems.{Below, recordsIn}
 use Rattle.trace.specs.declared.Block.the-variants.{Label, Arrivals}
 use Rattle.trace.specs.declared.Record.{Record}
-use Rattle.table.specs.Lines.{refusedLine}
+use Rattle.trace.specs.declared.Zeroth.{Zeroth}
+use Rattle.trace.specs.declared.Zeroth.the-variants as zeroth
 use Rattle.walk.specs.Blocks.{Blocks, blocksOf}
-use Rattle.walk.specs.Programs.{Printed, both, toOutput}
+use Rattle.walk.specs.Programs.{Printed, endingAt}
+use Rattle.walk.specs.Pieces.{Octets}
 use Rattle.walk.specs.Steps.{Next, goes, refuses}
+use Rattle.walk.specs.Machines.{Session}
+use Rattle.walk.specs.Singles.{Singles, singly}
 use Rattle.forms.specs.Packing.{packed}
-use Rattle.forms.specs.Conversions.{beginBytes, beginOf, beginStored, nextOf, callNext, bytesIn, Carried, carries, answerOf, storedOf, afterOf, closeFault, closeBytes, allTimes}
-use Rattle.forms.specs.Converted.{converted}
+use Rattle.forms.specs.Conversions.{beginBytes, beginOf, beginStored, nextOf, callNext, bytesIn, Carried, carries, carriedBy, answerOf, storedOf, afterOf, closeFault, closeBytes, allTimes}
+use Rattle.forms.specs.Converted.{told, converted}
+use Rattle.forms.specs.Pieces.{endBy}
 use Rattle.forms.specs.declared.Conversion.{Conversion}
 use Rattle.forms.specs.declared.Begin.{Begin}
 use Rattle.forms.specs.declared.Begin.the-variants as begin
@@ -47,45 +50,31 @@ Packs =
     ≡ labelBlock (shapeOf (otherForm form)) (take n (bodyOf (blocksOf trace .zeroth))) ssrc
     ++ packed (shapeOf (otherForm form)) ssrc (recordsTaken form ssrc (blocksOf trace .others))
 
--- ---- a list of calls: one for each block, on the conversion and the part that the call before handed back, each with a lent output of its own, `outs i` for
--- block i; and then, or after the first refused block, the closing call with the lent output `last`
+-- ---- the calls for one block each, on the conversion and the part that the call before handed back; `part` is lent to the first
 
--- what the closing call writes; `line` is what is told of a refused block
-abbrev pub closing : List ℕ → Conversion → List ℕ → List ℕ → Printed
-closing last c part line = record {
-  out = take (lengthIn (written (closeFault c part) (closeBytes c part) last)) (stored (closeFault c part) (closeBytes c part) last);
-  err = line;
+abbrev pub startedOn : List ℕ → Zeroth → Next Carried
+startedOn part (zeroth.Label form n ssrc) = goes (carries (record { form = form; ssrc = ssrc; held = 0 }) part)
+startedOn part (zeroth.Refused refusal) = refuses refusal
+
+-- what a block brings to them
+abbrev pub broughtTo : Carried → List ℕ → Next (List Record)
+broughtTo s b = callNext (s .conversion) (s .part) b
+
+abbrev pub blockCalls : List ℕ → Singles Carried
+blockCalls part = record {
+  start = λ b. startedOn part (zerothOf b);
+  head = λ b. beginBytes b (zerothOf b);
+  next = λ s b. carriedBy (s .conversion) (s .part) (broughtTo s b);
+  bytes = λ s b. bytesIn (s .conversion) (s .part) (broughtTo s b);
+  end = λ s e. endBy (record { out = closeBytes (s .conversion) (s .part); err = told e }) (closeFault (s .conversion) (s .part));
+  over = λ refusal. record { out = []; err = told (endingAt 0 (some refusal)) };
 }
 
--- the bytes that a call wrote to `out`, and what the calls after it give, on what is carried then
-abbrev pub answered : ℕ → Written → Carried → List ℕ → List ℕ → (Conversion → List ℕ → Printed) → Printed
-answered i (answer.Length n) after out last more = both (toOutput (take n out)) (more (after .conversion) (after .part))
-answered i (answer.Room n) after out last more = closing last (after .conversion) (after .part) (refusedLine roomNumber i)
-answered i (answer.Refused refusal) after out last more = closing last (after .conversion) (after .part) (refusedLine (numberOf refusal) i)
-
--- the call on a block that brings `next`
-abbrev pub calledBy : ℕ → Conversion → List ℕ → Next (List Record) → List ℕ → List ℕ → (Conversion → List ℕ → Printed) → Printed
-calledBy i c part next out last more = answered i (answerOf c part next out) (afterOf c part next out) (storedOf c part next out) last more
-
-unfoldable pub calls : (ℕ → List ℕ) → List ℕ → ℕ → List (List ℕ) → Conversion → List ℕ → Printed
-calls outs last i [] c part = closing last c part []
-calls outs last i (b ∷ bs) c part = calledBy i c part (callNext c part b) (outs i) last (calls outs last (suc i) bs)
-
--- all calls over the blocks of a trace
-abbrev pub callsFrom : Begin → List ℕ → (Conversion → Printed) → Printed
-callsFrom (begin.Started c n) out more = both (toOutput (take n out)) (more c)
-callsFrom (begin.Room n) out more = record { out = []; err = refusedLine roomNumber 0 }
-callsFrom (begin.Refused refusal) out more = record { out = []; err = refusedLine (numberOf refusal) 0 }
-
-abbrev pub callsBy : (ℕ → List ℕ) → List ℕ → List ℕ → Blocks → Printed
-callsBy outs last part bs = callsFrom (beginOf (bs .zeroth) (outs 0)) (beginStored (bs .zeroth) (outs 0)) (λ c. calls outs last 1 (bs .others) c part)
-
--- they give what ecnforms prints, where a call has room for two blocks, the closing call for one, the part is a block's body, and what stands behind block 0
--- are bytes
+-- what the calls over a trace's blocks and the closing call write, and the line of the refused block, if there is one, are what ecnforms prints on both outputs
 abbrev pub CallsConvert : Type 0
 CallsConvert =
-    (outs : ℕ → List ℕ) (last part trace : List ℕ) → ((i : ℕ) → 2 * blockBytes ≤ length (outs i)) → blockBytes ≤ length last → bodyBytes ≤ length part
-    → Below 256 (drop blockBytes trace) → callsBy outs last part (blocksOf trace) ≡ converted trace
+    (part trace : List ℕ) (q : Printed) → bodyBytes ≤ length part → Octets trace → length trace < blockBytes * 2 ^ 64 → Session (singly (blockCalls part)) trace q
+    → q ≡ converted trace
 
 -- ---- 12 says how much room is missing
 

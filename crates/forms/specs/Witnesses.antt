@@ -19,10 +19,11 @@ use Rattle.walk.specs.Programs.{Printed}
 use Rattle.walk.specs.Pieces.{wholes}
 use Rattle.walk.specs.Steps.{goes}
 use Rattle.walk.specs.Machines.{Session}
+use Rattle.walk.specs.Singles.{singly}
 use Rattle.walk.specs.declared.Ended.the-variants.{Going}
 use Rattle.forms.specs.Conversions.{sound, beginOf, answerOf}
 use Rattle.forms.specs.Converted.{converted}
-use Rattle.forms.specs.Theorems.{Convertible, FullButLast}
+use Rattle.forms.specs.Theorems.{blockCalls, Convertible, FullButLast}
 use Rattle.forms.specs.Pieces.{tookOf, calls}
 use Rattle.forms.specs.declared.pieces.Progress.{Progress}
 use Rattle.forms.specs.declared.Conversion.{Conversion}
@@ -65,11 +66,9 @@ pub record Met : Type 0 where
   pub convertible : Convertible One 1 (blocksOf trace .others)
   pub some : 1 ≤ length (blocksOf trace .others)
   pub full : FullButLast (shapeOf One .most) (blocksOf trace .others)
-  -- CallsConvert
-  pub enough : ℕ → 2 * blockBytes ≤ length (zeros 1024)
-  pub end : blockBytes ≤ length (zeros 512)
+  -- CallsConvert: a block at a time
   pub part : bodyBytes ≤ length (zeros 502)
-  pub behind : Below 256 (drop blockBytes trace)
+  pub one-by-one : (q : Printed) × Session (singly (blockCalls (zeros 502))) trace q
   -- LabelRoomIsExact, BlocksRoomIsExact: an empty output
   pub label-short : beginOf (blocksOf trace .zeroth) [] ≡ begin.Room 512
   pub short : answerOf fresh [] (goes fully) [] ≡ Room 512

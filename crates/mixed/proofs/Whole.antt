@@ -1,55 +1,48 @@
--- The calls over a trace's blocks, and then for the rows, give what the whole run prints. Assumes nothing.
-use mathlib.Core.Path.{_≡_, refl, sym, ap, ap₂, _∙_, subst}
+-- The calls for one block each, and then for the rows, give what the whole run prints. Assumes nothing.
+use mathlib.Core.Path.{_≡_, refl, sym, ap, ap₂, _∙_, subst⁻¹}
 use mathlib.Core.List.{List, [], _∷_, _++_, map}
-use mathlib.Core.Option.{none, some}
-use Prim.Native.Nat.{ℕ, zero, suc, _+_, _^_, _≤_, _<_}
+use mathlib.Core.Option.{Option, none, some}
+use Prim.Native.Nat.{ℕ, zero, suc, _+_, _*_, _^_, _≤_, _<_}
 use native.Mathlib.Nat.{add-zero}
 use native.Mathlib.Numerals.{add-one}
 use native.Mathlib.Omega.{arith}
-use borrow.Author.Tests.{lt-leb, le-ltb, lt-ltb}
-use lib.ListN.{length, take, drop, getD}
-use lib.Seq.{getD-drop, drop-drop, take-append-seam, sets}
-use Rattle.answers.specs.Writers.{written, stored, lengthIn}
-use Rattle.answers.specs.declared.Refusal.the-variants.{Contents}
-use Rattle.numbers.proofs.BigEndian.{Octets}
+use borrow.Author.Tests.{lt-leb, lt-ltb}
+use lib.ListN.{length, drop, getD}
+use lib.Seq.{getD-drop, drop-drop}
+use Rattle.answers.specs.declared.Refusal.{Refusal}
+use Rattle.answers.specs.declared.Refusal.the-variants.{Incomplete}
 use Rattle.format.specs.Blocks.{blockBytes}
 use Rattle.trace.specs.Reading.{blockOf}
 use Rattle.trace.specs.declared.Block.{Block}
 use Rattle.trace.specs.declared.Block.the-variants as read
-use Rattle.numbers.proofs.Octets.{octets-take, octets-drop}
+use Rattle.trace.proofs.Decisions.{not-whole}
 use Rattle.table.specs.Lines.{headBytes, rowBytes}
-use Rattle.walk.specs.Blocks.{blocksOf, joined}
-use Rattle.walk.specs.Programs.{Printed, toOutput, turned, walk, closed}
-use Rattle.walk.proofs.Cuts.{Each as EachBlock, cut-each}
-use Rattle.walk.proofs.Walks.{closed-ends}
+use Rattle.walk.specs.Programs.{Printed, nothing, toOutput, Ending}
+use Rattle.walk.specs.Pieces.{Octets}
 use Rattle.walk.specs.Steps.{Next, goes, refuses}
+use Rattle.walk.specs.Singles.{Starts, Turns, Mirrors}
+use Rattle.walk.proofs.Singles.{singles-print}
 use Rattle.mixed.specs.declared.Line.{Line}
 use Rattle.mixed.specs.declared.Run.{Run}
 use Rattle.mixed.specs.Lines.{byValue}
-use Rattle.mixed.specs.Blocks.{nextOf}
-use Rattle.mixed.specs.Runs.{startBy, startOf, holding, carriedBy}
+use Rattle.mixed.specs.Blocks.{mostLines, nextBy, nextOf}
+use Rattle.mixed.specs.Runs.{startBy, startOf, carriedBy}
 use Rattle.mixed.specs.Rows.{lineAt, totalsAt, rowFault, rowOf}
-use Rattle.mixed.specs.Tables.{Kept, begunBy, rowsOf, ecnstreams, printed}
-use Rattle.mixed.specs.Theorems.{Walked, answered, calls, callsBy, callsOver, rowBy, rowsBy, linesBy, EnoughBy, CallsPrint}
+use Rattle.mixed.specs.Tables.{Kept, begunBy, taken, rowsOf, ended, ecnstreams, printed}
+use Rattle.mixed.specs.Theorems.{Lent, startedOn, nextOn, rowIn, rowAt, rowsFrom, endOn, blockCalls, CallsPrint}
 use Rattle.mixed.proofs.Restored.{totals-back, wordsOf}
 use Rattle.mixed.proofs.Kept.{Each, GoodLine, Keeps, next-keeps}
 use Rattle.mixed.proofs.InWords.{nextWords, ssrc-of}
-use Rattle.mixed.proofs.Onward.{rest, with, rest-ends, rest-goes, printed-by, begun, printed-started}
 use Rattle.mixed.proofs.Beside.{Holds, sound, call-next, still-holds, start-holds}
 
 -- ---- the rows
-
--- a row with room is written whole
-row-written : (row out : List ℕ) → length row ≤ length out → take (lengthIn (written none row out)) (stored none row out) ≡ row
-unfolding written stored
-row-written row out room = rw (le-ltb (length out) (length row) room) (take-append-seam row (drop (length row) out))
 
 map-drop : (n : ℕ) (ls : List Line) → drop n (map wordsOf ls) ≡ map wordsOf (drop n ls)
 map-drop zero ls = refl
 map-drop (suc n) [] = refl
 map-drop (suc n) (l ∷ ls) = map-drop n ls
 
-module _ (outs : ℕ → List ℕ) {zeroth : List ℕ} {run : Run} {ws : List ℕ} {k : Kept} (h : Holds zeroth run ws k) where
+module _ {zeroth : List ℕ} {run : Run} {ws : List ℕ} {k : Kept} (h : Holds zeroth run ws k) where
   module _ (i : ℕ) (l : Line) (back : List Line) (here : drop i (k .lines) ≡ l ∷ back) (g : GoodLine l) where
     line-at : lineAt run i ws ≡ wordsOf l
     line-at =
@@ -69,65 +62,56 @@ module _ (outs : ℕ → List ℕ) {zeroth : List ℕ} {run : Run} {ws : List �
     unfolding rowOf
     row-is = rw (totals-at, line-at, ssrc-of l, h .label)
 
-    row-by : i < run .held → length (rowOf run i ws zeroth) ≤ length (outs i) → rowBy outs run ws zeroth i ≡ rowBytes (k .label) (l .ssrc) (l .totals)
-    row-by less room = rw (no-fault less) (row-written (rowOf run i ws zeroth) (outs i) room) ∙ row-is
+abbrev Stands : Lent → Kept → Type 0
+Stands h k = Holds (h .zeroth) (h .run) (h .words) k
 
-  rows-from : ((i : ℕ) → i < run .held → length (rowOf run i ws zeroth) ≤ length (outs i)) → (i : ℕ) (back : List Line) → drop i (k .lines) ≡ back
-      → i + length back ≡ run .held → Each GoodLine back → rowsBy outs run ws zeroth i (length back) ≡ rowsOf (k .label) back
-  unfolding rowsBy rowsOf
-  rows-from room i [] here end g = refl
-  rows-from room i (l ∷ back) here end g =
-      let less : i < run .held = omega arith in
+module _ (h : Lent) (k : Kept) (s : Stands h k) where
+  row-at : (i : ℕ) (l : Line) (back : List Line) → drop i (k .lines) ≡ l ∷ back → GoodLine l → i < h .run .held → rowAt h i ≡ rowBytes (k .label) (l .ssrc) (l .totals)
+  row-at i l back here g less =
+      ap (λ (o : Option Refusal). rowIn o (rowOf (h .run) i (h .words) (h .zeroth))) (no-fault s i l back here g less) ∙ row-is s i l back here g
+
+  rows-from : (i : ℕ) (back : List Line) → drop i (k .lines) ≡ back → i + length back ≡ h .run .held → Each GoodLine back
+      → rowsFrom h i (length back) ≡ rowsOf (k .label) back
+  unfolding rowsFrom rowsOf
+  rows-from i [] here end g = refl
+  rows-from i (l ∷ back) here end g =
       let next : drop (suc i) (k .lines) ≡ back = ap (λ (n : ℕ). drop n (k .lines)) (sym (add-one i)) ∙ sym (drop-drop 1 i (k .lines)) ∙ ap (drop 1) here in
-      ap₂ (λ (s t : List ℕ). s ++ t) (row-by i l back here (g .0) less (room i less)) (rows-from room (suc i) back next (omega arith) (g .1))
+      ap₂ (λ (s t : List ℕ). s ++ t) (row-at i l back here (g .0) (omega arith)) (rows-from (suc i) back next (omega arith) (g .1))
 
--- ---- both
+  ends : (e : Option Ending) → endOn h e ≡ ended k e
+  ends none = ap toOutput (ap (rowsFrom h 0) (s .held) ∙ rows-from 0 (k .lines) refl (omega (arith, s .held)) (s .good))
+  ends (some e) = refl
 
--- `bytes` is all that is printed
-abbrev Prints : List ℕ → Printed → Type 0
-Prints bytes p = (bytes ≡ p .out) × (p .err ≡ [])
+-- ---- the blocks
 
-prints-is : {bytes : List ℕ} {p : Printed} → p ≡ toOutput bytes → Prints bytes p
-prints-is e = (ap (λ (p : Printed). p .out) (sym e), ap (λ (p : Printed). p .err) e)
+starts : (ws b : List ℕ) → 13 * mostLines ≤ length ws → (r : Block) → blockOf b ≡ r
+    → Starts Stands (blockCalls ws) ecnstreams (begunBy b r) (startedOn ws b (startBy r)) × (begunBy b r .printed ≡ toOutput headBytes)
+starts ws b room (read.Label form n ssrc) e = ((start-holds b ws form n ssrc room e, refl), refl)
+starts ws b room (read.Arrivals form n ssrc) e = ((refl, refl), refl)
+starts ws b room (read.Refused refusal) e = ((refl, refl), refl)
 
-module _ (outs : ℕ → List ℕ) (zeroth : List ℕ) where
-  -- the calls give what is printed from block i on
-  abbrev Same : ℕ → List (List ℕ) → Kept → Walked → Type 0
-  Same i bs k w = EnoughBy outs zeroth w → Prints (linesBy outs zeroth w) (rest i bs k)
+turns : (h : Lent) (k : Kept) → Stands h k → (n : Next (List Line)) → Keeps n
+    → Turns Stands h k [] (taken k n) (nextOn (h .zeroth) (carriedBy (h .run) (h .words) (nextWords n)))
+turns h k s (goes ls) keeps = (still-holds s ls keeps, refl, refl)
+turns h k s (refuses refusal) keeps = refl
 
-  rest-prints : (i : ℕ) (bs : List (List ℕ)) (run : Run) (ws : List ℕ) (k : Kept) → EachBlock Octets bs → Holds zeroth run ws k → Same i bs k (calls i bs run ws)
-  unfolding calls walk closed
-  rest-prints i [] run ws k o h = λ room.
-      prints-is (ap toOutput (sym (ap (rowsBy outs run ws zeroth 0) (h .held) ∙ rows-from outs h room 0 (k .lines) refl (omega (arith, h .held)) (h .good))))
-  rest-prints i (b ∷ bs) run ws k o h =
-      subst (λ (n : Next (List (List ℕ))). Same i (b ∷ bs) k (answered i (carriedBy run ws n) (calls (suc i) bs))) (sym (call-next h b))
-      (go (nextOf byValue (k .form) b (k .lines)) refl (next-keeps (k .form) b (k .lines) (o .0) (h .good) (h .few)) (λ run ws k. rest-prints (suc i) bs run ws k (o .1)))
-    where
-      go : (next : Next (List Line)) → nextOf byValue (k .form) b (k .lines) ≡ next → Keeps next
-          → ((run : Run) (ws : List ℕ) (k : Kept) → Holds zeroth run ws k → Same (suc i) bs k (calls (suc i) bs run ws))
-          → Same i (b ∷ bs) k (answered i (carriedBy run ws (nextWords next)) (calls (suc i) bs))
-      go (goes ls) e s later = λ room.
-          subst (λ (p : Printed). Prints (linesBy outs zeroth (calls (suc i) bs (holding run (map wordsOf ls)) (sets ws 0 (joined (map wordsOf ls))))) p) (sym (rest-goes i b bs k e))
-          (later (holding run (map wordsOf ls)) (sets ws 0 (joined (map wordsOf ls))) (with k ls) (still-holds h ls s) room)
-      go (refuses refusal) e s later = λ room. prints-is (rest-ends i b bs k e)
+-- a part of a block is refused with 1
+short-turn : (i : ℕ) (k : Kept) (b : List ℕ) → length b < blockBytes → ecnstreams .step i k b ≡ record { state = k; printed = nothing; refusal = some Incomplete }
+unfolding nextOf
+short-turn i k b less = ap (λ (r : Block). taken k (nextBy byValue (k .form) b (k .lines) r)) (sym (not-whole b (λ e. omega (arith, e))))
 
--- ---- over all blocks
+pub mirrors : (ws : List ℕ) → 13 * mostLines ≤ length ws → Mirrors (blockCalls ws) ecnstreams
+unfolding startOf
+mirrors ws room = record {
+  Stands = Stands;
+  starts = λ b o. starts ws b room (blockOf b) refl;
+  turns = λ i h k b s o.
+      subst⁻¹ (λ (n : Next (List (List ℕ))). Turns Stands h k [] (ecnstreams .step i k b) (nextOn (h .zeroth) (carriedBy (h .run) (h .words) n))) (call-next s b)
+      (turns h k s (nextOf byValue (k .form) b (k .lines)) (next-keeps (k .form) b (k .lines) o (s .good) (s .few)));
+  ends = λ h k e s. ends h k s e;
+  parts = λ i k b more less. short-turn i k b less;
+}
 
 pub calls-print : CallsPrint
-unfolding blocksOf closed startOf callsOver
-calls-print outs trace ws o room enough = go (blockOf zeroth) refl enough
-  where
-    zeroth : List ℕ
-    zeroth = blocksOf trace .zeroth
-
-    go : (r : Block) → blockOf zeroth ≡ r → EnoughBy outs zeroth (callsBy (blocksOf trace) ws (startBy r))
-        → Prints (headBytes ++ linesBy outs zeroth (callsBy (blocksOf trace) ws (startBy r))) (printed trace)
-    go (read.Label form n ssrc) e enough =
-        let later = rest-prints outs zeroth 1 (blocksOf trace .others) (record { form = form; length = n; held = 0 }) ws (begun zeroth form n)
-        (cut-each Octets octets-take octets-drop (length trace) (drop blockBytes trace) o) (start-holds zeroth ws form n ssrc room e) enough in
-        let head = printed-started trace form n ssrc e in
-        (ap (λ (l : List ℕ). headBytes ++ l) (later .0) ∙ ap (λ (p : Printed). p .out) (sym head), ap (λ (p : Printed). p .err) head ∙ later .1)
-    go (read.Arrivals form n ssrc) e enough =
-        prints-is (printed-by trace (read.Arrivals form n ssrc) e ∙ closed-ends ecnstreams (turned 0 (begunBy zeroth (read.Arrivals form n ssrc))) (walk ecnstreams 1 (blocksOf trace .others)) (record { refusal = Contents; block = 0 }) refl)
-    go (read.Refused refusal) e enough =
-        prints-is (printed-by trace (read.Refused refusal) e ∙ closed-ends ecnstreams (turned 0 (begunBy zeroth (read.Refused refusal))) (walk ecnstreams 1 (blocksOf trace .others)) (record { refusal = refusal; block = 0 }) refl)
+unfolding printed
+calls-print trace ws q o few room session = singles-print Lent Kept (blockCalls ws) ecnstreams trace q (mirrors ws room) o few session

@@ -2,12 +2,11 @@
 use mathlib.Core.Path.{_≡_}
 use mathlib.Core.Bool.{Bool, true, false, _||_}
 use mathlib.Core.List.{List, [], _∷_, _++_, map}
-use mathlib.Core.Option.{none}
-use Prim.Native.Nat.{ℕ, zero, suc, _*_, _≤_, _<_}
+use mathlib.Core.Option.{Option, none, some}
+use Prim.Native.Nat.{ℕ, zero, suc, _*_, _^_, _≤_, _<_}
 use lib.Dec.{eqb}
-use lib.ListN.{length, take, drop, getD}
+use lib.ListN.{length}
 use Rattle.answers.specs.Refusals.{numberOf}
-use Rattle.answers.specs.Writers.{written, stored, lengthIn}
 use Rattle.answers.specs.declared.Refusal.{Refusal}
 use Rattle.format.specs.Blocks.{blockBytes}
 use Rattle.format.specs.declared.Form.{Form}
@@ -15,8 +14,11 @@ use Rattle.trace.specs.Reading.{blockOf}
 use Rattle.trace.specs.declared.Block.the-variants.{Label, Arrivals}
 use Rattle.table.specs.Lines.{headBytes, refusedLine}
 use Rattle.walk.specs.Blocks.{Blocks, blocksOf}
-use Rattle.walk.specs.Programs.{both, toOutput, walked, printedBy}
+use Rattle.walk.specs.Programs.{Printed, both, toOutput, Ending, walked, printedBy}
+use Rattle.walk.specs.Pieces.{Octets}
 use Rattle.walk.specs.Steps.{Next, goes, refuses}
+use Rattle.walk.specs.Machines.{Session}
+use Rattle.walk.specs.Singles.{Singles, singly}
 use Rattle.mixed.specs.declared.Line.{Line}
 use Rattle.mixed.specs.declared.Run.{Run}
 use Rattle.mixed.specs.declared.Begin.{Begin}
@@ -26,57 +28,58 @@ use Rattle.mixed.specs.Runs.{startOf, callNext, Carried, carriedBy}
 use Rattle.mixed.specs.Rows.{rowFault, rowOf}
 use Rattle.mixed.specs.Tables.{ended, ecnstreams, printed}
 
--- ---- a list of calls: one for each block, on the run and the words that the call before handed back
+-- ---- the calls for one block each, on the run and the words that the call before handed back; then those for the rows
 
--- where they end: the run and the words behind the last block, or the refused block
-pub data Walked : Type 0 where
-  whole : Run → List ℕ → Walked
-  refused : Refusal → ℕ → Walked
+-- the run, the lent words, and block 0
+pub record Lent : Type 0 where
+  pub run : Run
+  pub words : List ℕ
+  pub zeroth : List ℕ
 
-abbrev pub answered : ℕ → Next Carried → (Run → List ℕ → Walked) → Walked
-answered i (goes k) more = more (k .run) (k .words)
-answered i (refuses refusal) more = refused refusal i
+abbrev pub startedOn : List ℕ → List ℕ → Begin → Next Lent
+startedOn ws zeroth (begin.Started run) = goes (record { run = run; words = ws; zeroth = zeroth })
+startedOn ws zeroth (begin.Refused refusal) = refuses refusal
 
-unfoldable pub calls : ℕ → List (List ℕ) → Run → List ℕ → Walked
-calls i [] run ws = whole run ws
-calls i (b ∷ bs) run ws = answered i (carriedBy run ws (callNext run ws b)) (calls (suc i) bs)
+abbrev pub nextOn : List ℕ → Next Carried → Next Lent
+nextOn zeroth (goes k) = goes (record { run = k .run; words = k .words; zeroth = zeroth })
+nextOn zeroth (refuses refusal) = refuses refusal
 
-abbrev pub callsBy : Blocks → List ℕ → Begin → Walked
-callsBy bs ws (begin.Started run) = calls 1 (bs .others) run ws
-callsBy bs ws (begin.Refused refusal) = refused refusal 0
+-- what the call for line i writes, if it has room
+abbrev pub rowIn : Option Refusal → List ℕ → List ℕ
+rowIn none row = row
+rowIn (some refusal) row = []
 
-unfoldable pub callsOver : List ℕ → List ℕ → Walked
-callsOver trace ws = callsBy (blocksOf trace) ws (startOf (blocksOf trace .zeroth))
+abbrev pub rowAt : Lent → ℕ → List ℕ
+rowAt h i = rowIn (rowFault (h .run) i (h .words) (h .zeroth)) (rowOf (h .run) i (h .words) (h .zeroth))
 
--- ---- the calls for the rows, each with a lent output of its own, `outs i` for line i
+-- those for n lines from i on
+unfoldable pub rowsFrom : Lent → ℕ → ℕ → List ℕ
+rowsFrom h i zero = []
+rowsFrom h i (suc n) = rowAt h i ++ rowsFrom h (suc i) n
 
--- the bytes that the call for line i wrote
-abbrev pub rowBy : (ℕ → List ℕ) → Run → List ℕ → List ℕ → ℕ → List ℕ
-rowBy outs run ws zeroth i =
-    take (lengthIn (written (rowFault run i ws zeroth) (rowOf run i ws zeroth) (outs i))) (stored (rowFault run i ws zeroth) (rowOf run i ws zeroth) (outs i))
+-- the end: all rows, or the line of the refused block
+abbrev pub lineOf : Ending → Printed
+lineOf e = toOutput (refusedLine (numberOf (e .refusal)) (e .block))
 
--- of n lines from i on
-unfoldable pub rowsBy : (ℕ → List ℕ) → Run → List ℕ → List ℕ → ℕ → ℕ → List ℕ
-rowsBy outs run ws zeroth i zero = []
-rowsBy outs run ws zeroth i (suc n) = rowBy outs run ws zeroth i ++ rowsBy outs run ws zeroth (suc i) n
+abbrev pub endOn : Lent → Option Ending → Printed
+endOn h none = toOutput (rowsFrom h 0 (h .run .held))
+endOn h (some e) = lineOf e
 
--- all rows, or the line of the refused block
-abbrev pub linesBy : (ℕ → List ℕ) → List ℕ → Walked → List ℕ
-linesBy outs zeroth (whole run ws) = rowsBy outs run ws zeroth 0 (run .held)
-linesBy outs zeroth (refused refusal i) = refusedLine (numberOf refusal) i
+abbrev pub blockCalls : List ℕ → Singles Lent
+blockCalls ws = record {
+  start = λ b. startedOn ws b (startOf b);
+  head = λ b. headBytes;
+  next = λ h b. nextOn (h .zeroth) (carriedBy (h .run) (h .words) (callNext (h .run) (h .words) b));
+  bytes = λ h b. [];
+  end = endOn;
+  over = λ refusal. lineOf (record { refusal = refusal; block = 0 });
+}
 
--- each output has room for its row
-abbrev pub EnoughBy : (ℕ → List ℕ) → List ℕ → Walked → Type 0
-EnoughBy outs zeroth (whole run ws) = (i : ℕ) → i < run .held → length (rowOf run i ws zeroth) ≤ length (outs i)
-EnoughBy outs zeroth (refused refusal i) = Unit {0}
-
--- the head line and the calls, over a trace's blocks and then for the rows, give what ecnstreams prints on standard output, and it prints nothing else,
--- where what stands behind block 0 are bytes and enough words are lent
+-- the head line and what the calls write, over a trace's blocks and then for the rows, are what ecnstreams prints on both outputs, where enough words are lent
 abbrev pub CallsPrint : Type 0
 CallsPrint =
-    (outs : ℕ → List ℕ) (trace ws : List ℕ) → ((i : ℕ) → getD (drop blockBytes trace) i 0 < 256) → 13 * mostLines ≤ length ws
-    → EnoughBy outs (blocksOf trace .zeroth) (callsOver trace ws)
-    → (headBytes ++ linesBy outs (blocksOf trace .zeroth) (callsOver trace ws) ≡ printed trace .out) × (printed trace .err ≡ [])
+    (trace ws : List ℕ) (q : Printed) → Octets trace → length trace < blockBytes * 2 ^ 64 → 13 * mostLines ≤ length ws → Session (singly (blockCalls ws)) trace q
+    → q ≡ printed trace
 
 -- ---- the order of the lines
 

@@ -12,7 +12,7 @@ use lib.ListN.{length, drop, length-append}
 use Rattle.answers.specs.declared.Refusal.{Refusal}
 use Rattle.walk.specs.Programs.{Printed, Ending, nothing, both, Turn, Program, Run, endingAt, more, turned, onward, walk}
 use Rattle.walk.specs.Pieces.{Octets, wholes, wholeIn}
-use Rattle.walk.specs.Fitting.{Took, noneTaken, oneMore, fitting, runOf, FittingWalks, FittingFits, RoomIsEnough}
+use Rattle.walk.specs.Fitting.{Took, noneTaken, oneMore, front, fitting, runOf, FrontWalks, FittingIsFront, FittingFits, RoomIsEnough}
 use Rattle.walk.proofs.Cuts.{Each}
 use Rattle.walk.proofs.Pieces.{whole-many, octets-wholes}
 use Rattle.walk.proofs.Walks.{onward-assoc}
@@ -64,20 +64,45 @@ module _ {S : Type 0} (p : Program S) where
         ap (λ (o : Option Refusal). onward (turned i (record { state = t .state; printed = t .printed; refusal = o })) (walk p (suc i) bs)) e
         ∙ ap (λ (n : ℕ). record { state = t .state; printed = t .printed; ended = endingAt n (some refusal) }) (sym (add-zero i))
 
-    taken-by : (q : Bool) (o : Option Refusal) → p .step i s b .refusal ≡ o
-        → let u = cond q (noneTaken s) (oneMore (p .step i s b) o w) in
+    taken-by : (o : Option Refusal) → p .step i s b .refusal ≡ o
+        → let u = oneMore (p .step i s b) o w in
         walk p i (b ∷ bs) s ≡ onward (runOf i u) (walk p (i + u .taken) (drop (u .taken) (b ∷ bs)))
-    taken-by true o e = sym (onward-here s (walk p (i + 0) (b ∷ bs)) ∙ ap (λ (n : ℕ). walk p n (b ∷ bs) s) (add-zero i))
-    taken-by false none e = taken-goes e
-    taken-by false (some refusal) e = taken-refused refusal e
+    taken-by none e = taken-goes e
+    taken-by (some refusal) e = taken-refused refusal e
 
-pub fitting-walks : FittingWalks
-unfolding fitting
-fitting-walks S p i [] others s room = sym (onward-here s (walk p (i + 0) others) ∙ ap (λ (n : ℕ). walk p n others s) (add-zero i))
-fitting-walks S p i (b ∷ bs) others s room =
+  none-walks : (i : ℕ) (bs : List (List ℕ)) (s : S) → walk p i bs s ≡ onward (runOf i (noneTaken s)) (walk p (i + 0) bs)
+  none-walks i bs s = sym (onward-here s (walk p (i + 0) bs) ∙ ap (λ (n : ℕ). walk p n bs s) (add-zero i))
+
+pub front-walks : FrontWalks
+unfolding front
+front-walks S p i zero bs others s = none-walks p i (bs ++ others) s
+front-walks S p i (suc most) [] others s = none-walks p i others s
+front-walks S p i (suc most) (b ∷ bs) others s =
+    let t = p .step i s b in
+    taken-by p i b (bs ++ others) s (front p (suc i) most bs (t .state)) (front-walks S p (suc i) most bs others (t .state)) (t .refusal) refl
+
+pub front-few : {S : Type 0} (p : Program S) (i most : ℕ) (bs : List (List ℕ)) (s : S) → front p i most bs s .taken ≤ length bs
+unfolding front
+front-few p i zero bs s = omega arith
+front-few p i (suc most) [] s = omega arith
+front-few {S} p i (suc most) (b ∷ bs) s = let t = p .step i s b in go t (t .refusal) (front p (suc i) most bs (t .state)) (front-few p (suc i) most bs (t .state))
+  where
+    go : (t : Turn S) (o : Option Refusal) (w : Took S) → w .taken ≤ length bs → oneMore t o w .taken ≤ suc (length bs)
+    go t none w h = omega (arith, h)
+    go t (some refusal) w h = omega arith
+
+pub fitting-is-front : FittingIsFront
+unfolding fitting front
+fitting-is-front S p i [] s room = (0, refl)
+fitting-is-front S p i (b ∷ bs) s room =
     let t = p .step i s b in
     let n = length (t .printed .out) in
-    taken-by p i b (bs ++ others) s (fitting p (suc i) bs (t .state) (room - n)) (fitting-walks S p (suc i) bs others (t .state) (room - n)) (ltb room n) (t .refusal) refl
+    go (ltb room n) (fitting-is-front S p (suc i) bs (t .state) (room - n))
+  where
+    go : (q : Bool) → let t = p .step i s b in let w = fitting p (suc i) bs (t .state) (room - length (t .printed .out)) in
+        (most : ℕ) × (w ≡ front p (suc i) most bs (t .state)) → (most : ℕ) × (cond q (noneTaken s) (oneMore t (t .refusal) w) ≡ front p i most (b ∷ bs) s)
+    go true h = (0, refl)
+    go false h = (suc (h .0), ap (oneMore (p .step i s b) (p .step i s b .refusal)) (h .1))
 
 -- ---- it fits
 

@@ -105,6 +105,10 @@ pub octets-wholes : (s : List ℕ) → Octets s → Each Octets (wholeIn s)
 unfolding wholeIn
 octets-wholes s h = cut-each Octets octets-take octets-drop (wholes s) s h
 
+pub octets-blocks : (trace : List ℕ) → Octets (drop blockBytes trace) → Each Octets (blocksOf trace .others)
+unfolding blocksOf
+octets-blocks trace o = cut-each Octets octets-take octets-drop (length trace) (drop blockBytes trace) o
+
 -- the first of them, and the others
 pub whole-none : (s : List ℕ) → length s < blockBytes → wholeIn s ≡ []
 unfolding wholeIn wholes cut

@@ -13,13 +13,13 @@ use Rattle.answers.specs.declared.Refusal.the-variants.{Incomplete}
 use Rattle.format.specs.Blocks.{blockBytes}
 use Rattle.numbers.proofs.Octets.{octets-take, octets-drop}
 use Rattle.walk.specs.Blocks.{blocksOf}
-use Rattle.walk.specs.Programs.{Printed, nothing, both, toOutput, Turn, Ending, Program, Run, endingAt, turned, onward, walk, walked, closed, printedBy}
+use Rattle.walk.specs.Programs.{Printed, nothing, both, Turn, Ending, Program, Run, endingAt, turned, onward, walk, walked, closed, printedBy}
 use Rattle.walk.specs.Pieces.{Octets, blocksIn, wholes, wholeIn}
-use Rattle.walk.specs.Fitting.{Took, fitting, runOf}
-use Rattle.walk.specs.Machines.{Gave, Machine, Rest, more, done, over, Session, began, Standing, nextBehind, begunBy, tookBy, stoodBy, endingBy, goesOn, Gives, Follows, SessionPrints}
+use Rattle.walk.specs.Fitting.{Took, front, fitting, runOf}
+use Rattle.walk.specs.Machines.{Gave, Machine, Rest, more, done, over, Session, began, Standing, nextBehind, begunBy, tookBy, fittingBy, stoodBy, endingBy, goesOn, Gives, Follows, SessionPrints}
 use Rattle.walk.proofs.Pieces.{blocks-none, blocks-first, blocks-behind, wholes-fit, whole-many, piece-blocks, trace-blocks}
 use Rattle.walk.proofs.Walks.{closed-goes, closed-ends}
-use Rattle.walk.proofs.Fits.{onward-here, fitting-walks, fitting-fits}
+use Rattle.walk.proofs.Fits.{onward-here, front-walks, front-few, fitting-is-front}
 
 module _ {S : Type 0} (p : Program S) where
   -- what is printed from where a run stands, with so many bytes left of the trace
@@ -70,29 +70,29 @@ module _ {S : Type 0} (p : Program S) where
   begun-by t (some refusal) bytes = sym (behind-over (t .state) (t .printed) bytes 0 1 refusal)
 
   -- no more is taken than the piece has
-  took-few : (s : Standing S) (o : Option Refusal) (piece : List ℕ) (room : ℕ) → blockBytes * tookBy p s o piece room .taken ≤ length piece
-  took-few s none piece room =
-      let few = fitting-fits S p (s .block) (wholeIn piece) (s .state) room .1 in
+  took-few : (s : Standing S) (o : Option Refusal) (piece : List ℕ) (most : ℕ) → blockBytes * tookBy p s o piece most .taken ≤ length piece
+  took-few s none piece most =
+      let few = front-few p (s .block) most (wholeIn piece) (s .state) in
       omega (arith, few, whole-many piece, wholes-fit piece)
-  took-few s (some refusal) piece room = omega arith
+  took-few s (some refusal) piece most = omega arith
 
   -- a piece
-  took-left : (s : Standing S) (o : Option Refusal) (piece behind : List ℕ) (room : ℕ)
-      → let w = tookBy p s o piece room in
+  took-left : (s : Standing S) (o : Option Refusal) (piece behind : List ℕ) (most : ℕ)
+      → let w = tookBy p s o piece most in
       leftBy (s .state) (s .block) o (piece ++ behind)
       ≡ both (w .printed) (leftBy (w .state) (s .block + w .taken) (w .refusal) (drop (blockBytes * w .taken) (piece ++ behind)))
-  took-left s none piece behind room =
+  took-left s none piece behind most =
       let i = s .block in
-      let w = fitting p i (wholeIn piece) (s .state) room in
+      let w = front p i most (wholeIn piece) (s .state) in
       let all = piece ++ behind in
       let cuts = piece-blocks piece behind in
-      let inside : blockBytes * w .taken ≤ length all = omega (arith, took-few s none piece room, length-append piece behind) in
+      let inside : blockBytes * w .taken ≤ length all = omega (arith, took-few s none piece most, length-append piece behind) in
       left-goes (s .state) i all
       ∙ ap (λ (bs : List (List ℕ)). closed p (walk p i bs (s .state))) cuts
-      ∙ ap (closed p) (fitting-walks S p i (wholeIn piece) (blocksIn (drop (blockBytes * wholes piece) all)) (s .state) room)
+      ∙ ap (closed p) (front-walks S p i most (wholeIn piece) (blocksIn (drop (blockBytes * wholes piece) all)) (s .state))
       ∙ ap (λ (bs : List (List ℕ)). closed p (onward (runOf i w) (walk p (i + w .taken) bs))) (ap (drop (w .taken)) (sym cuts) ∙ blocks-behind (w .taken) all inside)
       ∙ after-by i w (drop (blockBytes * w .taken) all)
-  took-left s (some refusal) piece behind room =
+  took-left s (some refusal) piece behind most =
       left-over (s .state) (s .block) refusal (piece ++ behind)
       ∙ ap (λ (n : ℕ). p .close (s .state) (endingAt n (some refusal))) (sym (add-zero (s .block)))
       ∙ sym (left-over (s .state) (s .block + 0) refusal (drop (blockBytes * 0) (piece ++ behind)))
@@ -120,6 +120,14 @@ module _ {S : Type 0} (p : Program S) where
   over-left s none bytes rest e = let z : _≡_ {A = ℕ} 0 1 = cc in absurd (omega arith)
   over-left s (some refusal) bytes rest e = left-over (s .state) (s .block) refusal bytes
 
+-- the blocks that fit are the first ones
+pub fitting-gives : {H S : Type 0} {Stands : H → Standing S → Type 0} (p : Program S) (s : Standing S) (o : Option Refusal) (piece : List ℕ) (room : ℕ) {g : Gave H}
+    → Gives Stands s (fittingBy p s o piece room) g → (most : ℕ) × Gives Stands s (tookBy p s o piece most) g
+fitting-gives {H} {S} {Stands} p s none piece room {g} h =
+    let f = fitting-is-front S p (s .block) (wholeIn piece) (s .state) room in
+    (f .0, subst (λ (w : Took S). Gives Stands s w g) (f .1) h)
+fitting-gives p s (some refusal) piece room h = (0, h)
+
 octets-front : (s t : List ℕ) → Octets (s ++ t) → Octets s
 octets-front s t o = subst Octets (take-at s t (length s) refl) (octets-take (length s) (s ++ t) o)
 
@@ -127,16 +135,18 @@ module _ {H S : Type 0} {m : Machine H} {p : Program S} (f : Follows m p) where
   rest-prints : {h : H} {bytes : List ℕ} {q : Printed} (s : Standing S) → f .Stands h s → Octets bytes → blockBytes * s .block + length bytes < blockBytes * 2 ^ 64
       → Rest m h bytes q → q ≡ left p s bytes
   rest-prints s stands o few (more h piece behind room q r) =
-      let w = tookBy p s (s .refusal) piece room in
-      let within = took-few p s (s .refusal) piece room in
       let long = length-append piece behind in
-      let g = f .takes h s piece room stands (octets-front piece behind o) (omega (arith, few, long, wholes-fit piece)) in
+      let gave = f .takes h s piece room stands (octets-front piece behind o) (omega (arith, few, long, wholes-fit piece)) in
+      let most = gave .0 in
+      let g = gave .1 in
+      let w = tookBy p s (s .refusal) piece most in
+      let within = took-few p s (s .refusal) piece most in
       let d = length-drop (blockBytes * w .taken) (piece ++ behind) in
       let same : drop (m .blocks h piece room .taken) (piece ++ behind) ≡ drop (blockBytes * w .taken) (piece ++ behind) = ap (λ (n : ℕ). drop n (piece ++ behind)) (g .taken) in
       ap₂ both (g .printed)
       (rest-prints (stoodBy s w) (g .stands) (octets-drop (m .blocks h piece room .taken) (piece ++ behind) o) (omega (arith, few, long, within, d, ap length same)) r
       ∙ ap (left p (stoodBy s w)) same)
-      ∙ sym (took-left p s (s .refusal) piece behind room)
+      ∙ sym (took-left p s (s .refusal) piece behind most)
   rest-prints s stands o few (done h rest short) = f .ends h s rest stands ∙ sym (ends-left p s (s .refusal) rest short (f .parts (s .block) (s .state)))
   rest-prints s stands o few (over h bytes rest e) = f .ends h s rest stands ∙ sym (over-left p s (s .refusal) bytes rest (sym (f .going h s stands) ∙ e))
 

@@ -1,9 +1,9 @@
--- The blocks of a piece in turn: to the last, to one that is refused, or to one for whose bytes the output has no room left.
+-- The blocks of a piece in turn: to the last, to one that is refused, or to one where a call stops, as where its output has no room for the next block's bytes.
 use mathlib.Core.Path.{_≡_}
 use mathlib.Core.Bool.{cond}
 use mathlib.Core.List.{List, [], _∷_, _++_}
 use mathlib.Core.Option.{Option, none, some}
-use Prim.Native.Nat.{ℕ, suc, _+_, _-_, _*_, _≤_}
+use Prim.Native.Nat.{ℕ, zero, suc, _+_, _-_, _*_, _≤_}
 use lib.Dec.{ltb}
 use lib.ListN.{length, drop}
 use lib.Seq.{sets}
@@ -27,6 +27,12 @@ abbrev pub oneMore : {S : Type 0} → Turn S → Option Refusal → Took S → T
 oneMore t none w = record { state = w .state; taken = suc (w .taken); printed = both (t .printed) (w .printed); refusal = w .refusal }
 oneMore t (some refusal) w = record { state = t .state; taken = 0; printed = t .printed; refusal = some refusal }
 
+-- the first of the blocks from i on, at most so many
+unfoldable pub front : {S : Type 0} → Program S → ℕ → ℕ → List (List ℕ) → S → Took S
+front p i zero bs s = noneTaken s
+front p i (suc most) [] s = noneTaken s
+front p i (suc most) (b ∷ bs) s = let t = p .step i s b in oneMore t (t .refusal) (front p (suc i) most bs (t .state))
+
 -- the blocks from i on, where standard output has so much room
 unfoldable pub fitting : {S : Type 0} → Program S → ℕ → List (List ℕ) → S → ℕ → Took S
 fitting p i [] s room = noneTaken s
@@ -49,13 +55,18 @@ pub record Reached {S : Type 0} (all : Took S) (s : S) (o : Option Refusal) (at 
   pub stores : out ≡ sets old 0 (all .printed .out)
 
 -- the walk over the blocks is what was taken, and then the walk from there
-abbrev pub FittingWalks : Type 1
-FittingWalks =
-    (S : Type 0) (p : Program S) (i : ℕ) (bs others : List (List ℕ)) (s : S) (room : ℕ)
-    → let w = fitting p i bs s room in
+abbrev pub FrontWalks : Type 1
+FrontWalks =
+    (S : Type 0) (p : Program S) (i most : ℕ) (bs others : List (List ℕ)) (s : S)
+    → let w = front p i most bs s in
     walk p i (bs ++ others) s ≡ onward (runOf i w) (walk p (i + w .taken) (drop (w .taken) (bs ++ others)))
 
--- it fits, and is no more than there are
+-- the blocks that fit are the first ones
+abbrev pub FittingIsFront : Type 1
+FittingIsFront =
+    (S : Type 0) (p : Program S) (i : ℕ) (bs : List (List ℕ)) (s : S) (room : ℕ) → (most : ℕ) × (fitting p i bs s room ≡ front p i most bs s)
+
+-- they fit, and are no more than there are
 abbrev pub FittingFits : Type 1
 FittingFits =
     (S : Type 0) (p : Program S) (i : ℕ) (bs : List (List ℕ)) (s : S) (room : ℕ)

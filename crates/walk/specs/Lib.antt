@@ -4,6 +4,7 @@ pub mod Theorems
 pub mod Pieces
 pub mod Fitting
 pub mod Machines
+pub mod Singles
 pub mod Endings
 pub mod Steps
 pub mod Puts
