@@ -1,67 +1,70 @@
 // ecnstreams reads a trace of several streams on standard input and prints one row for each (request L1). The crate `mixed` says what each block does, and
-// `shell` moves the bytes.
+// `shell` what comes next.
 use answers::ROOM;
-use answers::Refusal;
 use answers::Written;
+use format::Form;
 use format::block::BLOCK;
-use libc::STDOUT_FILENO;
 use mixed::Begin;
 use mixed::Run;
 use shell::clipped::least;
 use shell::failures::has_arguments;
-use shell::failures::tell_reading;
 use shell::printing::Output;
-use shell::reading::Ahead;
+use shell::reading::Input;
 use shell::reading::fill;
+use shell::transfers::Transfer;
+use shell::turns::Turn;
+use shell::turns::next_turn;
 use table::write_head;
 use table::write_refused;
+use walk::Ended;
 use walk::number_after;
 
 // So many blocks are read at a time after block 0.
 const PIECE: usize = 256 * BLOCK;
 
-// How a run stands: it goes on, it has come to the end of the trace, or a block is refused with a number.
-enum Standing {
-    Going,
-    Whole,
-    Refused(u8),
-}
-
-// How far a run has come, with the number of the next block or of the refused one.
+// How far a run has come, with the number of the next block, and whether that was refused.
 struct Progress {
     run: Run,
     block: u64,
-    standing: Standing,
+    ended: Ended,
 }
 
-// Tells a failed read, before another call of the system fails.
-fn tell_failed(ahead: Ahead, name: &[u8]) {
-    let Ahead::Failure = ahead else {
-        return;
-    };
-    tell_reading(name);
+// How far the program has come: the run, and what is read and kept.
+struct State {
+    progress: Progress,
+    transfer: Transfer,
 }
 
-// A run that has taken all blocks of a piece. The block that could not be read is not a whole block.
-fn after_piece(p: Progress, ahead: Ahead) -> Progress {
-    let run = p.run;
-    let standing = p.standing;
-    let Standing::Going = standing else {
-        return p;
-    };
-    match ahead {
-        Ahead::More => p,
-        Ahead::End => Progress {
+// The run after block 0, or as a refused label leaves it.
+fn started(zeroth: &[u8]) -> Progress {
+    match Run::start(zeroth) {
+        Begin::Started(run) => Progress {
             run,
-            block: p.block,
-            standing: Standing::Whole,
+            block: 1,
+            ended: Ended::Going,
         },
-        Ahead::Failure => Progress {
-            run,
-            block: p.block,
-            standing: Standing::Refused(Refusal::Incomplete.number()),
-        },
+        Begin::Refused(refusal) => {
+            let run = Run {
+                form: Form::One,
+                length: 0,
+                held: 0,
+            };
+            Progress {
+                run,
+                block: 0,
+                ended: Ended::Refused(refusal),
+            }
+        }
     }
+}
+
+// Takes block 0, which stays in a buffer of its own, and keeps the head line.
+fn begin(zeroth: Input, kept: &[u8], rows: &mut [u8]) -> State {
+    let progress = started(zeroth.front(kept));
+    let ended = progress.ended;
+    let answer = write_head(rows);
+    let transfer = Transfer::begun(zeroth, ended).with_kept(answer, rows);
+    State { progress, transfer }
 }
 
 // Takes the blocks of a piece in turn, to the last or to one that is refused. Each has 512 bytes, the last one perhaps fewer.
@@ -78,7 +81,7 @@ fn take_blocks(start: Progress, lines: &mut [u64], piece: &[u8]) -> Progress {
                 return Progress {
                     run,
                     block,
-                    standing: Standing::Refused(refusal.number()),
+                    ended: Ended::Refused(refusal),
                 };
             }
             _ => {
@@ -91,46 +94,41 @@ fn take_blocks(start: Progress, lines: &mut [u64], piece: &[u8]) -> Progress {
     Progress {
         run,
         block,
-        standing: Standing::Going,
+        ended: Ended::Going,
     }
 }
 
-// Reads a piece and takes its blocks.
-fn take_piece(p: Progress, name: &[u8], lines: &mut [u64], pieces: &mut [u8]) -> Progress {
-    let from = 0;
-    let read = fill(pieces);
-    let bytes = read.bytes;
-    let ahead = read.ahead;
-    tell_failed(ahead, name);
-    after_piece(take_blocks(p, lines, &pieces[from..bytes]), ahead)
+// Takes the blocks of a piece, none after a refusal.
+fn take_more(start: Progress, lines: &mut [u64], piece: &[u8]) -> Progress {
+    let ended = start.ended;
+    match ended {
+        Ended::Going => take_blocks(start, lines, piece),
+        Ended::Refused(_) => start,
+    }
 }
 
-// Takes the pieces to the end of the run.
-fn take_pieces(start: Progress, name: &[u8], lines: &mut [u64], pieces: &mut [u8]) -> Progress {
-    let mut p = start;
-    let mut turns: u64 = 0xffff_ffff_ffff_ffff;
-    while 0 < turns {
-        let standing = p.standing;
-        let Standing::Going = standing else {
-            return p;
-        };
-        p = take_piece(p, name, lines, pieces);
-        turns -= 1;
+// Takes the blocks that are read.
+fn take(s: State, lines: &mut [u64], piece: &[u8]) -> State {
+    let before = s.progress;
+    let transfer = s.transfer;
+    let left = transfer.left(piece);
+    let progress = take_more(before, lines, left);
+    let ended = progress.ended;
+    State {
+        progress,
+        transfer: transfer.with_taken(ended, left.len(), piece),
     }
-    p
 }
 
 // What is kept with the line `refused N block I`.
 fn with_refused(out: Output, number: u8, block: u64, rows: &mut [u8]) -> Output {
-    let used = least(out.used, rows.len());
-    match write_refused(number, block, &mut rows[used..]) {
-        Written::Length(n) => out.with_kept(n, rows),
-        _ => out,
-    }
+    let used = out.end(rows.len());
+    let answer = write_refused(number, block, &mut rows[used..]);
+    out.with_written(answer, rows)
 }
 
-// What is kept with the row of line i. A row that is refused is told in its place. (A row has at most 1,228 bytes, `row-fits` of the crate `table`: the head
-// line and the rows of 16 sources fit.)
+// What is kept with the row of line i. A row that is refused is reported in its place. (A row has at most 1,228 bytes, `row-fits` of the crate `table`: the
+// head line and the rows of 16 sources fit.)
 fn with_row(
     out: Output,
     run: Run,
@@ -140,7 +138,7 @@ fn with_row(
     zeroth: &[u8],
     rows: &mut [u8],
 ) -> Output {
-    let used = least(out.used, rows.len());
+    let used = out.end(rows.len());
     match run.row(i, lines, zeroth, &mut rows[used..]) {
         Written::Length(n) => out.with_kept(n, rows),
         Written::Room(_) => with_refused(out, ROOM, block, rows),
@@ -166,66 +164,118 @@ fn with_rows(
     out
 }
 
-// Takes the blocks after block 0: what is then kept are the rows, or the line of the refused block.
-fn count_rest(
-    start: Progress,
-    head: Output,
+// Takes what is left, and ends the run: what is then kept are the rows, or the line of the refused block.
+fn close(s: State, lines: &mut [u64], zeroth: &[u8], piece: &[u8], rows: &mut [u8]) -> Transfer {
+    let before = s.progress;
+    let transfer = s.transfer;
+    let out = transfer.out;
+    let last = take_more(before, lines, transfer.rest(piece));
+    let ended = last.ended;
+    let mut closed = transfer;
+    match ended {
+        Ended::Refused(refusal) => {
+            closed.out = with_refused(out, refusal.number(), last.block, rows);
+        }
+        Ended::Going => {
+            closed.out = with_rows(out, last.run, last.block, lines, zeroth, rows);
+        }
+    }
+    closed
+}
+
+// Ends the run, and prints what is kept. Standard error has nothing.
+fn finish(
+    s: State,
     name: &[u8],
+    lines: &mut [u64],
     zeroth: &[u8],
-    pieces: &mut [u8],
+    piece: &[u8],
     rows: &mut [u8],
-) -> Output {
+    errors: &mut [u8],
+) {
+    close(s, lines, zeroth, piece, rows).finished(name, rows, errors);
+}
+
+// Takes, prints or reads.
+fn step(
+    s: State,
+    turn: Turn,
+    name: &[u8],
+    lines: &mut [u64],
+    piece: &mut [u8],
+    rows: &mut [u8],
+    errors: &mut [u8],
+) -> State {
+    let progress = s.progress;
+    let transfer = s.transfer;
+    match turn {
+        Turn::Take => take(s, lines, piece),
+        Turn::Print => State {
+            progress,
+            transfer: transfer.with_printed(name, rows, errors),
+        },
+        Turn::Read => State {
+            progress,
+            transfer: transfer.with_read(piece),
+        },
+        _ => s,
+    }
+}
+
+// Goes on from block 0 as it is told.
+fn run(
+    start: State,
+    name: &[u8],
+    lines: &mut [u64],
+    zeroth: &[u8],
+    piece: &mut [u8],
+    rows: &mut [u8],
+    errors: &mut [u8],
+) {
+    let mut s = start;
+    let mut turns: u64 = 0xffff_ffff_ffff_ffff;
+    while 0 < turns {
+        let transfer = s.transfer;
+        let turn = next_turn(transfer, piece);
+        match turn {
+            Turn::Finish => {
+                finish(s, name, lines, zeroth, piece, rows, errors);
+                return;
+            }
+            Turn::Stop => {
+                return;
+            }
+            _ => {
+                s = step(s, turn, name, lines, piece, rows, errors);
+            }
+        }
+        turns -= 1;
+    }
+}
+
+// Counts the streams of the trace.
+fn count(name: &[u8], kept: &mut [u8], piece: &mut [u8], rows: &mut [u8], errors: &mut [u8]) {
     let mut words = [0u64; Run::WORDS];
     let lines: &mut [u64] = &mut words;
-    let end = take_pieces(start, name, lines, pieces);
-    let standing = end.standing;
-    match standing {
-        Standing::Refused(number) => with_refused(head, number, end.block, rows),
-        _ => with_rows(head, end.run, end.block, lines, zeroth, rows),
-    }
-}
-
-// Takes block 0, which stays in a buffer of its own, and the blocks after it.
-fn count_all(
-    head: Output,
-    name: &[u8],
-    zeroth: &mut [u8],
-    pieces: &mut [u8],
-    rows: &mut [u8],
-) -> Output {
-    let from = 0;
-    let read = fill(zeroth);
-    let bytes = read.bytes;
-    let ahead = read.ahead;
-    tell_failed(ahead, name);
-    match Run::start(&zeroth[from..bytes]) {
-        Begin::Started(run) => {
-            let first = Progress {
-                run,
-                block: 1,
-                standing: Standing::Going,
-            };
-            count_rest(after_piece(first, ahead), head, name, zeroth, pieces, rows)
-        }
-        Begin::Refused(refusal) => with_refused(head, refusal.number(), 0, rows),
-    }
-}
-
-// Prints the head line and the rows.
-fn convert_all(name: &[u8], zeroth: &mut [u8], pieces: &mut [u8], rows: &mut [u8]) {
-    let Written::Length(n) = write_head(rows) else {
-        return;
-    };
-    let head = Output::new(STDOUT_FILENO).with_kept(n, rows);
-    count_all(head, name, zeroth, pieces, rows).flushed(name, rows);
+    let zeroth = fill(kept);
+    run(
+        begin(zeroth, kept, rows),
+        name,
+        lines,
+        kept,
+        piece,
+        rows,
+        errors,
+    );
 }
 
 fn main() {
     if has_arguments(b"usage: ecnstreams <TRACE >TABLE\n") {
         return;
     }
-    let mut zeroth = [0u8; BLOCK];
-    let mut pieces = [0u8; PIECE];
+    let mut kept = [0u8; BLOCK];
+    let mut piece = [0u8; PIECE];
     let mut rows = io::large_buffer();
-    convert_all(b"ecnstreams", &mut zeroth, &mut pieces, &mut rows);
+    let mut errors = [0u8; 1];
+    count(b"ecnstreams", &mut kept, &mut piece, &mut rows, &mut errors);
 }

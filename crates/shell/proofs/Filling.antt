@@ -18,14 +18,18 @@ use Rattle.shell.proofs.Answered.{Fair}
 pub record Stands (whole : ℕ) (r : Reading) : Type 0 where
   pub inside : r .input .bytes ≤ whole
   pub blocks : r .input .ahead ≡ Failure → r .input .bytes % 512 ≡ 0
+  pub room : r .input .ahead ≡ Failure → r .input .bytes < whole
   pub few : r .left ≤ tries
 
 -- a number that falls with each read
 unfoldable pub toGo : ℕ → Reading → ℕ
 toGo whole r = cond (isMore (r .input .ahead)) ((whole - r .input .bytes) * 4294967296 + r .left + 1) 0
 
+none-of : {A : Type 0} → _≡_ {A = ℕ} 0 1 → A
+none-of z = absurd (omega arith)
+
 pub begun-stands : {whole : ℕ} {r : Reading} → r ≡ begun → Stands whole r
-begun-stands e = rw e (record { inside = omega arith; blocks = λ f. refl; few = omega arith })
+begun-stands e = rw e (record { inside = omega arith; blocks = λ f. refl; room = λ f. none-of (cc); few = omega arith })
 
 -- ---- whether it goes on
 
@@ -54,10 +58,10 @@ after-fits whole r Failed h f = omega arith
 
 pub after-stands : (whole : ℕ) (r : Reading) (o : Outcome) → Stands whole r → r .input .bytes < whole
     → Fair (whole - r .input .bytes) (r .left) o → Stands whole (readingAfter r o)
-after-stands whole r (Bytes k) s h f = record { inside = omega arith; blocks = λ e. let z : _≡_ {A = ℕ} 0 1 = cc in absurd (omega arith); few = omega arith }
-after-stands whole r Nothing s h f = record { inside = omega arith; blocks = λ e. let z : _≡_ {A = ℕ} 0 1 = cc in absurd (omega arith); few = s .few }
-after-stands whole r (Again k) s h f = record { inside = omega arith; blocks = λ e. let z : _≡_ {A = ℕ} 0 1 = cc in absurd (omega arith); few = omega (arith, s .few) }
-after-stands whole r Failed s h f = record { inside = omega arith; blocks = λ e. omega arith; few = s .few }
+after-stands whole r (Bytes k) s h f = record { inside = omega arith; blocks = λ e. none-of (cc); room = λ e. none-of (cc); few = omega arith }
+after-stands whole r Nothing s h f = record { inside = omega arith; blocks = λ e. none-of (cc); room = λ e. none-of (cc); few = s .few }
+after-stands whole r (Again k) s h f = record { inside = omega arith; blocks = λ e. none-of (cc); room = λ e. none-of (cc); few = omega (arith, s .few) }
+after-stands whole r Failed s h f = record { inside = omega arith; blocks = λ e. omega arith; room = λ e. omega arith; few = s .few }
 
 pub after-less : (whole : ℕ) (r : Reading) (o : Outcome) → isMore (r .input .ahead) ≡ true → r .input .bytes < whole
     → Fair (whole - r .input .bytes) (r .left) o → toGo whole (readingAfter r o) < toGo whole r
@@ -75,4 +79,5 @@ stands-filled n r s e =
       inside = omega (arith, s .inside);
       full = λ m. omega (arith, s .inside, stops-full r (n - n % 512) e m);
       blocks = s .blocks;
+      room = λ m. omega (arith, s .room m);
     }

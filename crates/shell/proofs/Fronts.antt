@@ -1,18 +1,19 @@
 -- Bytes at the front of a buffer: those that are printed, and those that are moved there one after another. Assumes nothing.
 use mathlib.Core.Path.{_≡_, refl, sym, ap, _∙_}
-use mathlib.Core.Bool.{Bool, true, false, cond}
+use mathlib.Core.Bool.{Bool, true, false, cond, _||_}
 use mathlib.Core.List.{List}
-use Prim.Native.Nat.{ℕ, suc, _+_, _-_, _≤_, _<_, min}
+use Prim.Native.Nat.{ℕ, _+_, _-_, _≤_, _<_, min}
 use native.Mathlib.Nat.{add-comm}
-use native.Mathlib.Numerals.{add-one}
 use native.Mathlib.Omega.{arith}
 use borrow.Author.Tests.{leb-true, leb-false}
 use lib.Dec.{leb}
 use lib.ListN.{length, take, drop, set, getD, length-drop}
 use lib.Seq.{sets, drop-drop, drop-set-lt, getD-drop, getD-take, length-take-le}
 use Rattle.answers.proofs.Stores.{sets-turn}
-use Rattle.shell.specs.Kept.{dueOf}
+use Rattle.shell.specs.Writes.{Ended, hasFailed}
+use Rattle.shell.specs.Kept.{dueOf, outputAfter, Printed}
 use Rattle.shell.specs.declared.printing.Output.{Output}
+use Rattle.shell.specs.declared.writing.Writing.{Writing}
 
 -- a turn: the bytes from i on are still the old ones, so the one that is moved is
 module _ (old buffer : List ℕ) (from n i : ℕ) (turn : i < n) (room : from + n ≤ length old) (same : drop i buffer ≡ drop i old) where
@@ -40,7 +41,7 @@ module _ (old buffer : List ℕ) (from n i : ℕ) (turn : i < n) (room : from + 
       let long : length run ≡ n = length-take-le n (drop from old) (rw length-drop (omega arith)) in
       ap (λ (b : ℕ). sets (set buffer i b) (i + 1) (drop (i + 1) run)) byte ∙ sets-turn buffer i run i (omega (arith, long))
 
--- where fewer bytes are there than are asked for, none is behind them
+-- if fewer bytes are there than are asked for, none is after them
 pub front-clipped : (old : List ℕ) (used bytes : ℕ) {end : ℕ} → end ≡ min bytes used → take (used - end) (drop end old) ≡ take (used - end) (drop bytes old)
 front-clipped old used bytes {end} e = go (leb bytes used) refl
   where
@@ -50,11 +51,37 @@ front-clipped old used bytes {end} e = go (leb bytes used) refl
         let none : used - end ≡ 0 = omega (arith, leb-false bytes used h) in
         ap (λ (k : ℕ). take k (drop end old)) none ∙ sym (ap (λ (k : ℕ). take k (drop bytes old)) none)
 
--- no more is printed than the buffer has
+-- ---- printing
+
+-- the first n of them, as code takes them
+pub front-long : (s : List ℕ) (n : ℕ) → n ≤ length s → length (take (n - 0) s) ≡ n
+front-long s n h = let same : n - 0 ≡ n = omega arith in length-take-le (n - 0) s (omega arith) ∙ same
+
+-- no more is printed than there is
 pub due-within : (out : Output) (n : ℕ) → dueOf out n ≤ n
 unfolding dueOf
 due-within out n = go (out .failed)
   where
-    go : (t : Bool) → cond t 0 (min (out .used) n) ≤ n
+    go : (t : Bool) → cond t 0 n ≤ n
     go true = omega arith
     go false = omega arith
+
+or-false : (a b : Bool) → (a || b) ≡ false → (a ≡ false) × (b ≡ false)
+or-false true b e = let z : _≡_ {A = ℕ} 0 1 = cc in absurd (omega arith)
+or-false false b e = (refl, e)
+
+or-true : (a b : Bool) → b ≡ true → (a || b) ≡ true
+or-true true b e = refl
+or-true false b e = e
+
+-- of n bytes so many were to be written
+pub prints : (n : ℕ) (out : Output) (w : Writing) {r : Output} {due : ℕ} → due ≡ dueOf out n → Ended due w → r ≡ outputAfter out w → Printed n out r
+unfolding dueOf
+prints n out w d ended e =
+    rw e
+    record {
+      same = refl;
+      kept = refl;
+      whole = λ f. let both = or-false (hasFailed w) (out .failed) f in ended .all (both .0) ∙ d ∙ rw (both .1);
+      still = λ f. or-true (hasFailed w) (out .failed) f;
+    }

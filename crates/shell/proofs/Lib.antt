@@ -3,4 +3,7 @@ mod Answered
 mod Filling
 mod Fronts
 mod Joining
+mod Lefts
+mod Rounds
 mod Taking
+mod Turning

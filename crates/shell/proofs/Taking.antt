@@ -8,7 +8,7 @@ use lib.Dec.{ltb}
 use Rattle.answers.proofs.Conditions.{and-left, and-right, and-goes}
 use Rattle.shell.specs.Tries.{tries, bytesIn}
 use Rattle.shell.specs.Writes.{Ended, unwritten, hasFailed, isUnwritten, writingAfter}
-use Rattle.shell.specs.declared.printing.Writing.{Writing}
+use Rattle.shell.specs.declared.writing.Writing.{Writing}
 use Rattle.shell.specs.declared.retries.Outcome.{Outcome}
 use Rattle.shell.specs.declared.retries.Outcome.the-variants.{Bytes, Nothing, Again, Failed}
 use Rattle.shell.proofs.Answered.{Fair, above}

@@ -1,7 +1,7 @@
 -- How a lent buffer is filled with the whole blocks of a trace (document 01, "Trace file": blocks of 512 bytes, a tail under 512). Assumes nothing.
 use mathlib.Core.Path.{_≡_}
 use mathlib.Core.Bool.{Bool, true, false, cond, _&&_}
-use Prim.Native.Nat.{ℕ, _+_, _-_, _%_, _≤_, min}
+use Prim.Native.Nat.{ℕ, _+_, _-_, _%_, _≤_, _<_}
 use lib.Dec.{ltb}
 use Rattle.shell.specs.Tries.{tries}
 use Rattle.shell.specs.declared.reading.Ahead.{Ahead}
@@ -11,11 +11,13 @@ use Rattle.shell.specs.declared.reading.Reading.{Reading}
 use Rattle.shell.specs.declared.retries.Outcome.{Outcome}
 use Rattle.shell.specs.declared.retries.Outcome.the-variants.{Bytes, Nothing, Again, Failed}
 
--- what is read into a buffer of n bytes: more may come only where all whole blocks that fit are there; before a failed read only whole blocks count
+-- what is read into a buffer of n bytes: more may come only if all whole blocks that fit are there; before a failed read only whole blocks count, and the buffer
+-- has room for a byte more
 pub record Filled (n : ℕ) (r : Input) : Type 0 where
   pub inside : r .bytes ≤ n
   pub full : r .ahead ≡ More → r .bytes ≡ n - n % 512
   pub blocks : r .ahead ≡ Failure → r .bytes % 512 ≡ 0
+  pub room : r .ahead ≡ Failure → r .bytes < n
 
 -- a filling of so many bytes
 abbrev pub filling : ℕ → Ahead → ℕ → Reading
@@ -46,6 +48,6 @@ isFailure More = false
 isFailure End = false
 isFailure Failure = true
 
--- where what is left ends in a buffer of n bytes: one byte more after a failed read
-abbrev pub leftEnd : Input → ℕ → ℕ
-leftEnd r n = min (r .bytes + cond (isFailure (r .ahead)) 1 0) n
+-- where what is left ends: after a failed read one byte more is left
+abbrev pub endOf : Input → ℕ
+endOf r = r .bytes + cond (isFailure (r .ahead)) 1 0

@@ -1,39 +1,42 @@
--- How many bytes at the front of a lent buffer are kept for an output. Assumes nothing.
+-- What is kept at the front of a lent buffer for an output, and printed. Assumes nothing.
 use mathlib.Core.Path.{_≡_}
-use mathlib.Core.Bool.{Bool, true, cond}
+use mathlib.Core.Bool.{true, false, cond, _||_}
 use mathlib.Core.List.{List}
-use Prim.Native.Nat.{ℕ, _+_, _-_, _≤_, min}
+use Prim.Native.Nat.{ℕ, _+_, _-_, min}
 use lib.IntN.{ℤ}
 use lib.ListN.{length, take, drop}
 use lib.Seq.{sets}
+use Rattle.shell.specs.Writes.{hasFailed}
 use Rattle.shell.specs.declared.printing.Output.{Output}
+use Rattle.shell.specs.declared.writing.Writing.{Writing}
 
--- nothing is kept for a file descriptor, and a write has failed or not
-pub record Empty (fd : ℤ) (told : Bool) (r : Output) : Type 0 where
-  pub same : r .fd ≡ fd
-  pub empty : r .used ≡ 0
-  pub said : r .failed ≡ told
+-- nothing is kept or written yet for a file descriptor
+abbrev pub emptyOf : ℤ → Output
+emptyOf fd = record { fd = fd; used = 0; wrote = 0; failed = false }
 
--- so many bytes more are kept, where a buffer of n bytes has them
-pub record Kept (n bytes : ℕ) (out r : Output) : Type 0 where
+-- so many bytes more are kept, as far as a buffer of n bytes has them
+abbrev pub keptOf : ℕ → ℕ → Output → Output
+keptOf n bytes out = record { fd = out .fd; used = min (out .used + bytes) n; wrote = out .wrote; failed = out .failed }
+
+-- how many of n bytes are to be printed: none after a failure
+unfoldable pub dueOf : Output → ℕ → ℕ
+dueOf out n = cond (out .failed) 0 n
+
+-- after a print: what was written, and whether a write has failed, now or before
+abbrev pub outputAfter : Output → Writing → Output
+outputAfter out w = record { fd = out .fd; used = out .used; wrote = w .at; failed = hasFailed w || out .failed }
+
+-- n bytes were printed: all of them were written, unless a write has failed; and a failure is not forgotten
+pub record Printed (n : ℕ) (out r : Output) : Type 0 where
   pub same : r .fd ≡ out .fd
-  pub inside : r .used ≤ n
-  pub more : out .used + bytes ≤ n → r .used ≡ out .used + bytes
-  pub still : r .failed ≡ out .failed
-
--- nothing is kept any more, and a failure is not forgotten
-pub record Flushed (out r : Output) : Type 0 where
-  pub same : r .fd ≡ out .fd
-  pub empty : r .used ≡ 0
+  pub kept : r .used ≡ out .used
+  pub whole : r .failed ≡ false → r .wrote ≡ n
   pub still : out .failed ≡ true → r .failed ≡ true
 
--- so many bytes fewer are kept: those after the first so many of the buffer, which stand at its front now; and a failure is not forgotten
+-- the first bytes of what is kept were printed, at most so many, and are not kept any more: those after them stand at the front of the buffer now
 pub record Moved (bytes : ℕ) (out : Output) (old : List ℕ) (r : Output) (new : List ℕ) : Type 0 where
   pub same : r .fd ≡ out .fd
   pub fewer : r .used ≡ min (out .used) (length old) - bytes
   pub front : new ≡ sets old 0 (take (r .used) (drop bytes old))
+  pub whole : r .failed ≡ false → r .wrote ≡ min bytes (min (out .used) (length old))
   pub still : out .failed ≡ true → r .failed ≡ true
-
--- how many bytes of a buffer of n are to be printed: those that are kept, and none after a failure
-unfoldable pub dueOf : Output → ℕ → ℕ
-dueOf out n = cond (out .failed) 0 (min (out .used) n)

@@ -3,3 +3,6 @@ pub mod Fills
 pub mod Writes
 pub mod Kept
 pub mod Told
+pub mod Transfers
+pub mod Turns
+pub mod Rounds

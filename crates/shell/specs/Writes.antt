@@ -6,7 +6,7 @@ use lib.Dec.{eqb, ltb}
 use lib.IntN.{ℤ, pos}
 use Rattle.numbers.specs.Integers.{eqZ}
 use Rattle.shell.specs.Tries.{tries}
-use Rattle.shell.specs.declared.printing.Writing.{Writing}
+use Rattle.shell.specs.declared.writing.Writing.{Writing}
 use Rattle.shell.specs.declared.retries.Outcome.{Outcome}
 use Rattle.shell.specs.declared.retries.Outcome.the-variants.{Bytes, Nothing, Again, Failed}
 

@@ -41,11 +41,6 @@ pub fn tell(program: &[u8], what: &[u8]) {
     os::fail(&line[..n]);
 }
 
-// Tells that a read has failed.
-pub fn tell_reading(program: &[u8]) {
-    tell(program, b"reading standard input");
-}
-
 // Whether a program that was started with so many words, its own name among them, has an argument.
 fn is_given(words: usize) -> bool
     ensures { λ r. ⌜ r ≡ leb 2 words ⌝ }

@@ -1,13 +1,15 @@
 // Standard input, read in pieces of whole blocks.
+use crate::clipped::least;
+use crate::failures::tell;
 use crate::retries::Outcome;
 use crate::retries::TRIES;
 use crate::retries::judged;
 use format::block::BLOCK;
 use libc::STDIN_FILENO;
 ghost use mathlib.Core.Path.{_≡_};
-ghost use Prim.Native.Nat.{_+_, _<_};
-ghost use lib.ListN.{length};
-ghost use Rattle.shell.specs.Fills.{Filled, filling, begun, goesOn, readingAfter, isFailure, leftEnd};
+ghost use Prim.Native.Nat.{_+_, _<_, min};
+ghost use lib.ListN.{length, take};
+ghost use Rattle.shell.specs.Fills.{Filled, filling, begun, goesOn, readingAfter, isFailure, endOf};
 ghost use Rattle.shell.specs.Tries.{bytesIn};
 
 // How the input stands: more may come, it has ended, or a read has failed.
@@ -77,8 +79,8 @@ fn reached(bytes: usize, ahead: Ahead, left: u64) -> Reading
     Reading { input, left }
 }
 
-// Fills the buffer from its front with as many whole blocks as fit. Where a read fails only the whole blocks before it count, and the caller tells the
-// failure (`tell_reading`, before another call of the system fails).
+// Fills the buffer from its front with as many whole blocks as fit. If a read fails only the whole blocks before it count, and the caller reports the failure
+// (`reported`, before another call of the system fails).
 pub fn fill(buffer: &mut [u8]) -> Input
     ensures { λ r. ⌜ Filled (length (now (buffer .entry))) r ⌝ }
 {
@@ -106,9 +108,29 @@ impl Input {
         }
     }
 
+    // Reports a failed read on standard error, and answers whether it did. Before it no other call may fail: errno is still that of the read.
+    pub fn reported(self, program: &[u8]) -> bool
+        ensures { λ r. ⌜ r ≡ isFailure (self .ahead) ⌝ }
+    {
+        if !self.has_failed() {
+            return false;
+        }
+        tell(program, b"reading standard input");
+        true
+    }
+
+    // What was read.
+    pub fn front(self, buffer: &[u8]) -> &[u8]
+        ensures { λ r. ⌜ now r ≡ take (self .bytes) (now (buffer .entry)) ⌝ }
+    {
+        let from = 0;
+        let to = least(self.bytes, buffer.len());
+        &buffer[from..to]
+    }
+
     // Where what is left in a buffer of so many bytes ends: after a failed read one byte more is left, since a block that could not be read is not a whole one.
     pub fn left_end(self, length: usize) -> usize
-        ensures { λ r. ⌜ r ≡ leftEnd self length ⌝ }
+        ensures { λ r. ⌜ r ≡ min (endOf self) length ⌝ }
     {
         if length <= self.bytes {
             return length;

@@ -1,5 +1,4 @@
 -- `shell::printing::Output::due` meets its contract. Assumes nothing.
-use borrow.Author.Needs.{needs}
 use Rattle.shell.specs.Kept.{dueOf}
 use Rattle.shell.proofs.printing.Output.due.Statement.{statement}
 use Rattle.shell.proofs.printing.Output.due.Tie as tie
@@ -10,7 +9,7 @@ returns c = rw (c .if1 .taken)
 
 returns-2 : tie.Need-returns-2
 unfolding dueOf
-returns-2 c = rw (c .before .if1 .left) (c .least .ensures)
+returns-2 c = rw (c .if1 .left)
 
 pub due-spec : {M : Type 1} → statement M
-due-spec = tie.close (tie.spec returns (λ c κs. search needs) returns-2)
+due-spec = tie.close (tie.spec returns returns-2)
