@@ -20,9 +20,10 @@ const SSRC: u32 = 3_735_928_559;
 const LABEL: &[u8] = b"probe 2, left";
 
 /// Our program, the other one, the links of its traces, and the sources in them.
-const PROGRAMS: [(&str, &str, &[(Link, &str)], usize); 4] = [
+const PROGRAMS: [(&str, &str, &[(Link, &str)], usize); 5] = [
     ("ecntable", "ecnrust", &LINKS, 1),
     ("ecnforms", "formsrust", LOSSY, 1),
+    ("ecnlabel", "labelrust", LOSSY, 1),
     ("ecnstreams", "streamsrust", LOSSY, 3),
     ("ecnstreams", "streamsrust", LOSSY, 16),
 ];
@@ -42,15 +43,20 @@ fn write_trace(path: &Path, form: Form, link: Link, sources: usize, megabytes: u
     out.flush()
 }
 
+fn told(out: &Path) -> PathBuf {
+    out.with_extension("err")
+}
+
+/// Runs a program on a trace. Standard error goes to a file beside the output.
 fn convert(program: &Path, trace: &Path, out: &Path) {
     let input = File::open(trace).expect("a trace");
-    let output = File::create(out).expect("an output");
-    let status = Command::new(program).stdin(Stdio::from(input)).stdout(Stdio::from(output)).status();
+    let [output, errors] = [out, &told(out)].map(|path| File::create(path).expect("an output"));
+    let status = Command::new(program).stdin(Stdio::from(input)).stdout(Stdio::from(output)).stderr(Stdio::from(errors)).status();
     assert!(status.expect("a program that starts").success(), "{} failed", program.display());
 }
 
-/// The medians of `cat`, ours and the other on one trace, each to a new file; the last two have to write the same. `cat` has rounds of its own:
-/// what runs right behind it finds the trace pushed out of the processor's cache by its output.
+/// The medians of `cat`, ours and the other on one trace, each to a new file; the last two have to write the same on both outputs. `cat` has rounds of
+/// its own: what runs right behind it finds the trace pushed out of the processor's cache by its output.
 fn measure(programs: &[PathBuf; 3], trace: &Path, folder: &Path, rounds: usize) -> Vec<f64> {
     let outs = ["cat.out", "ours.out", "other.out"].map(|name| folder.join(name));
     let mut runs: Vec<Box<dyn FnMut()>> = Vec::new();
@@ -58,9 +64,9 @@ fn measure(programs: &[PathBuf; 3], trace: &Path, folder: &Path, rounds: usize) 
         convert(program, trace, out);
         runs.push(Box::new(move || convert(program, trace, out)));
     }
-    let same = fs::read(&outs[1]).expect("our output") == fs::read(&outs[2]).expect("the other output");
-    assert!(same, "the outputs differ on {}", trace.display());
-    let remove = || outs.iter().for_each(|out| drop(fs::remove_file(out)));
+    let [one, other] = [1, 2].map(|i| [fs::read(&outs[i]), fs::read(told(&outs[i]))].map(|read| read.expect("an output")));
+    assert!(one == other, "the outputs differ on {}", trace.display());
+    let remove = || outs.iter().for_each(|out| [out, &told(out)].iter().for_each(|path| drop(fs::remove_file(path))));
     let (cat, converters) = runs.split_at_mut(1);
     [medians::medians(WALL, rounds, remove, cat), medians::medians(WALL, rounds, remove, converters)].concat()
 }

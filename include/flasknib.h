@@ -69,14 +69,16 @@ enum {
     FLASKNIB_REFUSAL_PLACES = 15,      /* a new SSRC, and every place of the table is held */
     FLASKNIB_REFUSAL_RULES = 16,       /* a table against its rules */
     FLASKNIB_REFUSAL_FORM_TWO = 17,    /* a time needs form 2: given by the converter of forms alone */
-    FLASKNIB_REFUSAL_ATTRIBUTE = 18    /* the line of an attribute is malformed */
+    FLASKNIB_REFUSAL_ATTRIBUTE = 18,   /* the line of an attribute is malformed */
+    FLASKNIB_REFUSAL_RETIRED = 19      /* a new label has a retired byte, 10 or 13: only flasknib_write_label gives it */
 };
 
 /* ---- what a writer answers -------------------------------------------------------------------------------------------------------
  * The functions that write bytes (those with `out`) give the length, the number of bytes that they wrote, or minus a refusal's number. Refusal 12
  * comes with its size, the number of bytes that the call would write: the answer is minus (256 * size + 12). With a room of exactly that many bytes
  * the same call succeeds, with one byte fewer it does not. The size can be asked with a room of 0; `out` must not be null, even then. The other
- * refusals have no size. The functions that fill words answer a plain 12: how many words they need is fixed, and stands below.
+ * refusals have no size. The functions that fill words answer a plain 12: how many words they need is fixed, and stands below. In the place of the
+ * length, flasknib_space_label gives the number of bytes that it replaced.
  *
  * The two macros take a writer's answer, an int64_t, apart. They evaluate it twice: give them a variable, not a call.
  */
@@ -470,6 +472,8 @@ uint8_t flasknib_answer(const uint64_t *offer, size_t offer_words, const uint64_
  * and a zero.
  *
  * A label has 0 to 502 bytes, each from 32 to 126 (printable ASCII), 10 (LF) or 13 (CR). It has no zero at its end, and its length counts none.
+ * Bytes 10 and 13 are retired: a trace that has them in its label is read, counted and converted like any other, and no new label is written with
+ * one.
  */
 enum { FLASKNIB_FORM_ONE = 1, FLASKNIB_FORM_TWO = 2 };
 
@@ -509,9 +513,14 @@ enum { FLASKNIB_RECORD_TIME = 0, FLASKNIB_RECORD_WIRE = 1, FLASKNIB_RECORD_MARK 
  * fewer words. Nothing else of the block is judged: flasknib_read_block does that, once a block. */
 uint8_t flasknib_record_at(const uint8_t *block, size_t length, size_t i, uint64_t *found, size_t words);
 
-/* Writes a label block, 512 bytes. Gives its length, or minus refusal 10 for another form than the two or a label against the rules above, or 12
- * with its size. */
+/* Writes the label block of a new label, 512 bytes. Gives its length, or minus refusal 10 for another form than the two or a label against the rules
+ * above, 19 for a label with a retired byte, or 12 with its size. */
 int64_t flasknib_write_label(uint8_t form, const uint8_t *label, size_t length, uint32_t ssrc, uint8_t *out, size_t room);
+
+/* Writes block 0 of a trace again, 512 bytes, with one space in the place of each retired byte of its label. Form, length and SSRC stay, and the
+ * checksum is the one that fits. Gives the number of bytes replaced, 0 to 502, or minus refusal 1, 13 or 14 for the block (14 for arrivals too), or
+ * 12 with its size. The program ecnlabel does this to block 0 and copies the others. */
+int64_t flasknib_space_label(const uint8_t *zeroth, size_t length, uint8_t *out, size_t room);
 
 /* Writes an arrivals block, 512 bytes, of three lists, one entry to a record: times in ms, wire numbers and marks, as numbers of the machine. Gives
  * its length, or minus refusal 10 for another form than the two, lists of unequal length, no record or more than the form has to a block, a time

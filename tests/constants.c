@@ -383,6 +383,7 @@ static void blocks(void)
     CHECK(flasknib_read_block(block, sizeof block - 1, found, FLASKNIB_BLOCK_WORDS) == FLASKNIB_REFUSAL_INCOMPLETE);
     CHECK(label_of(FLASKNIB_FORM_ONE - 1, 3, block, sizeof block) == -FLASKNIB_REFUSAL_LIMITS);
     CHECK(label_of(FLASKNIB_FORM_TWO + 1, 3, block, sizeof block) == -FLASKNIB_REFUSAL_LIMITS);
+    CHECK(flasknib_write_label(FLASKNIB_FORM_ONE, (const uint8_t *)"a\nb", 3, SSRC, block, sizeof block) == -FLASKNIB_REFUSAL_RETIRED);
     block[9] = 'y';
     CHECK(flasknib_read_block(block, sizeof block, found, FLASKNIB_BLOCK_WORDS) == FLASKNIB_REFUSAL_CHECKSUM);
     block[9] = 'x';
@@ -399,7 +400,7 @@ static int asks(int64_t answer, size_t size)
 
 static void sizes(void)
 {
-    uint8_t out[1], label[FLASKNIB_LABEL_MOST_BYTES];
+    uint8_t out[1], zeroth[FLASKNIB_BLOCK_BYTES], label[FLASKNIB_LABEL_MOST_BYTES];
     uint64_t source[FLASKNIB_SOURCE_WORDS] = {0};
     int64_t row;
 
@@ -407,6 +408,8 @@ static void sizes(void)
     CHECK(asks(flasknib_write_summary(source, FLASKNIB_SOURCE_WORDS, SSRC, out, 0), FLASKNIB_SUMMARY_BYTES));
     CHECK(asks(flasknib_write_head(out, 0), FLASKNIB_HEAD_BYTES));
     CHECK(asks(label_of(FLASKNIB_FORM_ONE, 0, out, 0), FLASKNIB_BLOCK_BYTES));
+    CHECK(label_of(FLASKNIB_FORM_ONE, 0, zeroth, sizeof zeroth) == FLASKNIB_BLOCK_BYTES);
+    CHECK(asks(flasknib_space_label(zeroth, sizeof zeroth, out, 0), FLASKNIB_BLOCK_BYTES));
     CHECK(asks(arrivals_of(FLASKNIB_FORM_TWO, 1, out, 0), FLASKNIB_BLOCK_BYTES));
     CHECK(asks(flasknib_write_refused(255, UINT64_MAX, out, 0), FLASKNIB_REFUSED_MOST_BYTES));
     memset(label, '"', sizeof label);

@@ -21,6 +21,10 @@ OTHERS = {
     ),
 }
 
+# The programs that copy blocks where they stand, and the functions that each has in the first one's words.
+COPYING = ("ecnlabel",)
+ALIKE = ("close", "finish", "step", "run")
+
 # What a main may hold of tests and sums: the usage line's test, and the number of turns, which ends the loop.
 ALLOWED = ("if has_arguments(", "while 0 < turns {", "turns -= 1;")
 DECIDES = re.compile(r"\b(?:if|else|while|for)\b|[<>!+*/%^]|(?<!-)-(?!>)|==|&&|\|")
@@ -50,6 +54,16 @@ def differences(first, other, words):
     return [f"has '{b.strip()}' for '{a.strip()}'" for a, b in zip(one, two) if a != b]
 
 
+def functions(text):
+    return dict(re.findall(r"fn (\w+)(.*?)(?=\bfn |$)", code(text).split("\n")[-1]))
+
+
+def unlike(first, other):
+    """The functions of a program that copies which are not the first one's."""
+    one, two = functions(first), functions(other)
+    return [f"has another '{name}' than {COPYING[0]}" for name in ALIKE if one[name] != two[name]]
+
+
 def decisions(text):
     """What a main decides: each test and each sum outside its constants."""
     text = re.sub(r'b"(?:\\.|[^"\\])*"|const [^;]*;', "", code(text).split("\n")[-1])
@@ -74,6 +88,11 @@ DECIDING = (
 )
 
 
+# The same of the programs that copy.
+TURNED_COPYING = (TURNED[0], TURNED[1], TURNED[3])
+DECIDING_COPYING = (("let used = err.end(errors.len());\n    let refused", "let used = err.used + 1;\n    let refused"), *DECIDING[1:])
+
+
 def broken(name, text, pairs, found):
     for old, new in pairs:
         assert text.count(old) == 1, (name, old)
@@ -90,11 +109,17 @@ def main():
         wrong += broken(name, text[name], TURNED, lambda copy, words=words: differences(text[FIRST], copy, words))
     for name in text:
         wrong += broken(name, text[name], DECIDING, decisions)
+    copying = {name: (crates / name / "src" / "main.rt").read_text(encoding="utf-8") for name in COPYING}
+    first = copying[COPYING[0]]
+    for name, other in copying.items():
+        wrong += [f"{name} {line}" for line in unlike(first, other) + decisions(other)]
+        wrong += broken(name, other, TURNED_COPYING, lambda copy: unlike(first, copy))
+        wrong += broken(name, other, DECIDING_COPYING, decisions)
     for line in wrong:
         print("mains: FAILED,", line)
     if not wrong:
-        copies = len(TURNED) * len(OTHERS) + len(DECIDING) * len(text)
-        print(f"mains: {len(text)} programs have one text but for names, and decide nothing; {copies} broken copies are found")
+        copies = len(TURNED) * len(OTHERS) + len(DECIDING) * len(text) + (len(TURNED_COPYING) + len(DECIDING_COPYING)) * len(copying)
+        print(f"mains: {len(text)} programs that write anew and {len(copying)} that copy have one text but for names, and decide nothing; {copies} broken copies are found")
     return 1 if wrong else 0
 
 

@@ -17,7 +17,7 @@ import promises
 TOP = os.path.dirname(os.path.dirname(os.path.abspath(__file__)))
 PAGE = "docs/REVIEWERS.md"
 # Two printed pages: typeset on A4, with letters of 9.5 points and of 8.5 in the tables, 1,511 words of this page took 1.8 pages.
-WORDS = 1600
+WORDS = 1670
 CLAIMS = 20  # the page has more of them, or its table was not found
 
 LINK = re.compile(r"\[([^\]]+)\]\(([^)]+)\)")

@@ -277,16 +277,46 @@ static void byte_order(void)
     CHECK(source[FLASKNIB_SOURCE_HIGHEST] == 0x1234);
 }
 
+/* The writer of a new label refuses 10 and 13 as retired; the row of a trace takes them. */
 static void label_rules(void)
 {
-    uint8_t block[FLASKNIB_BLOCK_BYTES];
+    uint8_t block[FLASKNIB_BLOCK_BYTES], row[FLASKNIB_ROW_MOST_BYTES];
+    uint64_t source[FLASKNIB_SOURCE_WORDS] = {0};
 
     for (int i = 0; i < 256; i++) {
         uint8_t byte = (uint8_t)i;
-        int taken = (i >= 32 && i <= 126) || i == 10 || i == 13;
+        int printable = i >= 32 && i <= 126, retired = i == 10 || i == 13;
         int64_t answer = flasknib_write_label(FLASKNIB_FORM_ONE, &byte, 1, SSRC, block, sizeof block);
-        CHECK(answer == (taken ? FLASKNIB_BLOCK_BYTES : -FLASKNIB_REFUSAL_LIMITS));
+        CHECK(answer == (printable ? FLASKNIB_BLOCK_BYTES : retired ? -FLASKNIB_REFUSAL_RETIRED : -FLASKNIB_REFUSAL_LIMITS));
+        answer = flasknib_write_row(&byte, 1, SSRC, source, FLASKNIB_SOURCE_WORDS, 0, 0, row, sizeof row);
+        CHECK(printable || retired ? answer > 0 : answer == -FLASKNIB_REFUSAL_LIMITS);
     }
+}
+
+/* Block 0 with the label `w d`, and with a retired byte in the place of the space, under the check that fits: it reads, and is spaced to the first. */
+static void old_labels(void)
+{
+    static const uint8_t retired[] = {10, 13};
+    uint8_t block[FLASKNIB_BLOCK_BYTES], old[FLASKNIB_BLOCK_BYTES], out[FLASKNIB_BLOCK_BYTES];
+    uint64_t found[FLASKNIB_BLOCK_WORDS];
+
+    CHECK(flasknib_write_label(FLASKNIB_FORM_ONE, (const uint8_t *)"w d", 3, SSRC, block, sizeof block) == FLASKNIB_BLOCK_BYTES);
+    for (size_t i = 0; i < sizeof retired; i++) {
+        size_t at = FLASKNIB_BLOCK_BODY_AT + 1, end = FLASKNIB_BLOCK_BYTES - 2;
+        unsigned sum = ((unsigned)block[end] << 8 | block[end + 1]) + 32u - retired[i];
+        memcpy(old, block, sizeof old);
+        old[at] = retired[i];
+        old[end] = (uint8_t)(sum >> 8);
+        old[end + 1] = (uint8_t)sum;
+        CHECK(flasknib_read_block(old, sizeof old, found, FLASKNIB_BLOCK_WORDS) == 0);
+        CHECK(flasknib_space_label(old, sizeof old, out, sizeof out) == 1 && memcmp(out, block, sizeof out) == 0);
+    }
+    CHECK(flasknib_space_label(block, sizeof block, out, sizeof out) == 0 && memcmp(out, block, sizeof out) == 0);
+    CHECK(flasknib_space_label(block, sizeof block - 1, out, 0) == -FLASKNIB_REFUSAL_INCOMPLETE);
+    block[FLASKNIB_BLOCK_BODY_AT] = 'W';
+    CHECK(flasknib_space_label(block, sizeof block, out, 0) == -FLASKNIB_REFUSAL_CHECKSUM);
+    CHECK(flasknib_write_records(FLASKNIB_FORM_ONE, (const uint8_t[8]){0}, 8, SSRC, block, sizeof block) == FLASKNIB_BLOCK_BYTES);
+    CHECK(flasknib_space_label(block, sizeof block, out, 0) == -FLASKNIB_REFUSAL_CONTENTS);
 }
 
 /* ---- block 0 of a run */
@@ -331,6 +361,7 @@ int main(void)
     record_limits();
     byte_order();
     label_rules();
+    old_labels();
     block_0();
     return checked("the header's rules");
 }

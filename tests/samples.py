@@ -1,7 +1,8 @@
-"""The traces that the gate runs the programs on (crates/ecntable, ecnforms and ecnstreams, `stdin`): each longer than a piece that a program reads.
+"""The traces that the gate runs the programs on (`stdin` of the programs' crates): each longer than a piece that a program reads.
 
 What ecntable and ecnforms print of theirs is longer than what they keep for output. ecntable's trace ends in a block whose check is wrong and one block
-more; ecnstreams' has several sources, and is whole. With --write they are written; without it the files are held to what this writes.
+more; ecnstreams' has several sources, and is whole. ecnlabel's has an old label, and its copy is made here too, `stdout`.
+With --write they are written; without it the files are held to what this writes.
 """
 import pathlib
 import struct
@@ -57,14 +58,37 @@ def ecnstreams():
     return b"".join(blocks)
 
 
+def own(ssrc, i):
+    """An arrivals block of form 1 with 1 to 62 records."""
+    count = 1 + i % 62
+    return block(2, count, ssrc, b"".join(lossy(40 * i + k) for k in range(count)))
+
+
+def ecnlabel():
+    """An old label with four retired bytes, and 600 blocks."""
+    label = b"probe 2,\r\nleft\n\rsecond line"
+    blocks = [own(9, i) for i in range(1, 601)]
+    spaced = label.replace(b"\r", b" ").replace(b"\n", b" ")
+    return b"".join([block(1, len(label), 9, label), *blocks]), b"".join([block(1, len(spaced), 9, spaced), *blocks])
+
+
+def files():
+    """(name in crates/, bytes)."""
+    for program in (ecntable, ecnforms, ecnstreams):
+        yield f"{program.__name__}/stdin", program()
+    for program in (ecnlabel,):
+        for name, made in zip(("stdin", "stdout"), program()):
+            yield f"{program.__name__}/{name}", made
+
+
 def main(words):
     wrong = []
-    for name, made in (("ecntable", ecntable()), ("ecnforms", ecnforms()), ("ecnstreams", ecnstreams())):
-        path = CRATES / name / "stdin"
+    for name, made in files():
+        path = CRATES / name
         if words == ["--write"]:
             path.write_bytes(made)
         elif path.read_bytes() != made:
-            wrong.append(f"crates/{name}/stdin is not what tests/samples.py writes")
+            wrong.append(f"crates/{name} is not what tests/samples.py writes")
     for line in wrong:
         print("samples: FAILED,", line)
     return 1 if wrong else 0

@@ -28,7 +28,7 @@ sys.path.insert(0, str(TOP / "tools"))
 from ecnlib import bars, make  # noqa: E402
 from ecnlib.blocks import FORMS, Record, Script, header, records_in  # noqa: E402
 from ecnlib.common import Ended  # noqa: E402
-from ecnlib.library import Attributes  # noqa: E402
+from ecnlib.library import Attributes, Library  # noqa: E402
 
 ECN, BIN, SAMPLES = TOP / "tools/ecn", TOP / "target/bin", TOP / "samples"
 BUILT = tempfile.TemporaryDirectory()
@@ -242,7 +242,7 @@ class Table(Tried):
             self.assertIn("4 blocks, 0 refused", self.ecn("look", path, "--streams", "--brief").stdout)
 
     def test_help(self):
-        for command in ([], ["table"], ["look"], ["make"], ["plot"], ["answer"]):
+        for command in ([], ["table"], ["look"], ["make"], ["label"], ["plot"], ["answer"]):
             self.assertIn("xit status", self.ecn(*command, "--help").stdout)
         self.ecn("table", SAMPLES / "c1.trace", status=2)
         self.assertEqual(subprocess.run([ECN, "--help"], env=OURS, stdout=subprocess.DEVNULL).returncode, 0)
@@ -410,11 +410,11 @@ class Files(Tried):
 class Endings(Tried):
     """Signals leave no part of a file and no process, and those that were ignored stay ignored."""
 
-    def ends(self, ending: int, *words) -> None:
+    def ends(self, ending: int, *words, name="ecntable") -> None:
         """The call's program tells its process, and then waits."""
         told = self.folder / "process"
         path = shlex.quote(str(told))
-        program = self.program(f"echo $$ >{path}.part; mv {path}.part {path}; exec sleep {2 * LONG}")
+        program = self.program(f"echo $$ >{path}.part; mv {path}.part {path}; exec sleep {2 * LONG}", name)
         child = self.begun(*words, "--bin", program)
         self.until(told.exists)
         child.send_signal(ending)
@@ -428,6 +428,7 @@ class Endings(Tried):
         place.mkdir()
         for words in (["table", trace, "-o", place / "out"], ["look", trace], ["make", self.folder / "in.csv", "--ssrc", "7", "-o", place / "out"]):
             self.ends(signal.SIGTERM, *words)
+        self.ends(signal.SIGTERM, "label", trace, "-o", place / "out", name="ecnlabel")
         for ending in (signal.SIGINT, signal.SIGHUP):
             self.ends(ending, "table", trace, "-o", place / "out")
         self.assertEqual(os.listdir(place), [])
@@ -660,6 +661,35 @@ class Make(Tried):
         self.assertIn(told, self.ecn("make", self.csv, "-o", self.made, *words, status=1).stderr)
         self.alone("in.csv")
 
+    def test_retired_bytes(self):
+        """One sentence says which byte of the label is retired, by either writer; a byte outside the rules comes first."""
+        for text, told in (
+            ("ward 3\nbed 12", "its byte 7 is 10 (LF), and line breaks are retired; put a space there"),
+            ("ward 3\r\nbed 12", "its byte 7 is 13 (CR), and"),
+            ("\n", "its byte 1 is 10 (LF), and"),
+            ("x" * 501 + "\r", "its byte 502 is 13 (CR), and"),
+        ):
+            for library in self.writers():
+                ran = self.make("time,number,mark\n0,1,2\n", "--ssrc", "1", "--label", text, status=1, library=library)
+                self.assertIn(f"ecn: the label is refused with 19: {told}", ran.stderr)
+                self.assertEqual(ran.stderr.count("\n"), 1)
+        for text in ("a\nb\tc", "\n" * 503):
+            self.assertIn("the label has to be", self.make("time,number,mark\n", "--ssrc", "1", "--label", text, status=1).stderr)
+        self.alone("in.csv")
+
+    @needs_library
+    def test_both_refuse_the_same(self):
+        """The library's writer refuses with 19 just what the script does."""
+        writer = Library(str(SHARED))
+        for byte in range(256):
+            try:
+                made = make.label_given(os.fsdecode(bytes([byte])))
+            except Ended as ended:
+                number = 19 if "refused with 19" in str(ended) else 10
+                self.assertRaisesRegex(Ended, f"refuses a block with {number}", writer.label, FORMS[1], bytes([byte]), 7)
+            else:
+                self.assertEqual(writer.label(FORMS[1], made, 7), label(made))
+
     def test_failures(self):
         self.assertIn("missing: No such file", self.ecn("make", self.folder / "missing", "-o", self.made, "--ssrc", "1", status=2).stderr)
         self.csv.write_text("time,number,mark\n0,1,2\n")
@@ -671,6 +701,98 @@ class Make(Tried):
         wrong = self.program("cat >/dev/null; printf 'refused 14 block 1\\r\\n'")
         self.assertIn("block 1 is refused with 14", self.ecn("make", self.csv, "-o", self.made, "--ssrc", "1", "--bin", wrong, status=1).stderr)
         self.alone("in.csv")
+
+
+class Label(Tried):
+    """ecn label: the copies are the program's, in place only when they are whole."""
+
+    RETURNS, SPACED = SAMPLES / "returns.trace", SAMPLES / "spaced.trace"
+
+    def test_copies(self):
+        for form in FORMS:
+            for text, spaced, told in (
+                (b"a\r\nb", b"a  b", "2 bytes"), (b"\n", b" ", "1 byte"), (b"plain", b"plain", "0 bytes"), (b"", b"", "0 bytes"),
+                (b"\r" * 502, b" " * 502, "502 bytes"),
+            ):
+                rest = [arrivals(form=form), arrivals(form=form, first=13)]
+                ran = self.ecn("label", self.trace(label(text, form=form), *rest), "-o", self.out)
+                self.assertEqual(self.out.read_bytes(), b"".join([label(spaced, form=form), *rest]))
+                self.assertEqual((ran.stdout, ran.stderr), ("", f"ecn: {self.folder}/made.trace: {told} of the label replaced by spaces\n"))
+        self.alone("made.trace", "out.csv")
+
+    def test_samples(self):
+        self.ecn("label", self.RETURNS, "-o", self.out)
+        self.assertEqual(self.out.read_bytes(), self.SPACED.read_bytes())
+        shutil.copy(self.out, self.folder / "again")
+        self.assertIn("again: 0 bytes of the label", self.ecn("label", self.folder / "again", "-o", self.out).stderr)
+        self.assertEqual(self.out.read_bytes(), self.SPACED.read_bytes())
+
+    def test_refused_block(self):
+        self.out.write_text("as it was")
+        for given, told in (
+            (SAMPLES / "damaged.trace", r"damaged\.trace: block 5 is refused with 13"),
+            (self.trace(label(b"\n"), arrivals(ssrc=8)), r"made\.trace: block 1 is refused with 14"),
+            (TOP / "README.md", "block 0 is refused with 13.*probably this is no trace"),
+            (os.devnull, "block 0 is refused with 1:"),
+        ):
+            ran = self.ecn("label", given, "-o", self.out, status=1)
+            self.assertRegex(ran.stderr, told)
+            self.assertEqual((self.out.read_text(), ran.stderr.count("\n")), ("as it was", 1))
+        self.alone("made.trace", "out.csv")
+
+    def test_failed_read_and_write(self):
+        self.out.write_text("as it was")
+        ran = self.ecn("label", self.folder, "-o", self.out, status=2)
+        self.assertIn("block 0: ecnlabel: reading standard input: Is a directory", ran.stderr)
+        self.assertIn("missing: No such file", self.ecn("label", self.folder / "missing", "-o", self.out, status=2).stderr)
+        limit = lambda: resource.setrlimit(resource.RLIMIT_FSIZE, (1000, 1000))  # noqa: E731
+        ran = self.ecn("label", SAMPLES / "long.trace", "-o", self.out, status=2, preexec_fn=limit)
+        self.assertIn("long.trace: ecnlabel: writing standard output: File too large", ran.stderr)
+        self.assertIn("/dev/full: No space left", self.ecn("label", self.RETURNS, "-o", "/dev/full", status=2).stderr)
+        self.assertEqual(self.out.read_text(), "as it was")
+        self.alone("out.csv")
+
+    def test_a_copy_that_is_not_whole(self):
+        """A program that ends early, says nothing, copies too little, or is not there."""
+        sample = shlex.quote(str(self.SPACED))
+        for text, told in (
+            ("kill -9 $$", "ended by signal 9"),
+            ("exit 3", "ended with status 3"),
+            (f"cat >/dev/null; cat {sample}", "ecnlabel told no number of bytes"),
+            (f"cat >/dev/null; head -c 1024 {sample}; printf '3\\r\\n' >&2", "1024 of 1536 bytes; the copy is not whole"),
+            (f"cat >/dev/null; cat {sample}; printf '3\\r\\nx\\n' >&2", "returns.trace: 3"),
+        ):
+            ran = self.ecn("label", self.RETURNS, "-o", self.out, "--bin", self.program(text, "ecnlabel"), status=2)
+            self.assertIn(told, ran.stderr)
+        self.assertIn("ecnlabel is not found in", self.ecn("label", self.RETURNS, "-o", self.out, "--bin", self.folder, status=2).stderr)
+        self.alone()
+
+    def test_several_traces(self):
+        given = [self.RETURNS, SAMPLES / "c1.trace", SAMPLES / "weeks.trace"]
+        ran = self.ecn("label", *given, "-o", self.folder / "copies", "-j", "3")
+        for each, wanted in zip(given, [self.SPACED, *given[1:]]):
+            self.assertEqual((self.folder / "copies" / each.name).read_bytes(), wanted.read_bytes())
+        self.assertEqual((len(os.listdir(self.folder / "copies")), ran.stderr.count("of the label")), (3, 3))
+        self.ecn("label", SAMPLES / "damaged.trace", *given, "-o", self.folder / "others/", status=1)
+        self.assertEqual(sorted(os.listdir(self.folder / "others")), sorted(each.name for each in given))
+
+    def test_an_input_is_never_an_output(self):
+        path = self.trace(label(b"\n"), arrivals())
+        for words in ([path, "-o", path], [path, SAMPLES / "c1.trace", "-o", self.folder]):
+            self.assertIn("made.trace is given as input and as output", self.ecn("label", *words, status=2).stderr)
+        self.assertEqual(path.read_bytes(), label(b"\n") + arrivals())
+        ran = self.ecn("label", self.RETURNS, self.RETURNS, "-o", self.folder / "t", status=2)
+        self.assertIn("would both have the copy", ran.stderr)
+        ran = self.ecn("label", self.RETURNS, self.SPACED, "-o", "-", status=2)
+        self.assertIn("several traces need a folder for their copies, and standard output is none", ran.stderr)
+
+    def test_pipes(self):
+        for out in ("-", "/dev/stdout"):
+            with open(self.RETURNS, "rb") as trace:
+                words = [sys.executable, "-S", ECN, "label", "-", "-o", out]
+                ran = subprocess.run(words, env=OURS, stdin=trace, capture_output=True, timeout=LONG)
+            self.assertEqual((ran.returncode, ran.stdout), (0, self.SPACED.read_bytes()))
+            self.assertEqual(ran.stderr, b"ecn: standard input: 3 bytes of the label replaced by spaces\n")
 
 
 class Plot(Tried):

@@ -9,7 +9,7 @@ pub fn calls(compare: &Compare, draw: &Draw) {
         read(compare, &blocks::any(draw), &vec![draw.u64(); draw.room(3)]);
     }
     for _ in 0..40_000 {
-        write_label(compare, draw);
+        write_any_label(compare, draw);
         write_any_arrivals(compare, draw);
         write_any_records(compare, draw);
     }
@@ -41,15 +41,21 @@ fn number(draw: &Draw, form: Form) -> u8 {
     }
 }
 
-fn write_label(compare: &Compare, draw: &Draw) {
+fn write_any_label(compare: &Compare, draw: &Draw) {
     let (form, label, ssrc) = (number(draw, draw.of(&FORMS)), blocks::any_label(draw), draw.u64() as u32);
     for room in draw.rooms(BLOCK) {
-        let mut lent = (Lent::new(&label), Lent::new(&vec![draw.u64() as u8; room]));
-        let answer = compare.call("flasknib_write_label", &mut lent, |calls, (label, out)| {
-            calls.write_label(form, label.part(), ssrc, out.part_mut())
-        });
-        read_written(compare, answer, lent.1.part());
+        let (answer, out) = write_label(compare, form, &label, ssrc, &vec![draw.u64() as u8; room]);
+        read_written(compare, answer, &out);
     }
+}
+
+/// Gives the answer and the bytes of `out` after the call.
+pub fn write_label(compare: &Compare, form: u8, label: &[u8], ssrc: u32, out: &[u8]) -> (i64, Vec<u8>) {
+    let mut lent = (Lent::new(label), Lent::new(out));
+    let answer = compare.call("flasknib_write_label", &mut lent, |calls, (label, out)| {
+        calls.write_label(form, label.part(), ssrc, out.part_mut())
+    });
+    (answer, lent.1.part().to_vec())
 }
 
 /// The records of a block of its form; now and then of the other form, none or too many, a time too long, a mark above 3, or lists of

@@ -28,6 +28,7 @@ pub trait Calls {
     fn read_block(&self, block: &[u8], found: &mut [u64]) -> u8;
     fn record_at(&self, block: &[u8], index: usize, found: &mut [u64]) -> u8;
     fn write_label(&self, form: u8, label: &[u8], ssrc: u32, out: &mut [u8]) -> i64;
+    fn space_label(&self, zeroth: &[u8], out: &mut [u8]) -> i64;
     fn write_arrivals(&self, form: u8, times: &[u64], numbers: &[u16], marks: &[u8], ssrc: u32, out: &mut [u8]) -> i64;
     fn write_records(&self, form: u8, records: &[u8], ssrc: u32, out: &mut [u8]) -> i64;
     fn write_head(&self, out: &mut [u8]) -> i64;
@@ -65,8 +66,8 @@ pub const STOP: u16 = 0x100;
 pub const REFUSED: u16 = 0x200;
 
 /// Every function with every answer it can give; a length counts as 0, a writer's 12 with any size as -12, of a difference its sign, and of a block's
-/// jumps and restarts whether there are any.
-pub const FUNCTIONS: [(&str, &[i64]); 40] = [
+/// jumps and restarts and of a label's retired bytes whether there are any.
+pub const FUNCTIONS: [(&str, &[i64]); 41] = [
     ("flasknib_arrive", &[0, 7, 8, 9, 10, 128]),
     ("flasknib_count_block", &[0, 1, 256, 257, -9, -10]),
     ("flasknib_lost", &[0, 9, 12]),
@@ -93,7 +94,8 @@ pub const FUNCTIONS: [(&str, &[i64]); 40] = [
     ("flasknib_answer", &[0, 9, 10, 12, 129]),
     ("flasknib_read_block", &[0, 1, 12, 13, 14]),
     ("flasknib_record_at", &[0, 1, 10, 12, 14]),
-    ("flasknib_write_label", &[0, -10, -12]),
+    ("flasknib_write_label", &[0, -10, -12, -19]),
+    ("flasknib_space_label", &[0, 1, -1, -12, -13, -14]),
     ("flasknib_write_arrivals", &[0, -10, -12]),
     ("flasknib_write_records", &[0, -10, -12]),
     ("flasknib_write_head", &[0, -12]),

@@ -5,10 +5,11 @@ use model::breaker::{Answer, Breaker, Report};
 use model::compound::Profile;
 use model::converter::Run;
 use model::forms::Conversion;
+use model::labels::{new_label_block, spaced};
 use model::refusal::{put, require, Refusal, Written, JUMP, LIMITS, MALFORMED, ROOM};
 use model::source::{count_block, Counted, Source};
 use model::streams::Table;
-use model::trace::{arrivals_block, label_block, records_block, Contents, Form, Record};
+use model::trace::{arrivals_block, records_block, Contents, Form, Record};
 use model::{compound, forms, report, sdp, streams, table, trace};
 
 pub struct Expected;
@@ -223,7 +224,16 @@ impl Calls for Expected {
     }
 
     fn write_label(&self, form: u8, label: &[u8], ssrc: u32, out: &mut [u8]) -> i64 {
-        length(put(Form::from_number(form).and_then(|form| label_block(form, label, ssrc)), out))
+        length(put(Form::from_number(form).and_then(|form| new_label_block(form, label, ssrc)), out))
+    }
+
+    /// The number of bytes replaced takes the place of the length.
+    fn space_label(&self, zeroth: &[u8], out: &mut [u8]) -> i64 {
+        let spaced = spaced(zeroth);
+        match (put(spaced.as_ref().map(|(block, _)| block).map_err(|&refusal| refusal), out), spaced) {
+            (Written::Length(_), Ok((_, replaced))) => replaced as i64,
+            (written, _) => length(written),
+        }
     }
 
     fn write_arrivals(&self, form: u8, times: &[u64], numbers: &[u16], marks: &[u8], ssrc: u32, out: &mut [u8]) -> i64 {

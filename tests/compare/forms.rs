@@ -1,8 +1,6 @@
 //! Document 02, L10, by hand: blocks of both forms. The answers and the bytes stand here as numbers; they hold the library and the model.
-use crate::blocks::{read, write_arrivals};
-use crate::calls::Calls;
+use crate::blocks::{read, write_arrivals, write_label};
 use crate::compare::Compare;
-use crate::lent::Lent;
 
 const WRITTEN: i64 = 512;
 const REFUSED: i64 = -10;
@@ -59,8 +57,6 @@ fn labels(compare: &Compare) {
     let untouched = || (REFUSED, vec![9; 512]);
     let wanted = [(1, (WRITTEN, block(1, check))), (2, (WRITTEN, block(3, check - 2))), (0, untouched()), (3, untouched())];
     for (form, (wanted, bytes)) in wanted {
-        let mut out = Lent::new(&[9; 512]);
-        let answer = compare.call("flasknib_write_label", &mut out, |calls: &dyn Calls, out| calls.write_label(form, b"hi", 1, out.part_mut()));
-        compare.hold(answer == wanted && out.part() == bytes, &format!("a label of form {form}"));
+        compare.hold(write_label(compare, form, b"hi", 1, &[9; 512]) == (wanted, bytes), &format!("a label of form {form}"));
     }
 }

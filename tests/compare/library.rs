@@ -34,6 +34,7 @@ extern "C" {
     fn flasknib_read_block(block: *const u8, length: usize, found: *mut u64, words: usize) -> u8;
     fn flasknib_record_at(block: *const u8, length: usize, i: usize, found: *mut u64, words: usize) -> u8;
     fn flasknib_write_label(form: u8, label: *const u8, length: usize, ssrc: u32, out: *mut u8, room: usize) -> i64;
+    fn flasknib_space_label(zeroth: *const u8, length: usize, out: *mut u8, room: usize) -> i64;
     fn flasknib_write_arrivals(form: u8, times: *const u64, n_times: usize, numbers: *const u16, n_numbers: usize, marks: *const u8,
                                n_marks: usize, ssrc: u32, out: *mut u8, room: usize) -> i64;
     fn flasknib_write_records(form: u8, records: *const u8, length: usize, ssrc: u32, out: *mut u8, room: usize) -> i64;
@@ -170,6 +171,10 @@ impl Calls for Library {
 
     fn write_label(&self, form: u8, label: &[u8], ssrc: u32, out: &mut [u8]) -> i64 {
         unsafe { flasknib_write_label(form, label.as_ptr(), label.len(), ssrc, out.as_mut_ptr(), out.len()) }
+    }
+
+    fn space_label(&self, zeroth: &[u8], out: &mut [u8]) -> i64 {
+        unsafe { flasknib_space_label(zeroth.as_ptr(), zeroth.len(), out.as_mut_ptr(), out.len()) }
     }
 
     fn write_arrivals(&self, form: u8, times: &[u64], numbers: &[u16], marks: &[u8], ssrc: u32, out: &mut [u8]) -> i64 {

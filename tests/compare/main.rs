@@ -13,6 +13,7 @@ mod conversions;
 mod counting;
 mod expected;
 mod forms;
+mod labels;
 mod lent;
 mod library;
 mod lists;
@@ -47,6 +48,7 @@ fn main() {
     worked::examples(compare);
     restarts::examples(compare);
     forms::examples(compare);
+    labels::examples(compare);
     places::examples(compare);
     counting::calls(compare, draw);
     tables::calls(compare, draw);
@@ -64,6 +66,7 @@ fn main() {
     let (lists, orders) = lists::lists(compare, draw);
     let [heard, reports, with_counts] = between::packets(compare, draw);
     let (lines, answers) = attributes::calls(compare, draw);
+    labels::calls(compare, draw);
     compare.close(table.as_deref());
     let (calls, functions) = (compare.calls(), compare.functions());
     println!(

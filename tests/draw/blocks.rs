@@ -34,6 +34,21 @@ pub fn any_label(draw: &Draw) -> Vec<u8> {
     label
 }
 
+/// A label with retired bytes: CR and LF one by one, in pairs and in rows, often at its ends, or nothing else.
+pub fn old_label(draw: &Draw) -> Vec<u8> {
+    let mut label = if draw.one_in(6) { Vec::new() } else { label(draw) };
+    for _ in 0..draw.within(1, 4) {
+        let place = draw.edge(0, label.len() as u64) as usize;
+        let breaks = draw.of(&[&b"\n"[..], b"\r", b"\r\n", b"\n\r", b"\r\n\r\n", b"\n\n", b" \r\n "]);
+        label.splice(place..place, breaks.iter().copied());
+    }
+    if draw.one_in(12) {
+        label = vec![draw.of(b"\r\n"); BODY];
+    }
+    label.truncate(BODY);
+    label
+}
+
 /// The number of records of a block.
 pub fn count(draw: &Draw, form: Form) -> usize {
     draw.edge(1, form.most_records() as u64) as usize

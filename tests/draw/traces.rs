@@ -27,6 +27,14 @@ pub fn sound(draw: &Draw, most_blocks: u64) -> Vec<u8> {
     trace
 }
 
+/// A sound trace whose label has retired bytes.
+pub fn with_old_label(draw: &Draw, most_blocks: u64) -> Vec<u8> {
+    let mut trace = sound(draw, most_blocks);
+    let Label { form, ssrc, .. } = zeroth(&trace[..BLOCK]).unwrap();
+    trace[..BLOCK].copy_from_slice(&label_block(form, &blocks::old_label(draw), ssrc).unwrap());
+    trace
+}
+
 /// A trace of one form whose arrivals blocks are of 0 to 18 sources, each with the numbers of a sender of its own.
 pub fn streams(draw: &Draw, most_blocks: u64) -> Vec<u8> {
     let (form, below) = (draw.of(&FORMS), Form::One.times());

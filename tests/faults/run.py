@@ -1,9 +1,9 @@
-"""run.py ECNTABLE ECNFORMS ECNSTREAMS FAULTS.so FOLDER: the programs where a read or a write fails, is interrupted, is not ready or moves few bytes.
+"""run.py BIN FAULTS.so FOLDER: the programs in BIN if a read or a write fails, is interrupted, is not ready or moves few bytes.
 
-A trace of 800 arrivals blocks. Where the calls can be made again the output is that of an undisturbed run and standard error is empty. Where a
-read fails, the output is that of the whole blocks before it, and `refused 1 block I` follows, on standard output by ecntable and ecnstreams and on
-standard error by ecnforms; where a write fails, standard output is cut off. Both say so in one line on standard error. Each check that does not hold is printed;
-the last line says how many runs there were.
+A trace of 800 arrivals blocks. If the calls can be made again, both outputs are those of an undisturbed run: on standard error the number of ecnlabel, and
+else nothing. If a read fails, the output is that of the whole blocks before it, and `refused 1 block I` follows, on standard output by ecntable and
+ecnstreams and on standard error by the others; if a write fails, standard output is cut off. Both say so in one line on standard error, and then ecnlabel
+prints no number. Each check that does not hold is printed; the last line says how many runs there were.
 """
 import errno
 import os
@@ -31,10 +31,10 @@ def block(kind, count, ssrc, body):
     return data + struct.pack(">H", 0xFFFF - total)
 
 
-def trace(form, records, ssrcs=(7,)):
+def trace(form, records, ssrcs=(7,), label=LABEL):
     """A trace of so many records, each block full but perhaps the last; the blocks have these SSRCs in turn."""
     most, packed_time = FORMS[form]
-    blocks = [block(2 * form - 1, len(LABEL), ssrcs[0], LABEL)]
+    blocks = [block(2 * form - 1, len(label), ssrcs[0], label)]
     for first in range(0, records, most):
         numbers = range(first, min(first + most, records))
         body = (packed_time(20 * n) + struct.pack(">HBB", n % 65536, n % 4, 0) for n in numbers)
@@ -46,11 +46,13 @@ class Ecntable:
     """What is printed behind so many whole blocks, and where a read fails there."""
 
     name, form, usage = "ecntable", 1, b"usage: ecntable <TRACE >TABLE\n"
+    # What stands on standard error after an undisturbed run.
+    told = b""
     # How many blocks are read at a time behind block 0; a write that brings more than 1,000 bytes, and what those before it bring; the last.
     piece, write, before, last = 256, 1, 0, 2
     # Reads of at most 700 bytes that fail before anything is printed, and the whole blocks before each.
     early = ((20, 25),)
-    ssrcs = (7,)
+    ssrcs, label = (7,), LABEL
 
     def learn(self, table):
         self.rows = table.splitlines(keepends=True)
@@ -63,11 +65,11 @@ class Ecntable:
 
 
 class Ecnforms:
-    name, usage = "ecnforms", b"usage: ecnforms <TRACE >TRACE\n"
+    name, usage, told = "ecnforms", b"usage: ecnforms <TRACE >TRACE\n", b""
     piece, write, before, last = 256, 2, 512 * BLOCK, 2
     # Those before the second of form 1 fill more than a piece of output.
     early = ((20, 25), (336, 456))
-    ssrcs = (7,)
+    ssrcs, label = (7,), LABEL
 
     def __init__(self, form):
         self.form = form
@@ -80,6 +82,18 @@ class Ecnforms:
 
     def unread(self, whole):
         return self.printed(whole), b"refused 1 block %d\r\n" % whole
+
+
+class Ecnlabel(Ecnforms):
+    """Block 0 is a write of its own, and so is what each piece gives: a read that fails is told after the blocks before it are written."""
+
+    name, usage, told = "ecnlabel", b"usage: ecnlabel <TRACE >TRACE\n", b"3\r\n"
+    write, before, last, early = 2, BLOCK, 2, ()
+    label = LABEL[:100] + b"\r\n" + LABEL[100:] + b"\n"
+
+    def printed(self, whole):
+        spaced = self.label.replace(b"\r", b" ").replace(b"\n", b" ")
+        return trace(self.form, (whole - 1) * FORMS[self.form][0], label=spaced) if whole else b""
 
 
 class Ecnstreams(Ecntable):
@@ -101,11 +115,11 @@ class Tried:
     def __init__(self, program, path, library, folder):
         self.program, self.command, self.library = program, os.path.abspath(path), os.path.abspath(library)
         self.path, self.out = pathlib.Path(folder, "faults.trace"), pathlib.Path(folder, "faults.out")
-        self.path.write_bytes(trace(program.form, (BLOCKS - 1) * FORMS[program.form][0], program.ssrcs))
+        self.path.write_bytes(trace(program.form, (BLOCKS - 1) * FORMS[program.form][0], program.ssrcs, program.label))
         self.runs, self.wrong = 0, []
         self.whole, told = self.run("undisturbed")
         program.learn(self.whole)
-        self.hold("undisturbed", self.whole, told, program.printed(BLOCKS), b"")
+        self.hold("undisturbed", self.whole, told, program.printed(BLOCKS), program.told)
         if len(self.whole) < 5_000 or b"refused" in self.whole:
             self.wrong.append("undisturbed: not the whole trace")
 
@@ -140,7 +154,7 @@ class Tried:
         return f"{self.program.name}: {what}: {os.strerror(error)}\n".encode()
 
     def same(self, name, faults="", **kept):
-        self.hold(name, *self.run(name, faults, **kept), self.whole, b"")
+        self.hold(name, *self.run(name, faults, **kept), self.whole, self.program.told)
 
     def read_fails(self, name, whole, error, faults="", **kept):
         """A read fails behind so many whole blocks."""
@@ -195,6 +209,16 @@ def both_fail(tried):
         faults = f"read short 1 0 700; read fail {call} {errno.EIO} 1; write fail 1 {errno.ENOSPC} 1"
         line = program.unread(whole)[1] + tried.told("reading standard input", errno.EIO) + tried.told("writing standard output", errno.ENOSPC)
         tried.hold(name, *tried.run(name, faults), b"", line)
+
+
+def copies_fail(tried):
+    """A read fails behind whole blocks of its piece, and then the write of these blocks fails: standard output is cut off, what is told of the read has its own
+    error, and the line of the write is the last."""
+    call, whole = 20, 25
+    faults = f"read short 1 0 700; read fail {call} {errno.EIO} 1; write fail 2 {errno.ENOSPC} 1"
+    out, line = tried.run("a read and then a write fails", faults)
+    read, write = tried.program.unread(whole)[1] + tried.told("reading standard input", errno.EIO), tried.told("writing standard output", errno.ENOSPC)
+    tried.hold("a read and then a write fails", out, line, tried.whole[:BLOCK], (read if line.startswith(read) else b"") + write)
 
 
 def limited():
@@ -263,7 +287,7 @@ def real_pipes(tried):
     _, line = tried.run("a pipe is full for 0.3 s", stdout=writing)
     os.close(writing)
     drainer.join()
-    tried.hold("a pipe is full for 0.3 s", drained[0], line, tried.whole, b"")
+    tried.hold("a pipe is full for 0.3 s", drained[0], line, tried.whole, tried.program.told)
 
 
 def arguments(tried):
@@ -272,12 +296,13 @@ def arguments(tried):
         tried.hold(name, *tried.run(name, words=words), b"", tried.program.usage)
 
 
-def main(ecntable, ecnforms, ecnstreams, library, folder):
+def main(bin, library, folder):
     runs, wrong = 0, []
     parts = (injected_reads, injected_writes, real_files, real_pipes, arguments)
-    programs = ((Ecntable(), ecntable, parts), (Ecnforms(1), ecnforms, parts), (Ecnforms(2), ecnforms, parts[:2]), (Ecnstreams(), ecnstreams, parts))
-    for program, path, tries in programs:
-        tried = Tried(program, path, library, folder)
+    copies = (*parts, copies_fail)
+    programs = ((Ecntable(), parts), (Ecnforms(1), parts), (Ecnforms(2), parts[:2]), (Ecnstreams(), parts), (Ecnlabel(1), copies), (Ecnlabel(2), parts[:2]))
+    for program, tries in programs:
+        tried = Tried(program, os.path.join(bin, program.name), library, folder)
         for part in tries:
             part(tried)
         runs, wrong = runs + tried.runs, wrong + tried.wrong

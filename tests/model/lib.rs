@@ -5,6 +5,7 @@ pub mod bytes;
 pub mod compound;
 pub mod converter;
 pub mod forms;
+pub mod labels;
 pub mod refusal;
 pub mod report;
 pub mod sdp;

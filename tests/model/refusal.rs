@@ -27,6 +27,7 @@ pub const PLACES: Refusal = Refusal(15);
 pub const RULES: Refusal = Refusal(16);
 pub const FORM_TWO: Refusal = Refusal(17);
 pub const ATTRIBUTE: Refusal = Refusal(18);
+pub const RETIRED: Refusal = Refusal(19);
 
 /// The output is too small.
 pub const ROOM: u8 = 12;

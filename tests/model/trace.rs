@@ -128,6 +128,7 @@ pub fn is_label(label: &[u8]) -> bool {
     label.len() <= BODY && label.iter().all(|&byte| matches!(byte, 32..=126 | 10 | 13))
 }
 
+/// The block of a label that a trace may have, a new one or an old one.
 pub fn label_block(form: Form, label: &[u8], ssrc: u32) -> Result<Vec<u8>, Refusal> {
     require(is_label(label), LIMITS)?;
     Ok(block(form.kinds().0, label.len(), ssrc, label))

@@ -1,8 +1,5 @@
 //! Runs a program on one trace and holds what it prints to the model's.
 use draw::Draw;
-use model::converter::table;
-use model::forms::converted;
-use model::streams;
 use std::cell::RefCell;
 use std::collections::BTreeMap;
 use std::fs::{write, File};
@@ -22,20 +19,8 @@ pub struct Feed {
 }
 
 impl Feed {
-    pub fn ecntable(program: &str, folder: &str, seed: u64) -> Feed {
-        Feed::new(program, |trace| (table(trace), Vec::new()), folder, seed)
-    }
-
-    pub fn ecnstreams(program: &str, folder: &str, seed: u64) -> Feed {
-        Feed::new(program, |trace| (streams::table(trace), Vec::new()), folder, seed)
-    }
-
-    pub fn ecnforms(program: &str, folder: &str, seed: u64) -> Feed {
-        Feed::new(program, converted, folder, seed)
-    }
-
-    fn new(program: &str, model: fn(&[u8]) -> Printed, folder: &str, seed: u64) -> Feed {
-        Feed { program: program.to_string(), model, trace: format!("{folder}/fed.trace"), seed, refused: RefCell::default() }
+    pub fn new(program: String, model: fn(&[u8]) -> Printed, folder: &str, seed: u64) -> Feed {
+        Feed { program, model, trace: format!("{folder}/fed.trace"), seed, refused: RefCell::default() }
     }
 
     /// The trace as a file on standard input. Gives what is printed, which is what the model says.

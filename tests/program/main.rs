@@ -1,35 +1,41 @@
-//! program ECNTABLE ECNFORMS ECNSTREAMS SAMPLES FOLDER [SEED]: traces fed to the programs, their outputs held to the model's byte for byte.
+//! program BIN SAMPLES FOLDER [SEED]: traces fed to the programs in BIN, their outputs held to the model's byte for byte.
 //! program --tables FOLDER COUNT [SEED]: traces and the values of their tables, for table.py.
 mod back;
 mod feed;
+mod labels;
 mod tables;
 mod tries;
 
 use draw::Draw;
-use feed::Feed;
+use feed::{Feed, Printed};
 
 const SEED: u64 = 20_260_802;
 
 fn main() {
     let mut words: Vec<String> = std::env::args().skip(1).collect();
-    let fixed = if words[0] == "--tables" { 3 } else { 5 };
-    let seed = words.drain(fixed..).next().map_or(SEED, |seed| seed.parse().expect("the seed is a number"));
+    let seed = words.drain(3..).next().map_or(SEED, |seed| seed.parse().expect("the seed is a number"));
     let draw = &Draw::seeded(seed);
     if words[0] == "--tables" {
         tables::write(draw, &words[1], words[2].parse().expect("the count is a number"));
         return;
     }
-    let ecntable = &Feed::ecntable(&words[0], &words[4], seed);
-    let ecnforms = &Feed::ecnforms(&words[1], &words[4], seed);
-    let ecnstreams = &Feed::ecnstreams(&words[2], &words[4], seed);
-    let samples = tries::samples(ecntable, &words[3]) + tries::samples(ecnstreams, &format!("{}/streams", words[3]));
+    let [bin, samples, folder] = [0, 1, 2].map(|i| words[i].as_str());
+    let feed = |name: &str, model: fn(&[u8]) -> Printed| Feed::new(format!("{bin}/{name}"), model, folder, seed);
+    let ecntable = &feed("ecntable", |trace| (model::converter::table(trace), Vec::new()));
+    let ecnforms = &feed("ecnforms", model::forms::converted);
+    let ecnstreams = &feed("ecnstreams", |trace| (model::streams::table(trace), Vec::new()));
+    let ecnlabel = &feed("ecnlabel", model::labels::labelled);
+    let tables = tries::samples(ecntable, samples) + tries::samples(ecnstreams, &format!("{samples}/streams"));
+    labels::sample(ecnlabel, samples);
     let times = back::long_times(ecnforms, draw) + back::other_faults_first(ecnforms, draw);
     let (back, same) = back::there_and_back(ecntable, ecnforms, draw);
     let streams = tries::streams(ecnstreams, draw) + tries::seventeen(ecnstreams, draw);
+    let copies = labels::copies(&[ecntable, ecnforms, ecnlabel], draw);
     let programs = [
         ("ecntable", ecntable, &["1", "13", "14"][..]),
         ("ecnforms", ecnforms, &["1", "13", "14", "17"]),
         ("ecnstreams", ecnstreams, &["1", "13", "14", "15"]),
+        ("ecnlabel", ecnlabel, &["1", "13", "14"]),
     ];
     for (name, feed, possible) in programs {
         let whole = tries::whole_traces(feed, draw);
@@ -43,7 +49,7 @@ fn main() {
         );
     }
     println!(
-        "program: {samples} samples, {streams} traces of several streams, {times} traces with a time that needs form 2; {back} traces go there \
-         and back with one last line of the table, {same} of them byte for byte"
+        "program: {tables} samples, {streams} traces of several streams, {times} traces with a time that needs form 2; {back} traces go there \
+         and back with one last line of the table, {same} of them byte for byte; {copies} copies of traces with retired bytes in the label"
     );
 }

@@ -4,6 +4,7 @@ from typing import Iterator, NamedTuple, Sequence
 
 BLOCK, BODY = 512, 502
 MARKS = ("not-ECT", "ECT(1)", "ECT(0)", "CE")
+RETIRED = {10: "LF", 13: "CR"}  # bytes that an older label may have, and no new one
 
 
 class Form(NamedTuple):

@@ -12,8 +12,8 @@ The blocks are written by the proved library where it is found ($FLASKNIB_LIBRAR
 script. The trace is put in place only when the proved program takes it: ecntable for one source; for several ecnstreams, or where that is missing
 ecntable for each of them. What was used is said on standard error.
 
-Exit status: 0 the trace is in place; 1 the CSV file or the label is outside the trace's rules, or the program refuses the trace; 2 a read or a
-write failed, the program is missing, or the arguments are wrong.
+Exit status: 0 the trace is in place; 1 the CSV file or the label is outside the trace's rules, or the label has a line
+break, or the program refuses the trace; 2 a read or a write failed, the program is missing, or the arguments are wrong.
 """
 import argparse
 import csv
@@ -21,7 +21,7 @@ import io
 from typing import BinaryIO, Iterator, NamedTuple, Optional
 
 from . import files, programs
-from .blocks import BLOCK, BODY, FORMS, MARKS, Form, Record, Script, header
+from .blocks import BLOCK, BODY, FORMS, MARKS, RETIRED, Form, Record, Script, header
 from .common import REFUSED, WELL, Ended, file_name, many, refused_words, tell
 from .library import library
 
@@ -37,7 +37,7 @@ class Arrival(NamedTuple):
 def add_arguments(parser: argparse.ArgumentParser) -> None:
     parser.add_argument("csv", type=file_name, metavar="CSV", help="the arrivals; - is standard input")
     parser.add_argument("-o", "--out", required=True, type=file_name, metavar="TRACE", help="the trace; - is standard output")
-    parser.add_argument("--label", default="", metavar="TEXT", help="the trace's label, 0 to 502 bytes of ASCII (empty)")
+    parser.add_argument("--label", default="", metavar="TEXT", help="the trace's label, 0 to 502 bytes of printable ASCII (empty)")
     parser.add_argument("--ssrc", type=number, metavar="N", help="the source, where there is no column ssrc; 0x.. is hexadecimal")
     parser.add_argument("--form", type=int, choices=FORMS, default=1, help="1: times below 2^32 ms, 49 days (the default); 2: times below 2^48 ms")
 
@@ -93,8 +93,12 @@ def arrivals_in(text: io.TextIOBase, name: str, form: Form, ssrc: Optional[int])
 
 def label_given(text: str) -> bytes:
     label = text.encode("utf-8", "surrogateescape")
-    if len(label) > BODY or any(not 32 <= byte <= 126 and byte not in b"\r\n" for byte in label):
-        raise Ended(REFUSED, f"the label has to be 0 to {BODY} bytes of printable ASCII or line breaks")
+    if len(label) > BODY or any(not 32 <= byte <= 126 and byte not in RETIRED for byte in label):
+        raise Ended(REFUSED, f"the label has to be 0 to {BODY} bytes of printable ASCII")
+    for place, byte in enumerate(label, 1):
+        if byte in RETIRED:
+            which = f"its byte {place} is {byte} ({RETIRED[byte]})"
+            raise Ended(REFUSED, f"the label is refused with 19: {which}, and line breaks are retired; put a space there")
     return label
 
 

@@ -6,13 +6,14 @@ import shutil
 import subprocess
 import tempfile
 import threading
-from typing import BinaryIO, Iterable, NamedTuple, Optional
+from typing import BinaryIO, Iterable, List, NamedTuple, Optional, Tuple
 
 from . import endings
 from .common import FAILED, Ended
 
 # The line of a refused block. It is the last one of a table and stands alone, so no row can be taken for it: a row ends with numbers.
 REFUSED_LINE = re.compile(rb"refused (\d+) block (\d+)")
+TOLD_LINE = re.compile(rb"refused (\d+) block (\d+)\r\n")  # the same line on standard error
 TAIL = 100  # bytes, enough for that line
 BESIDE = os.path.dirname(os.path.dirname(os.path.realpath(__file__)))
 
@@ -93,6 +94,20 @@ def stop(child: subprocess.Popen) -> None:
 def fault_of(path: str, status: int, errors: BinaryIO) -> str:
     """What has gone wrong in a run of the program: what it told on standard error, or how it ended."""
     errors.seek(0)
-    told = errors.read().decode("utf-8", "replace").strip()
+    return fault_by(path, status, errors.read())
+
+
+def fault_by(path: str, status: int, told: bytes) -> str:
+    """The same, from what it told."""
     ended = f"by signal {-status}" if status < 0 else f"with status {status}"
-    return told or (f"{os.path.basename(path)} ended {ended}" if status else "")
+    return told.decode("utf-8", "replace").strip() or (f"{os.path.basename(path)} ended {ended}" if status else "")
+
+
+def refusals_told(errors: BinaryIO) -> Tuple[List[Refusal], bytes]:
+    """The refused blocks that a program lists on standard error, and what stands after their lines."""
+    errors.seek(0)
+    told, refusals, end = errors.read(), [], 0
+    while line := TOLD_LINE.match(told, end):
+        refusals.append(Refusal(int(line[1]), int(line[2])))
+        end = line.end()
+    return refusals, told[end:]

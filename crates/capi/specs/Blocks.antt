@@ -1,9 +1,10 @@
 -- What the functions of trace blocks and table rows give and leave (include/flasknib.h, "trace blocks and table rows").
-use Prim.Native.Nat.{ℕ}
+use Prim.Native.Nat.{ℕ, _+_, _*_}
 use mathlib.Core.Bool.{cond}
 use mathlib.Core.List.{List, [], _∷_}
 use mathlib.Core.Option.{Option, none, some}
-use lib.IntN.{ℤ}
+use lib.IntN.{ℤ, pos, negℤ}
+use Rattle.answers.specs.Refusals.{numberOf, roomNumber}
 use Rattle.answers.specs.declared.Refusal.{Refusal}
 use Rattle.answers.specs.declared.Refusal.the-variants.{Limits}
 use Rattle.format.specs.Forms.{shapeOf}
@@ -13,7 +14,11 @@ use Rattle.trace.specs.declared.Block.the-variants.{Label, Arrivals, Refused}
 use Rattle.trace.specs.Layout.{labelBlock, arrivalsBlock, recordsBlock}
 use Rattle.trace.specs.declared.Found.{Found}
 use Rattle.trace.specs.declared.Found.the-variants.{Is, Refused as Missing}
+use Rattle.trace.specs.declared.Spaced.{Spaced}
+use Rattle.trace.specs.declared.Spaced.the-variants as spaced
 use Rattle.trace.specs.Reading.{blockOf, foundAt}
+use Rattle.trace.specs.Places.{zerothOf}
+use Rattle.trace.specs.Rewriting.{zerothFault, blockSpaced, replacedIn, spacedBy}
 use Rattle.trace.specs.Writing.{labelFault, recordsOf, arrivalsFault, bodyFault}
 use Rattle.table.specs.Lines.{headBytes, rowFault, rowBytes, refusedLine}
 use Rattle.lent.specs.FormWords.{isForm, formOf}
@@ -68,7 +73,7 @@ FindsRecord block i old r found =
 abbrev pub formFault : ℕ → Option Refusal → Option Refusal
 formFault number fault = cond (isForm number) fault (some Limits)
 
--- "Trace file", block 0: 10, 12; or the block's 512 bytes
+-- "Trace file", block 0 of a new label: 10, 19, 12; or the block's 512 bytes
 abbrev pub WritesLabel : ℕ → List ℕ → ℕ → List ℕ → ℤ → List ℕ → Type 0
 WritesLabel form label ssrc old r out =
     Gives lengthCode
@@ -90,6 +95,27 @@ WritesRecords form records ssrc old r out =
     Gives lengthCode
     (formFault form (bodyFault (shapeOf (formOf form)) records))
     (recordsBlock (shapeOf (formOf form)) records ssrc)
+    old r out
+
+-- ---- flasknib_space_label
+
+-- the number of bytes replaced, or minus the refusal; with 12 the bytes of the block, 256 times
+abbrev pub spacedCode : Spaced → ℤ
+spacedCode (spaced.Replaced number) = pos number
+spacedCode (spaced.Room size) = negℤ (pos (256 * size + roomNumber))
+spacedCode (spaced.Refused refusal) = negℤ (pos (numberOf refusal))
+
+abbrev pub spacedSize : Spaced → ℕ
+spacedSize (spaced.Replaced number) = number
+spacedSize (spaced.Room size) = size
+spacedSize (spaced.Refused refusal) = 0
+
+-- request L14, block 0 with its label spaced: 1, 13, 14, 12; or the number replaced, and the block's 512 bytes
+abbrev pub SpacesLabel : List ℕ → List ℕ → ℤ → List ℕ → Type 0
+SpacesLabel zeroth old r out =
+    Gives (λ answer. spacedCode (spacedBy (replacedIn zeroth (zerothOf zeroth)) answer))
+    (zerothFault (zerothOf zeroth))
+    (blockSpaced zeroth (zerothOf zeroth))
     old r out
 
 -- ---- flasknib_write_head, flasknib_write_row, flasknib_write_refused

@@ -7,15 +7,19 @@ use lent::form_words::form_of;
 use lent::form_words::is_form;
 use trace::Block;
 use trace::Found;
+use trace::Spaced;
 use trace::read::read_block;
 use trace::read::record_at;
+use trace::rewrite::space_label;
 use trace::write::write_arrivals;
 use trace::write::write_label;
 use trace::write::write_records;
+ghost use mathlib.Core.Path.{_≡_};
 ghost use mathlib.Core.List.{[], _∷_};
 ghost use mathlib.Core.Option.{none};
+ghost use Prim.Native.Nat.{_^_, _<_};
 ghost use Rattle.capi.specs.Codes.{refusalCode, Gives};
-ghost use Rattle.capi.specs.Blocks.{ReadsBlock, FindsRecord, WritesLabel, WritesArrivals, WritesRecords};
+ghost use Rattle.capi.specs.Blocks.{ReadsBlock, FindsRecord, WritesLabel, spacedSize, spacedCode, SpacesLabel, WritesArrivals, WritesRecords};
 
 // Stores three words at the front of found. Gives 0, or refusal 12.
 fn put_found(x: u64, y: u64, z: u64, found: &mut [u64]) -> u8
@@ -60,7 +64,7 @@ pub extern "C" fn flasknib_record_at(block: &[u8], i: usize, found: &mut [u64]) 
     }
 }
 
-// Writes a label block of form 1 or 2. Gives its length, or minus refusal 10 or 12.
+// Writes the label block of a new label in form 1 or 2. Gives its length, or minus refusal 10, 19 or 12.
 #[no_mangle]
 pub extern "C" fn flasknib_write_label(form: u8, label: &[u8], ssrc: u32, out: &mut [u8]) -> i64
     ensures { λ r. ⌜ WritesLabel form (now (label .entry)) ssrc (now (out .entry)) r (now (out .exit)) ⌝ }
@@ -69,6 +73,26 @@ pub extern "C" fn flasknib_write_label(form: u8, label: &[u8], ssrc: u32, out: &
         return codes::length(Written::Refused(Refusal::Limits));
     }
     codes::length(write_label(form_of(form as u64), label, ssrc, out))
+}
+
+// The number of bytes replaced, or minus the refusal's number, and with 12 the size.
+fn replaced(answer: Spaced) -> i64
+    requires { ⌜ spacedSize answer < 2 ^ 54 ⌝ }
+    ensures { λ r. ⌜ r ≡ spacedCode answer ⌝ }
+{
+    match answer {
+        Spaced::Replaced(number) => codes::length(Written::Length(number)),
+        Spaced::Room(size) => codes::length(Written::Room(size)),
+        Spaced::Refused(refusal) => codes::minus(refusal),
+    }
+}
+
+// Writes block 0 again with its label spaced. Gives the number of bytes replaced, or minus refusal 1, 13 or 14, or 12 with its size.
+#[no_mangle]
+pub extern "C" fn flasknib_space_label(zeroth: &[u8], out: &mut [u8]) -> i64
+    ensures { λ r. ⌜ SpacesLabel (now (zeroth .entry)) (now (out .entry)) r (now (out .exit)) ⌝ }
+{
+    replaced(space_label(zeroth, out))
 }
 
 // Writes an arrivals block of form 1 or 2. Gives its length, or minus refusal 10 or 12.

@@ -17,9 +17,10 @@ use Rattle.rtcp.proofs.Profiles.{profiles-agree}
 use Rattle.streams.specs.Compounds.{receiverReport}
 use Rattle.trace.proofs.ReadBack.{label-reads-back, arrivals-read-back}
 use Rattle.trace.proofs.Accepted.{label-is-written, arrivals-are-written}
-use Rattle.trace.proofs.Theorems.{one-check}
+use Rattle.trace.proofs.Theorems.{one-check, spaced-reads}
 use Rattle.answers.specs.Texts.{codes}
 use Rattle.table.proofs.RowFits.{row-fits}
+use Rattle.table.proofs.NumberLines.{number-fits}
 use Rattle.table.proofs.RowSplits.{row-splits}
 use Rattle.table.proofs.Splitting.{line-splits}
 use Rattle.walk.proofs.Walks.{nothing-follows}
@@ -45,8 +46,10 @@ used =
     let table-last = table .last (omega arith) in
     let last = same-last-row whole cut text 1 c1Packets c1Packets (met .c1-described) (met .c1-described) (met .held) (met .recut) (λ p. refl) refl (omega arith) in
     let follows = nothing-follows _ ecntable 1 (record { run = begun; zeroth = label }) ([] ∷ []) (c1Block ∷ []) _ (met .ends) in
-    let label-back = label-reads-back One text 1 (met .label-fits) (met .ssrcs .1) in
+    let label-back = label-reads-back One text 1 (met .label-ok) (met .ssrcs .1) in
     let label-written = label-is-written One label (length text) 1 (met .label-bytes) (met .label-reads) in
+    let label-spaced = spaced-reads One label (length text) 1 (met .label-bytes) (met .label-reads) in
+    let label-same = label-spaced .same (met .label-new) in
     let check = one-check label label (met .label-bytes) (met .label-bytes) (met .label-long) (met .label-long) (met .label-right) (met .label-right) refl in
     let splits = row-splits text 1 (record { source = run c1Packets; jumped = 3; restarts = 2 }) [] (met .label-ok) in
     let line = line-splits text (codes "a \"b\"" ∷ []) [] (met .plain) in
@@ -62,6 +65,7 @@ used =
     let accepted = profiles-agree (receiverReport 5) 1 .accepted _ (met .rr-read) in
     let refused = profiles-agree (take 6 (receiverReport 5)) 1 .refused PacketSize (λ e. let z : _≡_ {A = ℕ} 0 1 = cc in absurd (omega arith)) (met .rr-cut) in
     let fits = row-fits text 1 (record { source = run c1Packets; jumped = 3; restarts = 2 }) (met .ssrcs .1) (met .row-accepted) in
+    let number = number-fits 3 (omega arith) in
     let room = room-is-exact none (feedbackBytes 9 1 (run c1Packets)) (replicate 31 0) 32 (met .room) in
     let room-given = room .given (replicate 32 0) refl in
     let room-changed = room .changed (replicate 32 0) refl in

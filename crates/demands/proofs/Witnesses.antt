@@ -33,7 +33,8 @@ use Rattle.trace.specs.Contents.{every, labelByte, labelOk, labelBody, countOk,
 use Rattle.trace.specs.Layout.{recordBytes, recordsBytes, recordAt, header, filled, checked, labelBlock, arrivalsBlock}
 use Rattle.trace.specs.Reading.{rightCheck, contentsOf, blockOf}
 use Rattle.trace.specs.Places.{zerothOf, laterOf}
-use Rattle.trace.specs.Writing.{labelFault, recordsOf, arrivalsOk, arrivalsFault}
+use Rattle.trace.specs.Retired.{retired, retiredIn}
+use Rattle.trace.specs.Writing.{recordsOf, arrivalsOk, arrivalsFault}
 use Rattle.trace.specs.Theorems.{recordsIn}
 use Rattle.trace.proofs.Limits.{below}
 use Rattle.trace.specs.declared.Block.the-variants.{Label}
@@ -104,7 +105,7 @@ rr-cut = refl
 -- ---- all
 
 pub met : Met
-unfolding labelBlock arrivalsBlock recordsOf recordBytes recordsBytes header filled checked bytes words onesAdd onesSum word blockOf rightCheck contentsOf labelBody labelByte every arrivalsBody countOk goodRecords walk onward laterOf nextOf labelFault labelOk arrivalsFault arrivalsOk plain allPlain special
+unfolding labelBlock arrivalsBlock recordsOf recordBytes recordsBytes header filled checked bytes words onesAdd onesSum word blockOf rightCheck contentsOf labelBody labelByte every arrivalsBody countOk goodRecords walk onward laterOf nextOf labelOk retired retiredIn arrivalsFault arrivalsOk plain allPlain special
 met = record {
   described = record { few = omega arith; steady = (leZ-yes tt, leZ-yes tt, (leZ-yes tt, leZ-yes tt, (leZ-yes tt, leZ-yes tt, (leZ-yes tt, leZ-yes tt, tt)))) };
   again = (
@@ -122,7 +123,7 @@ met = record {
   some-blocks = some-blocks;
   none-refused = none-refused;
   ends = refl;
-  label-fits = refl;
+  label-new = refl;
   label-bytes = below 256 label (omega arith) refl;
   label-reads = label-reads;
   label-right = refl;

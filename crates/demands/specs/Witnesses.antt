@@ -24,9 +24,10 @@ use Rattle.rtcp.specs.declared.Reading.{Reading}
 use Rattle.rtcp.specs.Compound.{reading}
 use Rattle.streams.specs.Compounds.{receiverReport}
 use Rattle.trace.specs.Contents.{labelOk}
-use Rattle.trace.specs.Layout.{labelBlock, arrivalsBlock}
+use Rattle.trace.specs.Layout.{labelBlock, arrivalsBlock, bodyOf}
 use Rattle.trace.specs.Reading.{rightCheck, blockOf}
-use Rattle.trace.specs.Writing.{labelFault, recordsOf, arrivalsFault}
+use Rattle.trace.specs.Retired.{retiredIn}
+use Rattle.trace.specs.Writing.{recordsOf, arrivalsFault}
 use Rattle.trace.specs.Theorems.{Below}
 use Rattle.trace.specs.declared.Block.the-variants.{Label, Arrivals}
 use Rattle.table.specs.Lines.{rowFault}
@@ -109,8 +110,8 @@ pub record Met : Type 0 where
   pub ends :
       walk ecntable 1 ([] ∷ []) (record { run = begun; zeroth = label }) .ended
       ≡ some (record { refusal = Incomplete; block = 1 })
-  -- LabelReadsBack, LabelIsWritten, OneCheck, RowSplits, LineSplits
-  pub label-fits : labelFault text ≡ none
+  -- LabelReadsBack, LabelIsWritten, SpacedReads, OneCheck, RowSplits, LineSplits
+  pub label-new : retiredIn (take (length text) (bodyOf label)) ≡ 0
   pub label-bytes : Below 256 label
   pub label-reads : blockOf label ≡ Label One (length text) 1
   pub label-right : rightCheck label ≡ true

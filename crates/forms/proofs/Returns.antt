@@ -13,11 +13,10 @@ use Rattle.format.specs.Blocks.{blockBytes}
 use Rattle.format.specs.Forms.{Shape, shapeOf, otherForm}
 use Rattle.format.specs.declared.Form.{Form}
 use Rattle.format.specs.declared.Form.the-variants.{One, Two}
-use Rattle.trace.specs.Contents.{every, isTime}
+use Rattle.trace.specs.Contents.{every, isTime, labelOk}
 use Rattle.trace.specs.Layout.{labelBlock, bodyOf}
 use Rattle.trace.specs.Reading.{blockOf}
 use Rattle.trace.specs.Theorems.{recordsIn, listOf}
-use Rattle.trace.specs.Writing.{labelFault}
 use Rattle.trace.specs.declared.Block.the-variants.{Label}
 use Rattle.trace.specs.declared.Record.{Record}
 use Rattle.trace.proofs.Accepted.{accepted}
@@ -114,7 +113,7 @@ module _ (form : Form) (label : List ℕ) (ssrc : ℕ) (rs : List Record) where
   abbrev made : List ℕ
   made = first ++ packed (shapeOf form) ssrc rs
 
-module _ (form : Form) (label : List ℕ) (ssrc : ℕ) (rs : List Record) (taken : labelFault label ≡ none) (short : length label ≤ 502) (small : ssrc < 2 ^ 32)
+module _ (form : Form) (label : List ℕ) (ssrc : ℕ) (rs : List Record) (good : labelOk label ≡ true) (short : length label ≤ 502) (small : ssrc < 2 ^ 32)
     (fine : Fine (shapeOf form) rs) (timed : allTimes (shapeOf (otherForm form)) rs ≡ true) where
   abbrev head : List ℕ
   head = first form label ssrc rs
@@ -145,10 +144,10 @@ module _ (form : Form) (label : List ℕ) (ssrc : ℕ) (rs : List Record) (taken
       ∙ cut-joined (length trace) pieces (are .whole) (omega (arith, many, length-append head rest, ap length (packed-joined (shapeOf form) ssrc rs)))
 
   pub label-read : blockOf (blocksOf trace .zeroth) ≡ Label form (length label) ssrc
-  label-read = ap blockOf zeroth-is ∙ label-reads-back form label ssrc taken small .0
+  label-read = ap blockOf zeroth-is ∙ label-reads-back form label ssrc good small .0
 
   pub text-read : take (length label) (bodyOf (blocksOf trace .zeroth)) ≡ label
-  text-read = ap (λ (b : List ℕ). take (length label) (bodyOf b)) zeroth-is ∙ label-reads-back form label ssrc taken small .1
+  text-read = ap (λ (b : List ℕ). take (length label) (bodyOf b)) zeroth-is ∙ label-reads-back form label ssrc good small .1
 
   pub records-back : recordsTaken form ssrc (blocksOf trace .others) ≡ rs
   records-back = ap (recordsTaken form ssrc) others-are ∙ are .bring
@@ -184,8 +183,8 @@ module _ (trace : List ℕ) (form : Form) (n ssrc : ℕ) (o : Octets trace) (e :
   unfolding blocksOf
   zeroth-octets = octets-take blockBytes trace o
 
-  pub label-written : (labelFault label ≡ none) × (length label ≡ n) × (zeroth ≡ labelBlock (shapeOf form) label ssrc)
-  label-written = label-is-written form zeroth n ssrc zeroth-octets e
+  pub label-written : (labelOk label ≡ true) × (length label ≡ n) × (zeroth ≡ labelBlock (shapeOf form) label ssrc)
+  label-written = let w = label-is-written form zeroth n ssrc zeroth-octets e in (w .0, w .1, w .2)
 
   label-short : length label ≤ 502
   label-short = omega (arith, label-written .1, accepted zeroth e .block .room)

@@ -20,18 +20,18 @@ use Rattle.format.specs.declared.Form.{Form}
 use Rattle.format.specs.declared.Form.the-variants.{One, Two}
 use Rattle.format.proofs.Fits.{fits}
 use Rattle.trace.specs.Accepted.{Holds}
-use Rattle.trace.specs.Layout.{labelBlock, arrivalsBlock, recordsBlock, bodyOf}
+use Rattle.trace.specs.Layout.{arrivalsBlock, recordsBlock, bodyOf}
 use Rattle.trace.specs.Reading.{blockOf}
 use Rattle.trace.specs.Places.{zerothOf, laterOf}
 use Rattle.trace.specs.Theorems.{recordsIn}
-use Rattle.trace.specs.Writing.{labelFault, bodyFault}
+use Rattle.trace.specs.Rewriting.{zerothFault, blockAs}
+use Rattle.trace.specs.Writing.{bodyFault}
 use Rattle.trace.specs.declared.Block.the-variants as read
 use Rattle.trace.specs.declared.Zeroth.{Zeroth}
 use Rattle.trace.specs.declared.Zeroth.the-variants as zeroth
 use Rattle.trace.specs.declared.Later.the-variants as later
 use Rattle.trace.specs.declared.Record.{Record}
 use Rattle.trace.proofs.Accepted.{accepted}
-use Rattle.trace.proofs.Decisions.{label-taken}
 use Rattle.trace.proofs.Placed.{zeroth-by, own-later}
 use Rattle.trace.proofs.Records.{length-recordsIn}
 use Rattle.walk.specs.Steps.{Next, goes, refuses}
@@ -116,20 +116,12 @@ module _ (b old : List ℕ) where
   pub begin-refused : {refusal : Refusal} → zerothOf b ≡ zeroth.Refused refusal → Began b old (begin.Refused refusal) old
   begin-refused e = began-by e (wrote-refused [] old refl) refl
 
-  module _ {form : Form} {n ssrc : ℕ} (e : blockOf b ≡ read.Label form n ssrc) where
-    -- the label lies in the block
-    pub label-fits : bodyAt + n ≤ length b
-    label-fits = let block = accepted b e .block in omega (arith, block .whole, block .room)
-
-    -- it is written in the other form
-    pub begin-label : {to : Form} {k : ℕ} {w : Written} {r : Begin} {out : List ℕ} → to ≡ otherForm form → k ≡ n
-        → Wrote (labelFault (take k (drop bodyAt b))) (labelBlock (shapeOf to) (take k (drop bodyAt b)) ssrc) old w out
-        → beginBy (zeroth.Label form n ssrc) w ≡ r → Began b old r out
-    begin-label {to} {k} et ek w er =
-        let a = accepted b e in
-        let label : take k (drop bodyAt b) ≡ take n (bodyOf b) = ap (λ (m : ℕ). take m (drop bodyAt b)) ek ∙ sym (a .block .place) in
-        let wrote = wrote-same (ap labelFault label ∙ label-taken (take n (bodyOf b)) (a .label)) (ap₂ (λ (f : Form) (l : List ℕ). labelBlock (shapeOf f) l ssrc) et label) w in
-        began-by (zeroth-by b e) wrote er
+  -- a label is written again in the other form
+  pub begin-label : {form to : Form} {n ssrc : ℕ} {w : Written} {r : Begin} {out : List ℕ} → blockOf b ≡ read.Label form n ssrc → to ≡ otherForm form
+      → Wrote (zerothFault (zerothOf b)) (blockAs to b (zerothOf b)) old w out → beginBy (zeroth.Label form n ssrc) w ≡ r → Began b old r out
+  begin-label e et w er =
+      let reads = zeroth-by b e in
+      began-by reads (wrote-same (ap zerothFault reads) (ap₂ (λ (f : Form) (z : Zeroth). blockAs f b z) et reads) w) er
 
 -- ---- a later block
 

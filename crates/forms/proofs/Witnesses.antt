@@ -2,22 +2,25 @@
 use mathlib.Core.Path.{_≡_, refl, subst}
 use mathlib.Core.Bool.{true}
 use mathlib.Core.List.{List, [], _++_, append-nil}
-use mathlib.Core.Option.{none}
+use mathlib.Core.Option.{none, some as just}
 use Prim.Native.Nat.{ℕ, _*_, _<_, _≤_}
 use native.Mathlib.Omega.{arith}
 use lib.ListN.{length, take, drop, length-append, length-drop}
 use Rattle.answers.specs.Writers.{written}
+use Rattle.answers.specs.declared.Refusal.the-variants.{Retired}
 use Rattle.answers.specs.declared.Written.the-variants.{Room}
 use Rattle.numbers.specs.BigEndian.{word, bytes}
 use Rattle.format.specs.Blocks.{blockBytes}
 use Rattle.format.specs.Forms.{shapeOf}
 use Rattle.format.specs.declared.Form.the-variants.{One}
 use Rattle.trace.specs.Checksum.{words, onesAdd, onesSum}
-use Rattle.trace.specs.Contents.{every, labelByte, labelBody, countOk, goodRecords, arrivalsBody}
+use Rattle.trace.specs.Contents.{every, labelByte, labelOk, labelBody, countOk, goodRecords, arrivalsBody}
 use Rattle.trace.specs.Layout.{recordBytes, recordsBytes, recordAt, header, filled, checked, labelBlock, arrivalsBlock}
 use Rattle.trace.specs.Places.{zerothOf, laterOf}
 use Rattle.trace.specs.Reading.{rightCheck, contentsOf, blockOf}
+use Rattle.trace.specs.Retired.{retired, retiredIn}
 use Rattle.trace.specs.Theorems.{Below, recordsIn, listOf}
+use Rattle.trace.specs.Writing.{labelFault}
 use Rattle.trace.proofs.Limits.{below}
 use Rattle.trace.specs.declared.Block.the-variants.{Label}
 use Rattle.walk.specs.Blocks.{cut, blocksOf}
@@ -33,7 +36,7 @@ use Rattle.forms.specs.Conversions.{timed, nextOf, sound, callNext, Carr
 use Rattle.forms.specs.Converted.{converted}
 use Rattle.forms.specs.Theorems.{blockCalls, Convertible, FullButLast}
 use Rattle.forms.specs.Pieces.{progressOf, tookOf, Held, calls}
-use Rattle.forms.specs.Witnesses.{fully, trace, fresh, begun, piece, zeros, Met}
+use Rattle.forms.specs.Witnesses.{text, fully, trace, fresh, begun, piece, zeros, Met}
 use Rattle.forms.specs.declared.Begin.the-variants as begin
 use Rattle.forms.proofs.Whole.{packs}
 use Rattle.forms.proofs.Calls.{calls-convert}
@@ -50,6 +53,10 @@ octets = below 256 trace (omega arith) refl
 label-reads : blockOf (blocksOf trace .zeroth) ≡ Label One 2 1
 unfolding labelBlock arrivalsBlock recordBytes recordsBytes header filled checked bytes words onesAdd onesSum word blockOf rightCheck contentsOf labelBody labelByte every cut blocksOf
 label-reads = refl
+
+retired-text : labelFault text ≡ just Retired
+unfolding labelFault labelOk labelByte every retired retiredIn
+retired-text = refl
 
 taken : converted trace .err ≡ []
 unfolding labelBlock arrivalsBlock recordBytes recordsBytes header filled checked bytes words onesAdd onesSum word blockOf rightCheck contentsOf labelBody labelByte every arrivalsBody countOk goodRecords recordsIn recordAt listOf cut blocksOf zerothOf laterOf timed nextOf converted printedBy walked walk onward closed
@@ -156,6 +163,7 @@ pub met : Met
 met = record {
   label = label-reads;
   octets = octets;
+  retired = retired-text;
   taken = taken;
   convertible = convertible;
   some = some;

@@ -2,9 +2,10 @@
 use mathlib.Core.Path.{_≡_}
 use mathlib.Core.Bool.{true}
 use mathlib.Core.List.{List, [], _∷_, _++_}
-use mathlib.Core.Option.{none}
+use mathlib.Core.Option.{none, some}
 use Prim.Native.Nat.{ℕ, _*_, _^_, _≤_, _<_}
 use lib.ListN.{length, drop, replicate}
+use Rattle.answers.specs.declared.Refusal.the-variants.{Retired}
 use Rattle.answers.specs.declared.Written.the-variants.{Room}
 use Rattle.format.specs.Blocks.{blockBytes, bodyBytes}
 use Rattle.format.specs.Forms.{shapeOf}
@@ -12,6 +13,7 @@ use Rattle.format.specs.declared.Form.the-variants.{One}
 use Rattle.trace.specs.Layout.{labelBlock, arrivalsBlock}
 use Rattle.trace.specs.Reading.{blockOf}
 use Rattle.trace.specs.Theorems.{Below}
+use Rattle.trace.specs.Writing.{labelFault}
 use Rattle.trace.specs.declared.Block.the-variants.{Label}
 use Rattle.trace.specs.declared.Record.{Record}
 use Rattle.walk.specs.Blocks.{blocksOf}
@@ -29,9 +31,9 @@ use Rattle.forms.specs.declared.pieces.Progress.{Progress}
 use Rattle.forms.specs.declared.Conversion.{Conversion}
 use Rattle.forms.specs.declared.Begin.the-variants as begin
 
--- a trace of form 1: its label, a full block and one that is not
+-- a trace of form 1: its label, which is CR LF, a full block and one that is not
 abbrev pub text : List ℕ
-text = 112 ∷ 49 ∷ []
+text = 13 ∷ 10 ∷ []
 
 abbrev pub arrival : ℕ → Record
 arrival number = record { time = 4294967295; number = record { 0 = number }; mark = 3 }
@@ -57,11 +59,13 @@ piece = drop blockBytes trace
 abbrev pub zeros : ℕ → List ℕ
 zeros n = replicate n 0
 
--- what they meet, by theorem
+-- what they meet, by theorem; the label writer refuses the text with 19
 pub record Met : Type 0 where
   -- Packs, ConvertsWhole, ConvertedReads, SameRecords, SameBytes
   pub label : blockOf (blocksOf trace .zeroth) ≡ Label One 2 1
   pub octets : Below 256 trace
+  -- no new label is like its label: 19
+  pub retired : labelFault text ≡ some Retired
   pub taken : converted trace .err ≡ []
   pub convertible : Convertible One 1 (blocksOf trace .others)
   pub some : 1 ≤ length (blocksOf trace .others)

@@ -1,6 +1,7 @@
 // A trace converted to the other form (request L10): block by block here, and over pieces of a trace in `pieces`. The records of a block that is not full yet
 // stand in a part that the caller lends to each call.
 ghost use mathlib.Core.Path.{_≡_};
+ghost use Prim.Native.Nat.{ℕ};
 ghost use Rattle.answers.specs.Writers.{Wrote};
 ghost use Rattle.trace.specs.Reading.{blockOf};
 ghost use Rattle.trace.specs.declared.Block.{Block};
@@ -15,10 +16,9 @@ mod taking;
 use answers::Refusal;
 use answers::Written;
 use format::Form;
-use format::block::BODY;
 use trace::Zeroth;
 use trace::places::read_label;
-use trace::write::write_label;
+use trace::rewrite::write_label_as;
 use trace::write::write_records;
 
 // What is kept between blocks beside the lent part: the trace's own form, its SSRC, and how many records the part holds in the other form.
@@ -43,12 +43,11 @@ pub struct Step {
 }
 
 // Writes the label of block 0 in the other form at the front of out.
-fn started(form: Form, length: usize, ssrc: u32, zeroth: &[u8], out: &mut [u8]) -> Begin
-    requires { ⌜ blockOf (now zeroth) ≡ Block.Label form length ssrc ⌝ }
+fn started(form: Form, ssrc: u32, zeroth: &[u8], out: &mut [u8]) -> Begin
+    requires { ⌜ ((n : ℕ) × (blockOf (now zeroth) ≡ Block.Label form n ssrc)) ⌝ }
     ensures { λ r. ⌜ Began (now (zeroth .entry)) (now (out .entry)) r (now (out .exit)) ⌝ }
 {
-    let end = BODY + length;
-    match write_label(form.other(), &zeroth[BODY..end], ssrc, out) {
+    match write_label_as(form.other(), zeroth, out) {
         Written::Length(n) => {
             let start = Conversion {
                 form,
@@ -69,7 +68,11 @@ impl Conversion {
         ensures { λ r. ⌜ Began (now (zeroth .entry)) (now (out .entry)) r (now (out .exit)) ⌝ }
     {
         match read_label(zeroth) {
-            Zeroth::Label { form, length, ssrc } => started(form, length, ssrc, zeroth, out),
+            Zeroth::Label {
+                form,
+                length: _,
+                ssrc,
+            } => started(form, ssrc, zeroth, out),
             Zeroth::Refused(refusal) => Begin::Refused(refusal),
         }
     }

@@ -5,6 +5,7 @@ pub mod Texts
 pub mod Backwards
 pub mod Commas
 pub mod RefusedLines
+pub mod NumberLines
 pub mod Faults
 pub mod Splitting
 pub mod RowSplits

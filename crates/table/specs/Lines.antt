@@ -1,4 +1,4 @@
--- Document 01, "Table": the head line, a row, and the line of a refused block.
+-- Document 01, "Table": the head line, a row, and the line of a refused block; request L14: the line of a number.
 use Prim.Native.Nat.{ℕ}
 use mathlib.Core.Bool.{cond, not, _&&_}
 use mathlib.Core.List.{List, [], _∷_, _++_}
@@ -63,3 +63,7 @@ rowFault label t =
 -- `refused N block I`
 unfoldable pub refusedLine : ℕ → ℕ → List ℕ
 refusedLine number block = codes "refused " ++ (decimal number ++ (codes " block " ++ (decimal block ++ (13 ∷ 10 ∷ []))))
+
+-- a number in decimal
+unfoldable pub numberLine : ℕ → List ℕ
+numberLine n = decimal n ++ (13 ∷ 10 ∷ [])

@@ -13,7 +13,7 @@ use Rattle.trace.specs.Contents.{labelOk}
 use Rattle.table.specs.Decimal.{decimal, signed, numberIn, signedIn}
 use Rattle.table.specs.Field.{asField, line}
 use Rattle.table.specs.Rfc4180.{split}
-use Rattle.table.specs.Lines.{labelName, names, headBytes, rowFault, rowBytes}
+use Rattle.table.specs.Lines.{labelName, names, headBytes, rowFault, rowBytes, numberLine}
 
 -- a text that a field can hold: bytes 32 to 126, CR and LF
 unfoldable pub plain : List ℕ → Bool
@@ -76,3 +76,10 @@ rowMost = 1228
 
 abbrev pub RowFits : Type 0
 RowFits = (label : List ℕ) (ssrc : ℕ) (t : Totals) → ssrc < 2 ^ 32 → rowFault label t ≡ none → length (rowBytes label ssrc t) ≤ rowMost
+
+-- nor is the line of a number: at most 20 digits, and CR LF
+abbrev pub numberMost : ℕ
+numberMost = 22
+
+abbrev pub NumberFits : Type 0
+NumberFits = (n : ℕ) → n < 2 ^ 64 → length (numberLine n) ≤ numberMost

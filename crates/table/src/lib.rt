@@ -1,5 +1,5 @@
-// The table (document 01, "Table"; 02, requests L3 and L5): the head line, a row of one source's record, and the line of a refused block. Each writer
-// knows its length before it stores a byte.
+// The table (document 01, "Table"; 02, requests L3 and L5): the head line, a row of one source's record, the line of a refused block; and the line of a number
+// (L14). Each writer knows its length before it stores a byte.
 use answers::Refusal;
 use answers::Written;
 use answers::copy::put_bytes;
@@ -9,11 +9,12 @@ use trace::label::is_label;
 ghost use mathlib.Core.Path.{_≡_};
 ghost use mathlib.Core.Option.{none};
 ghost use Rattle.answers.specs.Writers.{Wrote};
-ghost use Rattle.table.specs.Lines.{headBytes, rowFault, rowBytes, refusedLine};
+ghost use Rattle.table.specs.Lines.{headBytes, rowFault, rowBytes, refusedLine, numberLine};
 
 mod decimal;
 mod field;
 mod lines;
+mod number;
 mod refused;
 
 // Writes the head line at the front of out. Refusal: 12 output too small.
@@ -57,4 +58,11 @@ pub fn write_refused(number: u8, block: u64, out: &mut [u8]) -> Written
     ensures { λ r. ⌜ Wrote none (refusedLine number block) (now (out .entry)) r (now (out .exit)) ⌝ }
 {
     refused::line(number as u64, block, out)
+}
+
+// Writes the number, in decimal, as a line at the front of out. Refusal: 12 output too small.
+pub fn write_number(number: u64, out: &mut [u8]) -> Written
+    ensures { λ r. ⌜ Wrote none (numberLine number) (now (out .entry)) r (now (out .exit)) ⌝ }
+{
+    number::line(number, out)
 }

@@ -1,4 +1,4 @@
--- What an accepted block is, and that it is what the writer gives for its contents. Assumes nothing.
+-- What an accepted block is, and that it is the one that its contents make. Assumes nothing.
 use mathlib.Core.Path.{_≡_, refl, sym, ap, ap₂, _∙_, subst}
 use mathlib.Core.Bool.{Bool, true, false, not, cond}
 use mathlib.Core.List.{List, [], _∷_, _++_}
@@ -26,7 +26,7 @@ use Rattle.trace.specs.declared.Block.{Block}
 use Rattle.trace.specs.declared.Block.the-variants.{Label, Arrivals, Refused}
 use Rattle.trace.specs.declared.Found.the-variants.{Is}
 use Rattle.trace.specs.declared.Record.{Record}
-use Rattle.trace.proofs.Decisions.{count-right, found-there, label-taken, label-rest, lists-taken, lists-rest}
+use Rattle.trace.proofs.Decisions.{count-right, found-there, label-retired, label-rest, lists-taken, lists-rest}
 use Rattle.numbers.proofs.Octets.{octets-take, octets-drop, bytes-word}
 use Rattle.trace.proofs.Records.{record-next, record-at, of-shape-in, of-shape-times, bytes-records, length-list, length-recordsIn, marks-in, times, marks}
 use Rattle.trace.proofs.Checks.{right-checked}
@@ -128,10 +128,11 @@ unfolding labelBlock
 label-is-written form b n ssrc o e =
     let a = accepted b e in
     let k = a .block in (
-      label-taken (take n (bodyOf b)) (a .label),
+      a .label,
       k .long,
       block-is b o (k .whole) (k .right) (take n (bodyOf b)) (filled-is (bodyOf b) n (length-body b (k .whole) (k .right)) (k .room) (k .unused))
           ∙ rw (k .its-kind, k .its-count, k .its-ssrc, k .long),
+      label-retired (take n (bodyOf b)) (a .label),
     )
 
 -- ---- records

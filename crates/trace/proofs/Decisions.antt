@@ -13,10 +13,11 @@ use borrow.Author.Tests.{lt-ltb, le-ltb, le-leb, lt-leb, eq-eqb, ne-eqb, leb-tru
 use lib.Dec.{leb, eqb}
 use lib.ListN.{length, take, drop, getD, length-drop}
 use lib.Seq.{take-all}
-use Rattle.answers.specs.declared.Refusal.the-variants.{Incomplete, Checksum, Contents, Limits}
+use Rattle.answers.specs.declared.Refusal.the-variants.{Incomplete, Checksum, Contents, Limits, Retired}
 use Rattle.answers.proofs.Conditions.{and-left, and-right, all-true, all-false}
-use Rattle.trace.specs.Writing.{labelFault, listsConditions, arrivalsOk, arrivalsFault, bodyConditions, bodyOk, bodyFault, countFault}
+use Rattle.trace.specs.Writing.{retiredFault, labelFault, listsConditions, arrivalsOk, arrivalsFault, bodyConditions, bodyOk, bodyFault, countFault}
 use Rattle.trace.specs.Checksum.{words, onesSum}
+use Rattle.trace.specs.Retired.{retiredIn}
 use Rattle.format.specs.Forms.{Shape, shapeOf, width, kindOf}
 use Rattle.format.specs.declared.Form.{Form}
 use Rattle.format.specs.declared.Kind.{Kind}
@@ -162,9 +163,27 @@ module _ (label : List ℕ) where
   unfolding labelFault
   label-refused e = rw e
 
-  pub label-taken : labelOk label ≡ true → labelFault label ≡ none
+  -- a label that a trace may have is refused only for a retired byte
+  pub label-retired : labelOk label ≡ true → labelFault label ≡ retiredFault label
   unfolding labelFault
-  label-taken e = rw e
+  label-retired e = rw e
+
+  pub retired-refused : labelOk label ≡ true → 0 < retiredIn label → labelFault label ≡ some Retired
+  retired-refused e h = label-retired e ∙ rw (ne-eqb (retiredIn label) 0 (λ z. omega (arith, h, z)))
+
+  pub label-taken : labelOk label ≡ true → retiredIn label ≡ 0 → labelFault label ≡ none
+  label-taken e z = label-retired e ∙ rw z
+
+  -- one that the writer takes
+  pub taken-label : labelFault label ≡ none → (labelOk label ≡ true) × (retiredIn label ≡ 0)
+  unfolding labelFault
+  taken-label e = go (labelOk label) (eqb (retiredIn label) 0) refl refl e
+    where
+      go : (t u : Bool) → labelOk label ≡ t → eqb (retiredIn label) 0 ≡ u → cond (not t) (some Limits) (cond u none (some Retired)) ≡ none
+          → (labelOk label ≡ true) × (retiredIn label ≡ 0)
+      go true true et eu e = (et, eqb-true (retiredIn label) 0 eu)
+      go true false et eu e = let z : _≡_ {A = ℕ} 0 1 = cc in absurd (omega arith)
+      go false u et eu e = let z : _≡_ {A = ℕ} 0 1 = cc in absurd (omega arith)
 
   pub label-short : labelOk label ≡ true → length label ≤ 502
   unfolding labelOk

@@ -17,9 +17,9 @@ use Rattle.trace.specs.Checksum.{words, onesSum}
 use Rattle.format.specs.Forms.{Shape, shapeOf, width, timeLimit}
 use Rattle.format.proofs.Fits.{fits, kind-label, kind-arrivals, records-fit}
 use Rattle.trace.specs.Layout.{recordAt, recordsBytes, header, filled, checked, labelBlock, arrivalsBlock, bodyOf}
-use Rattle.trace.specs.Contents.{every, isZero, isMark, isTime, labelByte, labelOk, labelBody, goodRecords, arrivalsBody}
+use Rattle.trace.specs.Contents.{every, isZero, isMark, isTime, labelByte, labelBody, goodRecords, arrivalsBody}
 use Rattle.trace.specs.Reading.{kindIn, countIn, ssrcIn, rightCheck, contentsOf, blockOf}
-use Rattle.trace.specs.Writing.{labelFault, recordsOf, arrivalsOk, arrivalsFault}
+use Rattle.trace.specs.Writing.{recordsOf, arrivalsOk, arrivalsFault}
 use Rattle.trace.specs.Theorems.{Below, recordsIn, listOf, LabelReadsBack, ArrivalsReadBack}
 use Rattle.trace.specs.declared.Found.the-variants.{Is}
 use Rattle.trace.specs.declared.Record.{Record}
@@ -134,15 +134,9 @@ label-octets [] e = octets-nil
 label-octets (c ∷ s) e =
     octets-cons c s (label-small c (and-left (labelByte c) (every labelByte s) e)) (label-octets s (and-right (labelByte c) (every labelByte s) e))
 
--- what a fault says that is none
-no-fault : (t : Bool) → cond t none (some Limits) ≡ none → t ≡ true
-no-fault true e = refl
-no-fault false e = let z : _≡_ {A = ℕ} 0 1 = cc in absurd (omega arith)
-
 pub label-reads-back : LabelReadsBack
-unfolding labelFault labelBlock blockOf contentsOf labelBody
-label-reads-back form label ssrc taken small =
-    let good = no-fault (labelOk label) taken in
+unfolding labelBlock blockOf contentsOf labelBody
+label-reads-back form label ssrc good small =
     let few = label-short label good in
     let fit = fits form in
     let r = read-of (shapeOf form .label) (length label) ssrc label (fit .label-most) (omega (arith, few)) small few (label-octets label (label-bytes label good)) (fit .label-least) in
@@ -179,6 +173,11 @@ list-at (t ∷ times) [] marks i d en em h = absurd (omega arith)
 list-at (t ∷ times) (n ∷ numbers) [] i d en em h = absurd (omega arith)
 list-at (t ∷ times) (n ∷ numbers) (m ∷ marks) zero d en em h = refl
 list-at (t ∷ times) (n ∷ numbers) (m ∷ marks) (suc i) d en em h = list-at times numbers marks i d (omega arith) (omega arith) (omega arith)
+
+-- what a fault says that is none
+no-fault : (t : Bool) → cond t none (some Limits) ≡ none → t ≡ true
+no-fault true e = refl
+no-fault false e = let z : _≡_ {A = ℕ} 0 1 = cc in absurd (omega arith)
 
 pub arrivals-read-back : ArrivalsReadBack
 unfolding arrivalsFault arrivalsBlock blockOf contentsOf arrivalsBody

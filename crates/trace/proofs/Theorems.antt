@@ -9,6 +9,7 @@ use Rattle.trace.proofs.Records.{many-records}
 use Rattle.trace.proofs.Checks.{right-checked}
 pub use Rattle.trace.proofs.Accepted.{label-is-written, arrivals-are-written}
 pub use Rattle.trace.proofs.ReadBack.{label-reads-back, arrivals-read-back}
+pub use Rattle.trace.proofs.Rewritten.{spaced-reads}
 
 pub records-by-bytes : RecordsByBytes
 unfolding arrivalsBlock recordsBlock

@@ -1,8 +1,10 @@
 pub mod Checksum
 pub mod Layout
 pub mod Contents
+pub mod Retired
 pub mod Reading
 pub mod Places
 pub mod Writing
+pub mod Rewriting
 pub mod Accepted
 pub mod Theorems

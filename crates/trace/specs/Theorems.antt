@@ -10,8 +10,10 @@ use Rattle.format.specs.Blocks.{blockBytes, checkAt}
 use Rattle.format.specs.Forms.{Shape, shapeOf, width}
 use Rattle.format.specs.declared.Form.{Form}
 use Rattle.trace.specs.Layout.{recordAt, recordsBytes, labelBlock, arrivalsBlock, recordsBlock, bodyOf}
+use Rattle.trace.specs.Contents.{labelOk}
+use Rattle.trace.specs.Retired.{retiredIn, spacedLabel}
 use Rattle.trace.specs.Reading.{rightCheck, blockOf, foundAt}
-use Rattle.trace.specs.Writing.{labelFault, recordsOf, arrivalsFault}
+use Rattle.trace.specs.Writing.{retiredFault, labelFault, recordsOf, arrivalsFault}
 use Rattle.trace.specs.declared.Block.the-variants.{Label, Arrivals}
 use Rattle.trace.specs.declared.Found.the-variants.{Is}
 use Rattle.trace.specs.declared.Record.{Record}
@@ -22,10 +24,10 @@ Below limit s = (i : ℕ) → getD s i 0 < limit
 
 -- ---- what a writer wrote reads back
 
--- to the same form, label and SSRC
+-- to the same form, label and SSRC: any label that a trace may have, those with a retired byte too
 abbrev pub LabelReadsBack : Type 0
 LabelReadsBack =
-    (form : Form) (label : List ℕ) (ssrc : ℕ) → labelFault label ≡ none → ssrc < 2 ^ 32
+    (form : Form) (label : List ℕ) (ssrc : ℕ) → labelOk label ≡ true → ssrc < 2 ^ 32
     → (blockOf (labelBlock (shapeOf form) label ssrc) ≡ Label form (length label) ssrc)
     × (take (length label) (bodyOf (labelBlock (shapeOf form) label ssrc)) ≡ label)
 
@@ -51,13 +53,14 @@ OneCheck =
     (b c : List ℕ) → Below 256 b → Below 256 c → length b ≡ blockBytes → length c ≡ blockBytes → rightCheck b ≡ true → rightCheck c ≡ true
     → take checkAt b ≡ take checkAt c → b ≡ c
 
--- ---- an accepted block is what the writer gives for its contents
+-- ---- an accepted block is the one that its contents make
 
--- its label is one that the writer takes
+-- its label is one that a trace may have, and the writer refuses it only if a byte of it is retired, with 19
 abbrev pub LabelIsWritten : Type 0
 LabelIsWritten =
     (form : Form) (b : List ℕ) (n ssrc : ℕ) → Below 256 b → blockOf b ≡ Label form n ssrc
-    → (labelFault (take n (bodyOf b)) ≡ none) × (length (take n (bodyOf b)) ≡ n) × (b ≡ labelBlock (shapeOf form) (take n (bodyOf b)) ssrc)
+    → (labelOk (take n (bodyOf b)) ≡ true) × (length (take n (bodyOf b)) ≡ n) × (b ≡ labelBlock (shapeOf form) (take n (bodyOf b)) ssrc)
+    × (labelFault (take n (bodyOf b)) ≡ retiredFault (take n (bodyOf b)))
 
 -- the first n records of a body
 unfoldable pub recordsIn : Shape → ℕ → List ℕ → List Record
@@ -79,3 +82,19 @@ ArrivalsAreWritten =
     → (recordsFault (shapeOf form) (recordsIn (shapeOf form) n (bodyOf b)) ≡ none)
     × ((i : ℕ) (other : Record) → i < n → foundAt b i ≡ Is (getD (recordsIn (shapeOf form) n (bodyOf b)) i other))
     × (b ≡ arrivalsBlock (shapeOf form) (recordsIn (shapeOf form) n (bodyOf b)) ssrc)
+
+-- ---- block 0 with its label spaced (request L14)
+
+-- it reads as a label of the same form, length and SSRC, the spaced one, which has no retired byte and which the writer takes; and if no byte was retired,
+-- it is the block that was given
+pub record SpacedFrom (form : Form) (b : List ℕ) (n ssrc : ℕ) (new : List ℕ) : Type 0 where
+  pub label : blockOf new ≡ Label form n ssrc
+  pub text : take n (bodyOf new) ≡ spacedLabel (take n (bodyOf b))
+  pub none-left : retiredIn (take n (bodyOf new)) ≡ 0
+  pub taken : labelFault (take n (bodyOf new)) ≡ none
+  pub same : retiredIn (take n (bodyOf b)) ≡ 0 → new ≡ b
+
+abbrev pub SpacedReads : Type 0
+SpacedReads =
+    (form : Form) (b : List ℕ) (n ssrc : ℕ) → Below 256 b → blockOf b ≡ Label form n ssrc
+    → SpacedFrom form b n ssrc (labelBlock (shapeOf form) (spacedLabel (take n (bodyOf b))) ssrc)

@@ -1,20 +1,25 @@
--- Document 01, "Trace file" and "Refusal numbers": what the writers of a block are given, and when they refuse it with 10.
+-- Document 01, "Trace file" and "Refusal numbers", and request L14: what the writers of a block are given, and when they refuse it with 10 or 19.
 use Prim.Native.Nat.{ℕ, _/_, _%_}
-use mathlib.Core.Bool.{Bool, cond}
+use mathlib.Core.Bool.{Bool, cond, not}
 use mathlib.Core.List.{List, [], _∷_}
 use mathlib.Core.Option.{Option, none, some}
 use lib.Dec.{eqb}
 use lib.ListN.{length}
 use Rattle.answers.specs.declared.Refusal.{Refusal}
-use Rattle.answers.specs.declared.Refusal.the-variants.{Limits}
+use Rattle.answers.specs.declared.Refusal.the-variants.{Limits, Retired}
 use Rattle.answers.specs.Conditions.{all}
 use Rattle.format.specs.Forms.{Shape, width}
 use Rattle.trace.specs.Contents.{every, isMark, isTime, labelOk, countOk, goodRecords}
+use Rattle.trace.specs.Retired.{retiredIn}
 use Rattle.trace.specs.declared.Record.{Record}
 
--- a label outside the trace rules: 10
+-- a label with a retired byte: 19
+abbrev pub retiredFault : List ℕ → Option Refusal
+retiredFault label = cond (eqb (retiredIn label) 0) none (some Retired)
+
+-- a label outside the trace rules: 10, and then 19
 unfoldable pub labelFault : List ℕ → Option Refusal
-labelFault label = cond (labelOk label) none (some Limits)
+labelFault label = cond (not (labelOk label)) (some Limits) (retiredFault label)
 
 -- the records of three lists: times, wire numbers and marks
 unfoldable pub recordsOf : List ℕ → List ℕ → List ℕ → List Record

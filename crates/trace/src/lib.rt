@@ -7,8 +7,10 @@ mod checksum;
 mod contents;
 mod fields;
 pub mod label;
+mod parts;
 pub mod places;
 pub mod read;
+pub mod rewrite;
 pub mod write;
 
 // What a block is: a label of `length` bytes, or `count` arrivals, with the form of its trace and the SSRC; or why it is refused. The label
@@ -34,6 +36,14 @@ pub enum Zeroth {
         length: usize,
         ssrc: u32,
     },
+    Refused(Refusal),
+}
+
+// What writing block 0 again with its label spaced answers: the number of bytes replaced, or why nothing was written.
+pub enum Spaced {
+    Replaced(usize),
+    // 12: the output is too small; the block has so many bytes.
+    Room(usize),
     Refused(Refusal),
 }
 

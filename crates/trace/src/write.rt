@@ -1,6 +1,5 @@
 // Writing a block.
 use crate::Record;
-use crate::checksum::ones_sum;
 use crate::contents::all_marks;
 use crate::contents::all_records;
 use crate::contents::all_times;
@@ -8,6 +7,10 @@ use crate::contents::is_count;
 use crate::fields::time_bytes;
 use crate::fields::write_time;
 use crate::label::is_label;
+use crate::label::retired_in;
+use crate::parts::put_end;
+use crate::parts::put_header;
+use crate::parts::put_label;
 use answers::Refusal;
 use answers::Written;
 use answers::copy::put_bytes;
@@ -15,34 +18,16 @@ use format::Form;
 use format::Wire;
 use format::block::BLOCK;
 use format::block::BODY;
-use format::block::CHECK;
-use format::block::COUNT;
-use format::block::KIND;
-use format::block::SSRC;
 use numbers::big_endian::write16;
-use numbers::big_endian::write32;
 ghost use mathlib.Core.Path.{_≡_};
-ghost use mathlib.Core.List.{_++_};
-ghost use Prim.Native.Nat.{_+_, _-_, _*_, _≤_};
-ghost use lib.ListN.{length, take, drop, replicate};
+ghost use Prim.Native.Nat.{_+_, _*_, _≤_};
+ghost use lib.ListN.{length, take, drop};
 ghost use lib.Seq.{sets};
-ghost use Rattle.numbers.specs.BigEndian.{bytes};
 ghost use Rattle.answers.specs.Writers.{Wrote};
-ghost use Rattle.format.specs.Blocks.{blockBytes, bodyAt, bodyBytes, checkAt};
+ghost use Rattle.format.specs.Blocks.{blockBytes, bodyAt};
 ghost use Rattle.format.specs.Forms.{shapeOf, width};
-ghost use Rattle.trace.specs.Checksum.{words, onesSum};
-ghost use Rattle.trace.specs.Layout.{recordBytes, recordsBytes, header, labelBlock, arrivalsBlock, recordsBlock};
+ghost use Rattle.trace.specs.Layout.{recordBytes, recordsBytes, labelBlock, arrivalsBlock, recordsBlock};
 ghost use Rattle.trace.specs.Writing.{labelFault, recordsOf, arrivalsOk, arrivalsFault, bodyOk, bodyFault, countFault};
-
-// Stores the header at the front of out.
-fn put_header(kind: u16, count: usize, ssrc: u32, out: &mut [u8])
-    requires { ⌜ count ≤ bodyBytes ⌝ }
-    ensures { λ _. ⌜ now (out .exit) ≡ sets (now (out .entry)) 0 (header kind count ssrc) ⌝ }
-{
-    write16(kind, out, KIND);
-    write16(count as u16, out, COUNT);
-    write32(ssrc, out, SSRC);
-}
 
 // Stores a record in out at a place.
 fn put_record(form: Form, r: Record, out: &mut [u8], at: usize)
@@ -77,50 +62,18 @@ fn put_records(form: Form, times: &[u64], numbers: &[u16], marks: &[u8], out: &m
     }
 }
 
-// Stores zeros in out from a place up to the check word.
-fn put_zeros(out: &mut [u8], from: usize)
-    requires { ⌜ (from ≤ checkAt) × (blockBytes ≤ length (now out)) ⌝ }
-    ensures { λ _. ⌜ now (out .exit) ≡ sets (now (out .entry)) from (replicate (checkAt - from) 0) ⌝ }
-{
-    let mut at = from;
-    while at < CHECK {
-        out[at] = 0;
-        at += 1;
-    }
-}
-
-// Stores the check word behind the bytes of out before it.
-fn put_check(out: &mut [u8])
-    requires { ⌜ blockBytes ≤ length (now out) ⌝ }
-    ensures { λ _. ⌜ now (out .exit) ≡ sets (now (out .entry)) checkAt (bytes 2 (65535 - onesSum (words (take checkAt (now (out .entry)))))) ⌝ }
-{
-    let sum = ones_sum(&out[..CHECK]);
-    write16(65535 - sum, out, CHECK);
-}
-
-// Ends a block whose contents end at a place.
-fn put_end(out: &mut [u8], from: usize)
-    requires { ⌜ (from ≤ checkAt) × (blockBytes ≤ length (now out)) ⌝ }
-    ensures { λ _. ⌜ now (out .exit) ≡ sets (now (out .entry)) from (replicate (checkAt - from) 0 ++ bytes 2 (65535 - onesSum (words (take from (now (out .entry)) ++ replicate (checkAt - from) 0)))) ⌝ }
-{
-    put_zeros(out, from);
-    put_check(out);
-}
-
-// Writes a label block at the front of out. Refused are a label outside the trace rules (10), and an output under 512 bytes (12).
+// Writes the label block of a new label at the front of out. Refused are a label outside the trace rules (10), one with a retired byte (19), and an output
+// under 512 bytes (12).
 pub fn write_label(form: Form, label: &[u8], ssrc: u32, out: &mut [u8]) -> Written
     ensures { λ r. ⌜ Wrote (labelFault (now (label .entry))) (labelBlock (shapeOf form) (now (label .entry)) ssrc) (now (out .entry)) r (now (out .exit)) ⌝ }
 {
     if !is_label(label) {
         return Written::Refused(Refusal::Limits);
     }
-    if out.len() < BLOCK {
-        return Written::Room(BLOCK);
+    if 0 < retired_in(label) {
+        return Written::Refused(Refusal::Retired);
     }
-    put_header(form.label(), label.len(), ssrc, out);
-    put_bytes(label, out, BODY);
-    put_end(out, BODY + label.len());
-    Written::Length(BLOCK)
+    put_label(form, label, ssrc, out)
 }
 
 // Whether three lists can be a block's records.
@@ -200,8 +153,8 @@ pub fn write_records(form: Form, records: &[u8], ssrc: u32, out: &mut [u8]) -> W
     Written::Length(BLOCK)
 }
 
-// Makes an arrivals block of the n records that stand in the body of out already: header, zeros behind them, and check. Refused are none or more than the form's most
-// (10), and an output under 512 bytes (12). The records are not looked at.
+// Makes an arrivals block of the n records that stand in the body of out already: header, zeros behind them, and check. Refused are none or more than the
+// form's most (10), and an output under 512 bytes (12). The records are not looked at.
 pub fn seal(form: Form, n: usize, ssrc: u32, out: &mut [u8]) -> Written
     ensures { λ r. ⌜ Wrote (countFault (shapeOf form) n) (recordsBlock (shapeOf form) (take (n * width (shapeOf form)) (drop bodyAt (now (out .entry)))) ssrc) (now (out .entry)) r (now (out .exit)) ⌝ }
 {

@@ -8,7 +8,7 @@ use Rattle.forms.proofs.Conversion.start.Statement.{statement}
 use Rattle.forms.proofs.Conversion.start.Tie as tie
 
 started-requires : tie.Need-started-requires
-started-requires c κs = zeroth-label (now (c .before .before .before .before .before .before .before .args .zeroth)) (sym (c .before .before .before .before .read-label .ensures) ∙ c .before .before .form .given .1)
+started-requires c κs = (_, zeroth-label (now (c .before .before .before .before .before .before .before .args .zeroth)) (sym (c .before .before .before .before .read-label .ensures) ∙ c .before .before .form .given .1))
 
 returns-2 : tie.Need-returns-2
 returns-2 c = let a = c .before .before .before .before .before .before .args in begin-refused (now (a .zeroth)) (now (a .out)) (sym (c .before .before .before .read-label .ensures) ∙ c .before .refusal .given .1)

@@ -1,0 +1,4 @@
+pub mod Labelled
+pub mod Pieces
+pub mod Theorems
+pub mod Witnesses
