@@ -502,6 +502,12 @@ enum { FLASKNIB_KIND_LABEL_ONE = 1, FLASKNIB_KIND_ARRIVALS_ONE = 2, FLASKNIB_KIN
  * contents against the rules above, or 12 where `found` has fewer words. */
 uint8_t flasknib_read_block(const uint8_t *block, size_t length, uint64_t *found, size_t words);
 
+/* Judges a later block at its place: it must hold arrivals of the form and the SSRC of block 0, which flasknib_read_block gives (kind 1 is form 1,
+ * kind 3 form 2). Gives 0, or refusal 10 for another form than the two, 1 for another length than 512, 13, or 14 for contents against the rules
+ * above, a label, or another form or SSRC. So ecntable judges each later block. The program ecnsalvage copies block 0 and each later block for which
+ * this is 0, and lists the others. */
+uint8_t flasknib_read_own(uint8_t form, uint32_t ssrc, const uint8_t *block, size_t length);
+
 /* 3 words of a record: its time (ms), its wire number, its mark. */
 #define FLASKNIB_RECORD_WORDS 3
 

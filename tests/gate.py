@@ -90,7 +90,7 @@ def left(tree):
     """What an earlier run left, each file of which tells where it is run."""
     for name in "program compare capture received count breaker answer count_rust libmodel.rlib libdraw.rlib compare.table capture.lines".split():
         script(tree.top / "target/tests" / name, f"echo {name} >>\"$RAN\"\n")
-    for name in ("ecntable", "ecnforms", "ecnstreams", "ecnlabel"):
+    for name in ("ecntable", "ecnforms", "ecnstreams", "ecnlabel", "ecnsalvage"):
         script(tree.top / "target/bin" / name, f"echo {name} >>\"$RAN\"\n")
     script(tree.top / "target/staticlib/libcapi.a", "")
 

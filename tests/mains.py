@@ -22,7 +22,7 @@ OTHERS = {
 }
 
 # The programs that copy blocks where they stand, and the functions that each has in the first one's words.
-COPYING = ("ecnlabel",)
+COPYING = ("ecnsalvage", "ecnlabel")
 ALIKE = ("close", "finish", "step", "run")
 
 # What a main may hold of tests and sums: the usage line's test, and the number of turns, which ends the loop.
@@ -59,8 +59,8 @@ def functions(text):
 
 
 def unlike(first, other):
-    """The functions of a program that copies which are not the first one's."""
-    one, two = functions(first), functions(other)
+    """The functions of a program that copies which are not the first one's, but for what its call on blocks is lent."""
+    one, two = functions(first), functions(other.replace("take(s, name, kept, piece)", "take(s, name, kept, piece, errors)"))
     return [f"has another '{name}' than {COPYING[0]}" for name in ALIKE if one[name] != two[name]]
 
 

@@ -319,6 +319,25 @@ static void old_labels(void)
     CHECK(flasknib_space_label(block, sizeof block, out, 0) == -FLASKNIB_REFUSAL_CONTENTS);
 }
 
+/* ---- a later block at its place */
+
+static void own_blocks(void)
+{
+    static const uint8_t record[] = {0, 0, 0, 0, 0, 1, FLASKNIB_MARK_CE, 0};
+    uint8_t block[FLASKNIB_BLOCK_BYTES];
+
+    CHECK(flasknib_write_records(FLASKNIB_FORM_ONE, record, sizeof record, SSRC, block, sizeof block) == FLASKNIB_BLOCK_BYTES);
+    CHECK(flasknib_read_own(FLASKNIB_FORM_ONE, SSRC, block, sizeof block) == 0);
+    CHECK(flasknib_read_own(FLASKNIB_FORM_TWO, SSRC, block, sizeof block) == FLASKNIB_REFUSAL_CONTENTS);
+    CHECK(flasknib_read_own(FLASKNIB_FORM_ONE, SSRC + 1, block, sizeof block) == FLASKNIB_REFUSAL_CONTENTS);
+    CHECK(flasknib_read_own(FLASKNIB_FORM_ONE, SSRC, block, sizeof block - 1) == FLASKNIB_REFUSAL_INCOMPLETE);
+    CHECK(flasknib_read_own(FLASKNIB_FORM_TWO + 1, SSRC, block, sizeof block - 1) == FLASKNIB_REFUSAL_LIMITS);
+    block[FLASKNIB_BLOCK_BODY_AT]++;
+    CHECK(flasknib_read_own(FLASKNIB_FORM_TWO, SSRC, block, sizeof block) == FLASKNIB_REFUSAL_CHECKSUM);
+    CHECK(flasknib_write_label(FLASKNIB_FORM_ONE, (const uint8_t *)"ward", 4, SSRC, block, sizeof block) == FLASKNIB_BLOCK_BYTES);
+    CHECK(flasknib_read_own(FLASKNIB_FORM_ONE, SSRC, block, sizeof block) == FLASKNIB_REFUSAL_CONTENTS);
+}
+
 /* ---- block 0 of a run */
 
 /* The answer to a block of a run whose block 0 has one byte changed, and the row. */
@@ -362,6 +381,7 @@ int main(void)
     byte_order();
     label_rules();
     old_labels();
+    own_blocks();
     block_0();
     return checked("the header's rules");
 }

@@ -1,8 +1,8 @@
 """The traces that the gate runs the programs on (`stdin` of the programs' crates): each longer than a piece that a program reads.
 
 What ecntable and ecnforms print of theirs is longer than what they keep for output. ecntable's trace ends in a block whose check is wrong and one block
-more; ecnstreams' has several sources, and is whole. ecnlabel's has an old label, and its copy is made here too, `stdout`.
-With --write they are written; without it the files are held to what this writes.
+more; ecnstreams' has several sources, and is whole. ecnsalvage's has damaged blocks and a tail, and ecnlabel's an old label: of these two the copies are made here
+too, `stdout`. With --write they are written; without it the files are held to what this writes.
 """
 import pathlib
 import struct
@@ -64,6 +64,34 @@ def own(ssrc, i):
     return block(2, count, ssrc, b"".join(lossy(40 * i + k) for k in range(count)))
 
 
+def wrong_check(whole):
+    return whole[:100] + bytes([whole[100] ^ 4]) + whole[101:]
+
+
+def ecnsalvage():
+    """After an old label 800 blocks, of which every 97th is damaged, in turn: a byte is changed, it is zeros, another source's, another form's, a label, or has a
+    count of 63; two stand at the end of a piece, and two after one another; then a tail. The copy is what is left of them."""
+    label = b"probe 2, left\r\nsecond line"
+    zeroth = block(1, len(label), 9, label)
+    damaged = (
+        wrong_check,
+        lambda whole: bytes(512),
+        lambda whole: own(8, 1),
+        lambda whole: block(4, 1, 9, struct.pack(">HIHBB", 0, 5, 6, 0, 0)),
+        lambda whole: zeroth,
+        lambda whole: block(2, 63, 9, whole[8:510]),
+    )
+    trace, copy = [zeroth], [zeroth]
+    for i in range(1, 801):
+        whole = own(9, i)
+        if i % 97 == 0 or i in (256, 257, 512, 700, 701):
+            trace.append(damaged[i % len(damaged)](whole))
+        else:
+            trace.append(whole)
+            copy.append(whole)
+    return b"".join(trace) + zeroth[:511], b"".join(copy)
+
+
 def ecnlabel():
     """An old label with four retired bytes, and 600 blocks."""
     label = b"probe 2,\r\nleft\n\rsecond line"
@@ -76,7 +104,7 @@ def files():
     """(name in crates/, bytes)."""
     for program in (ecntable, ecnforms, ecnstreams):
         yield f"{program.__name__}/stdin", program()
-    for program in (ecnlabel,):
+    for program in (ecnsalvage, ecnlabel):
         for name, made in zip(("stdin", "stdout"), program()):
             yield f"{program.__name__}/{name}", made
 

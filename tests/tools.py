@@ -131,7 +131,7 @@ class Table(Tried):
     def test_refused_block(self):
         self.out.write_text("as it was")
         ran = self.ecn("table", SAMPLES / "damaged.trace", "-o", self.out, status=1)
-        self.assertRegex(ran.stderr, r"damaged\.trace: block 5 is refused with 13")
+        self.assertRegex(ran.stderr, r"damaged\.trace: block 5 is refused with 13: .*; ecn salvage saves the other blocks\n$")
         self.assertEqual(self.out.read_text(), "as it was")
         self.alone("out.csv")
 
@@ -242,7 +242,7 @@ class Table(Tried):
             self.assertIn("4 blocks, 0 refused", self.ecn("look", path, "--streams", "--brief").stdout)
 
     def test_help(self):
-        for command in ([], ["table"], ["look"], ["make"], ["label"], ["plot"], ["answer"]):
+        for command in ([], ["table"], ["look"], ["make"], ["label"], ["salvage"], ["plot"], ["answer"]):
             self.assertIn("xit status", self.ecn(*command, "--help").stdout)
         self.ecn("table", SAMPLES / "c1.trace", status=2)
         self.assertEqual(subprocess.run([ECN, "--help"], env=OURS, stdout=subprocess.DEVNULL).returncode, 0)
@@ -428,7 +428,8 @@ class Endings(Tried):
         place.mkdir()
         for words in (["table", trace, "-o", place / "out"], ["look", trace], ["make", self.folder / "in.csv", "--ssrc", "7", "-o", place / "out"]):
             self.ends(signal.SIGTERM, *words)
-        self.ends(signal.SIGTERM, "label", trace, "-o", place / "out", name="ecnlabel")
+        for command in ("label", "salvage"):
+            self.ends(signal.SIGTERM, command, trace, "-o", place / "out", name=f"ecn{command}")
         for ending in (signal.SIGINT, signal.SIGHUP):
             self.ends(ending, "table", trace, "-o", place / "out")
         self.assertEqual(os.listdir(place), [])
@@ -793,6 +794,130 @@ class Label(Tried):
                 ran = subprocess.run(words, env=OURS, stdin=trace, capture_output=True, timeout=LONG)
             self.assertEqual((ran.returncode, ran.stdout), (0, self.SPACED.read_bytes()))
             self.assertEqual(ran.stderr, b"ecn: standard input: 3 bytes of the label replaced by spaces\n")
+
+
+class Salvage(Tried):
+    """ecn salvage: what is left is put in place, and what was left out is listed."""
+
+    DAMAGED, SALVAGED = SAMPLES / "damaged.trace", SAMPLES / "salvaged.trace"
+    LISTED = """    block  refused with
+    5      13  the block's checksum does not fit
+    9      1   the trace is empty, or ends in the middle of a block
+"""
+
+    def salvaged(self, path, status, counts, out=None, **kept) -> str:
+        """What is listed behind the counts."""
+        ran = self.ecn("salvage", path, "-o", out or self.out, status=status, **kept)
+        first, _, listed = ran.stderr.partition("\n")
+        self.assertEqual((first, ran.stdout), (f"ecn: {path}: {counts}", ""))
+        return listed
+
+    def test_sound_traces(self):
+        """They come out byte for byte, of either form and with retired bytes in the label."""
+        for name in ("c1", "long", "reboot", "returns", "weeks"):
+            path = SAMPLES / f"{name}.trace"
+            count = path.stat().st_size // 512
+            self.assertEqual(self.salvaged(path, 0, f"{count} blocks copied, 0 left out"), "")
+            self.assertEqual(self.out.read_bytes(), path.read_bytes())
+        self.assertEqual(self.salvaged(self.trace(label()), 0, "1 block copied, 0 left out"), "")
+        self.alone("made.trace", "out.csv")
+
+    def test_sample(self):
+        self.assertEqual(self.salvaged(self.DAMAGED, 1, "8 blocks copied, 2 left out"), self.LISTED)
+        self.assertEqual(self.out.read_bytes(), self.SALVAGED.read_bytes())
+        self.ecn("table", self.out, "-o", self.folder / "table.csv")
+        self.assertEqual((self.folder / "table.csv").read_bytes(), (SAMPLES / "salvaged.csv").read_bytes())
+
+    def test_stretches(self):
+        """Blocks that follow each other with one refusal have one line; each number stands in the list once, in order."""
+        kinds = {" ": arrivals(), "3": arrivals()[:-1] + b"\0", "4": arrivals(ssrc=8), "2": arrivals(form=2), "l": label(), "z": b"\0" * 512}
+        for places, listed in (
+            (" 3 ", ["2", "13"]),
+            ("33 334 l2z", ["1 to 2", "13", "4 to 5", "13", "6", "14", "8 to 9", "14", "10", "13"]),
+            ("z" * 120 + " ", ["1 to 120", "13"]),
+            ("3" + " " * 999 + "34", ["1", "13", "1001", "13", "1002", "14"]),
+        ):
+            path, sound = self.trace(label(), *(kinds[each] for each in places)), places.count(" ")
+            lines = self.salvaged(path, 1, f"{1 + sound:,} blocks copied, {len(places) - sound:,} left out").splitlines()
+            self.assertEqual([word for line in lines[1:] for word in re.split("  +", line.strip())[:2]], listed)
+            self.assertEqual(self.out.read_bytes(), b"".join([label(), *[kinds[" "]] * sound]))
+
+    def test_wrong_label(self):
+        """There is no copy, and what stood there stays."""
+        self.out.write_text("as it was")
+        for blocks, number in (([b"\0" * 512, arrivals()], 13), ([arrivals(), arrivals()], 14), ([label()[:300]], 1), ([], 1)):
+            ran = self.ecn("salvage", self.trace(*blocks), "-o", self.out, status=1)
+            self.assertRegex(ran.stderr, rf"^ecn: .*made\.trace: block 0 is refused with {number}: .*; without a sound label block nothing is copied\n$")
+        self.assertEqual(self.out.read_text(), "as it was")
+        self.alone("made.trace", "out.csv")
+
+    def test_a_new_label(self):
+        """README's way if the label block itself is damaged: one that ecn make wrote, in front of the rest."""
+        rest = [arrivals(), arrivals(first=13)[:-1] + b"\0", arrivals(first=16)]
+        path, new = self.trace(b"\0" * 512, *rest), self.folder / "label.trace"
+        self.ecn("make", "-", "--ssrc", "7", "--label", "ward 3", "-o", new, input="time,number,mark\n")
+        joined = self.trace(new.read_bytes(), path.read_bytes()[512:], name="joined.trace")
+        self.assertIn("    2      13", self.salvaged(joined, 1, "3 blocks copied, 1 left out"))
+        self.assertEqual(self.out.read_bytes(), b"".join([label(b"ward 3"), rest[0], rest[2]]))
+
+    def test_failed_read_and_write(self):
+        self.out.write_text("as it was")
+        ran = self.ecn("salvage", self.folder, "-o", self.out, status=2)
+        self.assertIn("block 0: ecnsalvage: reading standard input: Is a directory", ran.stderr)
+        self.assertNotIn("dd bs=512", ran.stderr)
+        self.assertIn("missing: No such file", self.ecn("salvage", self.folder / "missing", "-o", self.out, status=2).stderr)
+        limit = lambda: resource.setrlimit(resource.RLIMIT_FSIZE, (1000, 1000))  # noqa: E731
+        ran = self.ecn("salvage", SAMPLES / "long.trace", "-o", self.out, status=2, preexec_fn=limit)
+        self.assertIn("long.trace: ecnsalvage: writing standard output: File too large", ran.stderr)
+        self.assertIn("/dev/full: No space left", self.ecn("salvage", self.DAMAGED, "-o", "/dev/full", status=2).stderr)
+        self.assertEqual(self.out.read_text(), "as it was")
+        self.alone("out.csv")
+
+    def test_a_stick_with_read_errors(self):
+        """Nothing is put in place, and the way out is said. A program stands in for one whose read fails."""
+        lines = "refused 13 block 4\\r\\nrefused 1 block 9\\r\\necnsalvage: reading standard input: Input/output error\\n"
+        failing = self.program(f"cat; printf '{lines}' >&2", "ecnsalvage")
+        ran = self.ecn("salvage", self.SALVAGED, "-o", self.out, "--bin", failing, status=2)
+        self.assertIn("salvaged.trace, block 9: ecnsalvage: reading standard input: Input/output error; copy it first with dd bs=512", ran.stderr)
+        self.alone()
+
+    def test_a_copy_that_is_not_whole(self):
+        sample = shlex.quote(str(self.SALVAGED))
+        for text, told in (
+            ("kill -9 $$", "ended by signal 9"),
+            ("exit 3", "ended with status 3"),
+            (f"cat >/dev/null; cat {sample}", "4096 bytes copied and 0 blocks listed for 4908 bytes; the copy is not whole"),
+            (f"cat >/dev/null; cat {sample}; printf 'refused 13 block 5\\r\\n' >&2", "4096 bytes copied and 1 block listed"),
+            (f"cat >/dev/null; head -c 1000 {sample}; printf 'refused 13 block 5\\r\\n' >&2", "1000 bytes copied"),
+        ):
+            ran = self.ecn("salvage", self.DAMAGED, "-o", self.out, "--bin", self.program(text, "ecnsalvage"), status=2)
+            self.assertIn(told, ran.stderr)
+        self.assertIn("ecnsalvage is not found in", self.ecn("salvage", self.DAMAGED, "-o", self.out, "--bin", self.folder, status=2).stderr)
+        self.alone()
+
+    def test_several_traces(self):
+        """Those with something left out are in place too; the highest status counts."""
+        given, out = [self.DAMAGED, SAMPLES / "c1.trace", SAMPLES / "weeks.trace"], self.folder / "saved"
+        ran = self.ecn("salvage", *given, "-o", out, "-j", "3", status=1)
+        for each, wanted in zip(given, [self.SALVAGED, *given[1:]]):
+            self.assertEqual((out / each.name).read_bytes(), wanted.read_bytes())
+        self.assertIn(self.LISTED, ran.stderr)
+        self.ecn("salvage", *given[1:], "-o", self.folder / "others/")
+        ran = self.ecn("salvage", TOP / "README.md", self.folder / "missing", *given, "-o", self.folder / "more/", status=2)
+        self.assertEqual(sorted(os.listdir(self.folder / "more")), sorted(each.name for each in given))
+
+    def test_pipes(self):
+        with open(self.DAMAGED, "rb") as trace, subprocess.Popen(["cat"], stdin=trace, stdout=subprocess.PIPE) as cat:
+            words = [sys.executable, "-S", ECN, "salvage", "-", "-o", "-"]
+            ran = subprocess.run(words, env=OURS, stdin=cat.stdout, capture_output=True, timeout=LONG)
+        self.assertEqual((ran.returncode, ran.stdout), (1, self.SALVAGED.read_bytes()))
+        self.assertEqual(ran.stderr.decode(), "ecn: standard input: 8 blocks copied, 2 left out\n" + self.LISTED)
+
+    def test_an_input_is_never_an_output(self):
+        path = self.trace(label(), arrivals(), b"\0" * 512)
+        before = path.read_bytes()
+        self.assertIn("made.trace is given as input and as output", self.ecn("salvage", path, "-o", path, status=2).stderr)
+        self.assertEqual(path.read_bytes(), before)
 
 
 class Plot(Tried):

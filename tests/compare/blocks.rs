@@ -33,7 +33,7 @@ fn read_written(compare: &Compare, answer: i64, out: &[u8]) {
 }
 
 /// Mostly the number of the form; now and then another.
-fn number(draw: &Draw, form: Form) -> u8 {
+pub fn number(draw: &Draw, form: Form) -> u8 {
     match draw.below(30) {
         0 => draw.of(&[0, 3, 4, 128, 255]),
         1 => draw.u64() as u8,

@@ -26,6 +26,7 @@ pub trait Calls {
     fn write_attribute(&self, attribute: &[u64], out: &mut [u8]) -> i64;
     fn answer(&self, offer: &[u64], ours: &[u64], found: &mut [u64]) -> u8;
     fn read_block(&self, block: &[u8], found: &mut [u64]) -> u8;
+    fn read_own(&self, form: u8, ssrc: u32, block: &[u8]) -> u8;
     fn record_at(&self, block: &[u8], index: usize, found: &mut [u64]) -> u8;
     fn write_label(&self, form: u8, label: &[u8], ssrc: u32, out: &mut [u8]) -> i64;
     fn space_label(&self, zeroth: &[u8], out: &mut [u8]) -> i64;
@@ -67,7 +68,7 @@ pub const REFUSED: u16 = 0x200;
 
 /// Every function with every answer it can give; a length counts as 0, a writer's 12 with any size as -12, of a difference its sign, and of a block's
 /// jumps and restarts and of a label's retired bytes whether there are any.
-pub const FUNCTIONS: [(&str, &[i64]); 41] = [
+pub const FUNCTIONS: [(&str, &[i64]); 42] = [
     ("flasknib_arrive", &[0, 7, 8, 9, 10, 128]),
     ("flasknib_count_block", &[0, 1, 256, 257, -9, -10]),
     ("flasknib_lost", &[0, 9, 12]),
@@ -93,6 +94,7 @@ pub const FUNCTIONS: [(&str, &[i64]); 41] = [
     ("flasknib_write_attribute", &[0, -9, -10, -12]),
     ("flasknib_answer", &[0, 9, 10, 12, 129]),
     ("flasknib_read_block", &[0, 1, 12, 13, 14]),
+    ("flasknib_read_own", &[0, 1, 10, 13, 14]),
     ("flasknib_record_at", &[0, 1, 10, 12, 14]),
     ("flasknib_write_label", &[0, -10, -12, -19]),
     ("flasknib_space_label", &[0, 1, -1, -12, -13, -14]),

@@ -10,7 +10,7 @@ use model::refusal::{put, require, Refusal, Written, JUMP, LIMITS, MALFORMED, RO
 use model::source::{count_block, Counted, Source};
 use model::streams::Table;
 use model::trace::{arrivals_block, records_block, Contents, Form, Record};
-use model::{compound, forms, report, sdp, streams, table, trace};
+use model::{compound, forms, report, salvage, sdp, streams, table, trace};
 
 pub struct Expected;
 
@@ -216,6 +216,10 @@ impl Calls for Expected {
             [u64::from(kind), count as u64, u64::from(ssrc)]
         });
         put_words(words, found)
+    }
+
+    fn read_own(&self, form: u8, ssrc: u32, block: &[u8]) -> u8 {
+        salvage::read_own(form, ssrc, block).map_or_else(|refusal| refusal.number(), |()| 0)
     }
 
     fn record_at(&self, block: &[u8], index: usize, found: &mut [u64]) -> u8 {

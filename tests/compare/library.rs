@@ -32,6 +32,7 @@ extern "C" {
     fn flasknib_write_attribute(attribute: *const u64, words: usize, out: *mut u8, room: usize) -> i64;
     fn flasknib_answer(offer: *const u64, offer_words: usize, ours: *const u64, our_words: usize, found: *mut u64, words: usize) -> u8;
     fn flasknib_read_block(block: *const u8, length: usize, found: *mut u64, words: usize) -> u8;
+    fn flasknib_read_own(form: u8, ssrc: u32, block: *const u8, length: usize) -> u8;
     fn flasknib_record_at(block: *const u8, length: usize, i: usize, found: *mut u64, words: usize) -> u8;
     fn flasknib_write_label(form: u8, label: *const u8, length: usize, ssrc: u32, out: *mut u8, room: usize) -> i64;
     fn flasknib_space_label(zeroth: *const u8, length: usize, out: *mut u8, room: usize) -> i64;
@@ -163,6 +164,10 @@ impl Calls for Library {
 
     fn read_block(&self, block: &[u8], found: &mut [u64]) -> u8 {
         unsafe { flasknib_read_block(block.as_ptr(), block.len(), found.as_mut_ptr(), found.len()) }
+    }
+
+    fn read_own(&self, form: u8, ssrc: u32, block: &[u8]) -> u8 {
+        unsafe { flasknib_read_own(form, ssrc, block.as_ptr(), block.len()) }
     }
 
     fn record_at(&self, block: &[u8], index: usize, found: &mut [u64]) -> u8 {

@@ -24,6 +24,7 @@ mod reports;
 mod restarts;
 mod rows;
 mod runs;
+mod salvage;
 mod streams;
 mod tables;
 mod worked;
@@ -49,6 +50,7 @@ fn main() {
     restarts::examples(compare);
     forms::examples(compare);
     labels::examples(compare);
+    salvage::examples(compare);
     places::examples(compare);
     counting::calls(compare, draw);
     tables::calls(compare, draw);
@@ -67,6 +69,7 @@ fn main() {
     let [heard, reports, with_counts] = between::packets(compare, draw);
     let (lines, answers) = attributes::calls(compare, draw);
     labels::calls(compare, draw);
+    salvage::calls(compare, draw);
     compare.close(table.as_deref());
     let (calls, functions) = (compare.calls(), compare.functions());
     println!(

@@ -86,6 +86,45 @@ fn damage(draw: &Draw, trace: &mut Vec<u8>) {
     }
 }
 
+/// A trace with one to six faults of a bad memory stick: single blocks or stretches that are damaged, zeros, exchanged, again, gone or cut, bytes that are gone
+/// or too many, and another trace behind it. Block 0 is hit now and then.
+pub fn battered(draw: &Draw, mut trace: Vec<u8>) -> Vec<u8> {
+    for _ in 0..draw.within(1, 6) {
+        batter(draw, &mut trace);
+    }
+    trace
+}
+
+fn batter(draw: &Draw, trace: &mut Vec<u8>) {
+    let count = trace.len() / BLOCK;
+    if count < 2 {
+        return damage(draw, trace);
+    }
+    let one = |draw: &Draw| if draw.one_in(20) { 0 } else { draw.within(1, count as u64 - 1) as usize };
+    let (at, other) = (one(draw), one(draw));
+    let block = |index: usize| BLOCK * index..BLOCK * (index + 1);
+    match draw.below(12) {
+        0 => {
+            let [first, second] = [at, other].map(|index| trace[block(index)].to_vec());
+            trace[block(at)].copy_from_slice(&second);
+            trace[block(other)].copy_from_slice(&first);
+        }
+        1 => {
+            let again = trace[block(at)].to_vec();
+            trace.splice(BLOCK * other..BLOCK * other, again);
+        }
+        2 => drop(trace.drain(block(at))),
+        3 => trace[BLOCK * at.min(other)..BLOCK * at.max(other)].fill(draw.of(&[0, 0, 0xFF])),
+        4 => trace[block(at)].fill(0),
+        5 => trace.truncate(trace.len() - draw.index(BLOCK)),
+        6 => trace.extend(sound(draw, 4)),
+        7 if draw.one_in(3) => drop(trace.drain(BLOCK * at..BLOCK * at + draw.index(BLOCK))),
+        8 if draw.one_in(3) => drop(trace.splice(BLOCK * at..BLOCK * at, draw.bytes(draw.index(BLOCK)))),
+        9 => blocks::damage_contents(draw, &mut trace[block(at)]),
+        _ => blocks::flip(draw, &mut trace[block(at)]),
+    }
+}
+
 /// In place of a sound block a sound one of the other form and the same SSRC.
 fn other_form(draw: &Draw, block: &mut [u8]) {
     if let Ok((form, ssrc, contents)) = read(block) {

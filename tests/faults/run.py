@@ -1,9 +1,10 @@
 """run.py BIN FAULTS.so FOLDER: the programs in BIN if a read or a write fails, is interrupted, is not ready or moves few bytes.
 
-A trace of 800 arrivals blocks. If the calls can be made again, both outputs are those of an undisturbed run: on standard error the number of ecnlabel, and
-else nothing. If a read fails, the output is that of the whole blocks before it, and `refused 1 block I` follows, on standard output by ecntable and
-ecnstreams and on standard error by the others; if a write fails, standard output is cut off. Both say so in one line on standard error, and then ecnlabel
-prints no number. Each check that does not hold is printed; the last line says how many runs there were.
+A trace of 800 arrivals blocks; that of ecnsalvage has damaged ones. If the calls can be made again, both outputs are those of an undisturbed run: on standard
+error the number of ecnlabel, the list of ecnsalvage, and else nothing. If a read fails, the output is that of the whole blocks before it, and `refused 1
+block I` follows, on standard output by ecntable and ecnstreams and on standard error by the others; if a write fails, standard output is cut off. Both say so
+in one line on standard error, and then ecnlabel prints no number. dd copies a file of which reads fail, and ecnsalvage takes the image. Each check that does
+not hold is printed; the last line says how many runs there were.
 """
 import errno
 import os
@@ -54,6 +55,10 @@ class Ecntable:
     early = ((20, 25),)
     ssrcs, label = (7,), LABEL
 
+    def given(self):
+        """The trace."""
+        return trace(self.form, (BLOCKS - 1) * FORMS[self.form][0], self.ssrcs, self.label)
+
     def learn(self, table):
         self.rows = table.splitlines(keepends=True)
 
@@ -64,12 +69,11 @@ class Ecntable:
         return self.printed(whole) + b"refused 1 block %d\r\n" % whole, b""
 
 
-class Ecnforms:
+class Ecnforms(Ecntable):
     name, usage, told = "ecnforms", b"usage: ecnforms <TRACE >TRACE\n", b""
     piece, write, before, last = 256, 2, 512 * BLOCK, 2
     # Those before the second of form 1 fill more than a piece of output.
     early = ((20, 25), (336, 456))
-    ssrcs, label = (7,), LABEL
 
     def __init__(self, form):
         self.form = form
@@ -85,7 +89,7 @@ class Ecnforms:
 
 
 class Ecnlabel(Ecnforms):
-    """Block 0 is a write of its own, and so is what each piece gives: a read that fails is told after the blocks before it are written."""
+    """Block 0 is a write of its own, and so is what each piece gives: a read that fails is reported before the blocks that it stands behind are written."""
 
     name, usage, told = "ecnlabel", b"usage: ecnlabel <TRACE >TRACE\n", b"3\r\n"
     write, before, last, early = 2, BLOCK, 2, ()
@@ -94,6 +98,35 @@ class Ecnlabel(Ecnforms):
     def printed(self, whole):
         spaced = self.label.replace(b"\r", b" ").replace(b"\n", b" ")
         return trace(self.form, (whole - 1) * FORMS[self.form][0], label=spaced) if whole else b""
+
+
+class Ecnsalvage(Ecnforms):
+    """A byte of these blocks is changed: single ones, two in a row, and those around the ends of pieces. A list that is short is printed at the end, so that
+    nothing of it stands before a write that fails."""
+
+    name, usage = "ecnsalvage", b"usage: ecnsalvage <TRACE >TRACE\n"
+    write, before, last, early = 2, BLOCK, 2, ()
+    DAMAGED = (30, 100, 101, 255, 256, 257, 258, 400, 512, 513, 800)
+
+    def lines(self, numbers):
+        return b"".join(b"refused 13 block %d\r\n" % number for number in numbers)
+
+    @property
+    def told(self):
+        return self.lines(self.DAMAGED)
+
+    def given(self):
+        data = bytearray(super().given())
+        for number in self.DAMAGED:
+            data[BLOCK * number + 100] ^= 1
+        return bytes(data)
+
+    def printed(self, whole):
+        data = self.given()
+        return b"".join(data[BLOCK * number : BLOCK * (number + 1)] for number in range(whole) if number not in self.DAMAGED)
+
+    def unread(self, whole):
+        return self.printed(whole), self.lines(number for number in self.DAMAGED if number < whole) + b"refused 1 block %d\r\n" % whole
 
 
 class Ecnstreams(Ecntable):
@@ -115,7 +148,7 @@ class Tried:
     def __init__(self, program, path, library, folder):
         self.program, self.command, self.library = program, os.path.abspath(path), os.path.abspath(library)
         self.path, self.out = pathlib.Path(folder, "faults.trace"), pathlib.Path(folder, "faults.out")
-        self.path.write_bytes(trace(program.form, (BLOCKS - 1) * FORMS[program.form][0], program.ssrcs, program.label))
+        self.path.write_bytes(program.given())
         self.runs, self.wrong = 0, []
         self.whole, told = self.run("undisturbed")
         program.learn(self.whole)
@@ -126,12 +159,9 @@ class Tried:
     def run(self, name, faults="", words=(), **kept):
         """Standard output and error of a run; a file as standard input and a pipe as output unless the caller says otherwise."""
         self.runs += 1
-        # The loader parts its list at spaces and colons: the library is named from its own folder.
-        folder, library = os.path.split(self.library)
-        environment = dict(os.environ, LC_ALL="C", LD_PRELOAD=os.path.join(os.curdir, library), FAULTS=faults)
         with open(self.path, "rb") as opened:
-            options = dict(dict(stdin=opened, stdout=subprocess.PIPE, stderr=subprocess.PIPE, cwd=folder), **kept)
-            with subprocess.Popen([self.command, *words], env=environment, **options) as child:
+            options = dict(dict(stdin=opened, stdout=subprocess.PIPE, stderr=subprocess.PIPE), **self.preloaded(faults), **kept)
+            with subprocess.Popen([self.command, *words], **options) as child:
                 try:
                     out, told = child.communicate(timeout=30)
                 except subprocess.TimeoutExpired:
@@ -144,11 +174,16 @@ class Tried:
             self.wrong.append(f"{name}: ends with status {child.returncode}")
         return out, told
 
+    def preloaded(self, faults):
+        """How a program is started with faults. The loader parts its list at spaces and colons: the library is named from its own folder."""
+        folder, library = os.path.split(self.library)
+        return dict(cwd=folder, env=dict(os.environ, LC_ALL="C", LD_PRELOAD=os.path.join(os.curdir, library), FAULTS=faults))
+
     def hold(self, name, out, told, wanted, line):
         if out != wanted:
             self.wrong.append(f"{self.program.name}, {name}: {len(out)} bytes in place of {len(wanted)}, or others")
         if told != line:
-            self.wrong.append(f"{self.program.name}, {name}: on standard error {told!r} in place of {line!r}")
+            self.wrong.append(f"{self.program.name}, {name}: on standard error {told[-300:]!r} in place of {line[-300:]!r}")
 
     def told(self, what, error):
         return f"{self.program.name}: {what}: {os.strerror(error)}\n".encode()
@@ -212,13 +247,16 @@ def both_fail(tried):
 
 
 def copies_fail(tried):
-    """A read fails behind whole blocks of its piece, and then the write of these blocks fails: standard output is cut off, what is told of the read has its own
-    error, and the line of the write is the last."""
+    """A read fails behind whole blocks of its piece. If the write of these blocks is then interrupted or not ready, the read is told with its own error. If it
+    fails, standard output is cut off, what is told of the read has its own error, and the line of the write is the last."""
     call, whole = 20, 25
+    for again in (errno.EINTR, errno.EAGAIN):
+        faults = f"read short 1 0 700; read fail {call} {errno.EIO} 1; write fail 2 {again} 2"
+        tried.read_fails(f"a read fails, and then a write gives errno {again} twice", whole, errno.EIO, faults)
     faults = f"read short 1 0 700; read fail {call} {errno.EIO} 1; write fail 2 {errno.ENOSPC} 1"
     out, line = tried.run("a read and then a write fails", faults)
     read, write = tried.program.unread(whole)[1] + tried.told("reading standard input", errno.EIO), tried.told("writing standard output", errno.ENOSPC)
-    tried.hold("a read and then a write fails", out, line, tried.whole[:BLOCK], (read if line.startswith(read) else b"") + write)
+    tried.hold("a read and then a write fails", out, line, tried.whole[:BLOCK], read + write)
 
 
 def limited():
@@ -296,11 +334,33 @@ def arguments(tried):
         tried.hold(name, *tried.run(name, words=words), b"", tried.program.usage)
 
 
+def bad_sticks(tried):
+    """README's dd over a file of which some reads fail, and which ends in the middle of a block: their blocks are zeros in the image, and the end is filled up
+    with zeros. All of these are listed with 13, and the others are copied."""
+    data, image = tried.program.given(), tried.path.with_suffix(".image")
+    for faults, unread in (("", ()), ("read fail 6 5 1; read fail 500 5 3", (5, 499, 500, 501)), ("read fail 1 5 1", (0,)), ("read fail 2 5 800", range(1, 801))):
+        tried.runs += 1
+        tried.path.write_bytes(data + data[-BLOCK:][:300])
+        words = ["dd", f"if={tried.path.absolute()}", f"of={image.absolute()}", "bs=512", "conv=noerror,sync"]
+        subprocess.run(words, stdout=subprocess.DEVNULL, stderr=subprocess.DEVNULL, timeout=60, **tried.preloaded(faults))
+        left_out = sorted({*tried.program.DAMAGED, *unread, BLOCKS})
+        wanted = [data[BLOCK * number : BLOCK * (number + 1)] for number in range(BLOCKS)]
+        got = image.read_bytes()
+        if len(got) != BLOCK * (BLOCKS + 1) or any(any(got[BLOCK * number : BLOCK * (number + 1)]) for number in unread):
+            tried.wrong.append(f"dd with {faults!r}: not the image that README says")
+        out, line = b"".join(each for number, each in enumerate(wanted) if number not in left_out), tried.program.lines(left_out)
+        with open(image, "rb") as opened:
+            told = tried.run(f"an image of dd with {faults!r}", stdin=opened)
+        tried.hold(f"an image of dd with {faults!r}", *told, *((b"", tried.program.lines([0])) if 0 in unread else (out, line)))
+    image.unlink()
+
+
 def main(bin, library, folder):
     runs, wrong = 0, []
     parts = (injected_reads, injected_writes, real_files, real_pipes, arguments)
     copies = (*parts, copies_fail)
-    programs = ((Ecntable(), parts), (Ecnforms(1), parts), (Ecnforms(2), parts[:2]), (Ecnstreams(), parts), (Ecnlabel(1), copies), (Ecnlabel(2), parts[:2]))
+    programs = ((Ecntable(), parts), (Ecnforms(1), parts), (Ecnforms(2), parts[:2]), (Ecnstreams(), parts), (Ecnlabel(1), copies), (Ecnlabel(2), parts[:2]),
+                (Ecnsalvage(1), (*copies, bad_sticks)), (Ecnsalvage(2), parts[:2]))
     for program, tries in programs:
         tried = Tried(program, os.path.join(bin, program.name), library, folder)
         for part in tries:

@@ -8,6 +8,7 @@ pub mod forms;
 pub mod labels;
 pub mod refusal;
 pub mod report;
+pub mod salvage;
 pub mod sdp;
 pub mod source;
 pub mod streams;

@@ -3,11 +3,13 @@
 mod back;
 mod feed;
 mod labels;
+mod salvage;
 mod tables;
 mod tries;
 
 use draw::Draw;
 use feed::{Feed, Printed};
+use salvage::Salvage;
 
 const SEED: u64 = 20_260_802;
 
@@ -25,17 +27,23 @@ fn main() {
     let ecnforms = &feed("ecnforms", model::forms::converted);
     let ecnstreams = &feed("ecnstreams", |trace| (model::streams::table(trace), Vec::new()));
     let ecnlabel = &feed("ecnlabel", model::labels::labelled);
+    let ecnsalvage = &feed("ecnsalvage", model::salvage::salvaged);
     let tables = tries::samples(ecntable, samples) + tries::samples(ecnstreams, &format!("{samples}/streams"));
     labels::sample(ecnlabel, samples);
+    let salvage = Salvage([ecntable, ecnforms, ecnsalvage]);
+    salvage.sample(samples);
     let times = back::long_times(ecnforms, draw) + back::other_faults_first(ecnforms, draw);
     let (back, same) = back::there_and_back(ecntable, ecnforms, draw);
     let streams = tries::streams(ecnstreams, draw) + tries::seventeen(ecnstreams, draw);
     let copies = labels::copies(&[ecntable, ecnforms, ecnlabel], draw);
+    let bytes = salvage.single_bytes(draw, samples);
+    let [blocks, battered, stretches] = [salvage.whole_blocks(draw), salvage.battered(draw), salvage.long(draw)];
     let programs = [
         ("ecntable", ecntable, &["1", "13", "14"][..]),
         ("ecnforms", ecnforms, &["1", "13", "14", "17"]),
         ("ecnstreams", ecnstreams, &["1", "13", "14", "15"]),
         ("ecnlabel", ecnlabel, &["1", "13", "14"]),
+        ("ecnsalvage", ecnsalvage, &["1", "13", "14"]),
     ];
     for (name, feed, possible) in programs {
         let whole = tries::whole_traces(feed, draw);
@@ -51,5 +59,9 @@ fn main() {
     println!(
         "program: {tables} samples, {streams} traces of several streams, {times} traces with a time that needs form 2; {back} traces go there \
          and back with one last line of the table, {same} of them byte for byte; {copies} copies of traces with retired bytes in the label"
+    );
+    println!(
+        "program: what is left of {bytes} traces with one byte changed, {blocks} with a block changed, moved or gone, {battered} with many faults \
+         and {stretches} with faults around the ends of pieces"
     );
 }

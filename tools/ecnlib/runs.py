@@ -65,12 +65,13 @@ class Run:
         """Why the output of a run that has ended is not put in place, if it is not."""
         raise NotImplementedError
 
-    def finish(self) -> None:
-        """Puts the output in place, or raises why not."""
+    def finish(self) -> Optional[int]:
+        """Puts the output in place, or raises why not. Gives a status, or None for 0."""
         fault = self.fault()
         if fault:
             raise fault
         self.output.commit()
+        return None
 
     def close(self) -> None:
         """Leaves nothing behind, whatever has become of the run."""
@@ -124,8 +125,7 @@ def places(traces: list, out: str, kind: Kind) -> dict:
 def status_of(trace: str, action: Callable) -> int:
     """What an action for one trace ends with; a failure is told."""
     try:
-        action()
-        return WELL
+        return action() or WELL
     except Ended as ended:
         tell(str(ended))
         return ended.status

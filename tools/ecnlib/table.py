@@ -53,7 +53,12 @@ class Conversion(runs.Run):
         fault = programs.fault_of(self.path, self.child.returncode, self.errors)
         if fault:
             return Ended(FAILED, f"{self.name}{f', block {refusal.block}' if refusal else ''}: {fault}")
-        return Ended(REFUSED, f"{self.name}: {refused_words(*refusal)}") if refusal else self.missing_rows()
+        return Ended(REFUSED, f"{self.name}: {refused_words(*refusal)}{self.saved(refusal)}") if refusal else self.missing_rows()
+
+    def saved(self, refusal: programs.Refusal) -> str:
+        """What can be done for a damaged block of ecntable's."""
+        damaged = refusal.number == 13 and refusal.block > 0 and os.path.basename(self.path) == "ecntable"
+        return "; ecn salvage saves the other blocks" if damaged else ""
 
     def missing_rows(self) -> Optional[Ended]:
         """ecntable prints a row for each block behind the first."""

@@ -14,10 +14,12 @@ use Rattle.trace.specs.declared.Block.the-variants.{Label, Arrivals, Refused}
 use Rattle.trace.specs.Layout.{labelBlock, arrivalsBlock, recordsBlock}
 use Rattle.trace.specs.declared.Found.{Found}
 use Rattle.trace.specs.declared.Found.the-variants.{Is, Refused as Missing}
+use Rattle.trace.specs.declared.Later.{Later}
+use Rattle.trace.specs.declared.Later.the-variants as later
 use Rattle.trace.specs.declared.Spaced.{Spaced}
 use Rattle.trace.specs.declared.Spaced.the-variants as spaced
 use Rattle.trace.specs.Reading.{blockOf, foundAt}
-use Rattle.trace.specs.Places.{zerothOf}
+use Rattle.trace.specs.Places.{zerothOf, laterOf}
 use Rattle.trace.specs.Rewriting.{zerothFault, blockSpaced, replacedIn, spacedBy}
 use Rattle.trace.specs.Writing.{labelFault, recordsOf, arrivalsFault, bodyFault}
 use Rattle.table.specs.Lines.{headBytes, rowFault, rowBytes, refusedLine}
@@ -47,6 +49,17 @@ ReadsBlock block old r found =
     (blockFault (blockOf block))
     (foundWords (blockOf block))
     old r found
+
+-- ---- flasknib_read_own
+
+-- 0, or what a later block is refused with
+abbrev pub laterCode : Later → ℕ
+laterCode (later.Arrivals n) = 0
+laterCode (later.Refused refusal) = numberOf refusal
+
+-- "Trace file", a later block, by the label's form and SSRC: 10 for another form than 1 or 2; 1, 13, 14; or 0
+abbrev pub ownCode : ℕ → ℕ → List ℕ → ℕ
+ownCode form ssrc block = cond (isForm form) (laterCode (laterOf (formOf form) ssrc block)) (numberOf Limits)
 
 -- ---- flasknib_record_at
 

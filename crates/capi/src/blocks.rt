@@ -7,7 +7,9 @@ use lent::form_words::form_of;
 use lent::form_words::is_form;
 use trace::Block;
 use trace::Found;
+use trace::Later;
 use trace::Spaced;
+use trace::places::read_own;
 use trace::read::read_block;
 use trace::read::record_at;
 use trace::rewrite::space_label;
@@ -19,7 +21,7 @@ ghost use mathlib.Core.List.{[], _∷_};
 ghost use mathlib.Core.Option.{none};
 ghost use Prim.Native.Nat.{_^_, _<_};
 ghost use Rattle.capi.specs.Codes.{refusalCode, Gives};
-ghost use Rattle.capi.specs.Blocks.{ReadsBlock, FindsRecord, WritesLabel, spacedSize, spacedCode, SpacesLabel, WritesArrivals, WritesRecords};
+ghost use Rattle.capi.specs.Blocks.{ReadsBlock, ownCode, FindsRecord, WritesLabel, spacedSize, spacedCode, SpacesLabel, WritesArrivals, WritesRecords};
 
 // Stores three words at the front of found. Gives 0, or refusal 12.
 fn put_found(x: u64, y: u64, z: u64, found: &mut [u64]) -> u8
@@ -47,6 +49,20 @@ pub extern "C" fn flasknib_read_block(block: &[u8], found: &mut [u64]) -> u8
             put_found(form.arrivals() as u64, count as u64, ssrc as u64, found)
         }
         Block::Refused(refusal) => refusal.number(),
+    }
+}
+
+// Reads a later block of a trace of form 1 or 2 with an SSRC. Gives 0, or refusal 10 for another form, or 1, 13 or 14.
+#[no_mangle]
+pub extern "C" fn flasknib_read_own(form: u8, ssrc: u32, block: &[u8]) -> u8
+    ensures { λ r. ⌜ r ≡ ownCode form ssrc (now (block .entry)) ⌝ }
+{
+    if !is_form(form as u64) {
+        return Refusal::Limits.number();
+    }
+    match read_own(form_of(form as u64), ssrc, block) {
+        Later::Arrivals { count: _ } => 0,
+        Later::Refused(refusal) => refusal.number(),
     }
 }
 

@@ -3,6 +3,7 @@
 // program reads, calls, prints what it was given, and goes on or ends. The programs that copy a trace have this text in common, but for names.
 use format::block::BLOCK;
 use labels::Progress;
+use shell::copying::copied;
 use shell::failures::has_arguments;
 use shell::reading::Input;
 use shell::reading::fill;
@@ -13,6 +14,7 @@ use shell::turns::next_turn;
 // So many blocks are read at a time.
 const BLOCKS: usize = 256;
 
+// What is copied of a piece is printed where it stands. After a failed read it is kept, so that the read's line comes first: a whole piece has room.
 const PIECE: usize = BLOCKS * BLOCK;
 
 // More than the end's line takes (labels, `end-has-room`).
@@ -37,15 +39,17 @@ fn begin(zeroth: Input, name: &[u8], read: &[u8], kept: &mut [u8]) -> State {
 }
 
 // Takes the blocks that are read, and prints those that are copied.
-fn take(s: State, name: &[u8], piece: &[u8]) -> State {
+fn take(s: State, name: &[u8], kept: &mut [u8], piece: &[u8]) -> State {
     let before = s.progress;
     let transfer = s.transfer;
     let taken = before.blocks(transfer.left(piece));
     let progress = taken.progress;
     let ended = progress.ended;
-    let next = transfer
-        .with_copied(taken.bytes, name, piece)
-        .with_taken(ended, taken.bytes, piece);
+    let next = copied(transfer, taken.bytes, name, piece, kept).with_taken(
+        ended,
+        taken.bytes,
+        piece,
+    );
     State {
         progress,
         transfer: next,
@@ -79,7 +83,7 @@ fn step(
     let progress = s.progress;
     let transfer = s.transfer;
     match turn {
-        Turn::Take => take(s, name, piece),
+        Turn::Take => take(s, name, kept, piece),
         Turn::Print => State {
             progress,
             transfer: transfer.with_printed(name, kept, errors),
@@ -126,7 +130,7 @@ fn main() {
         return;
     }
     let mut read = [0u8; BLOCK];
-    let mut kept = [0u8; BLOCK];
+    let mut kept = [0u8; PIECE];
     let mut piece = [0u8; PIECE];
     let mut errors = [0u8; ERRORS];
     copy(b"ecnlabel", &mut read, &mut kept, &mut piece, &mut errors);

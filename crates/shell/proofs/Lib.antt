@@ -1,5 +1,6 @@
 -- The laws of this crate.
 mod Answered
+mod Copies
 mod Filling
 mod Fronts
 mod Joining

@@ -6,3 +6,4 @@ pub mod Told
 pub mod Transfers
 pub mod Turns
 pub mod Rounds
+pub mod Copies

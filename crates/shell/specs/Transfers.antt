@@ -9,7 +9,7 @@ use lib.ListN.{length, take, drop}
 use Rattle.walk.specs.Endings.{isGoing}
 use Rattle.walk.specs.declared.Ended.{Ended}
 use Rattle.shell.specs.Fills.{endOf}
-use Rattle.shell.specs.Kept.{emptyOf, Printed, Moved}
+use Rattle.shell.specs.Kept.{emptyOf, Moved}
 use Rattle.shell.specs.declared.printing.Output.{Output}
 use Rattle.shell.specs.declared.reading.Input.{Input}
 use Rattle.shell.specs.declared.transfers.Transfer.{Transfer}
@@ -53,11 +53,6 @@ printed = 262144
 -- of so many bytes those that fill whole pieces
 abbrev pub wholeOf : ℕ → ℕ
 wholeOf used = used - used % printed
-
--- the first bytes of what is left were printed where they stand, at most so many
-pub record Copied (bytes : ℕ) (t : Transfer) (piece : List ℕ) (r : Transfer) : Type 0 where
-  pub out : Printed (min bytes (length (leftOf t piece))) (t .out) (r .out)
-  pub other : r ≡ putOf t (r .out) (t .err)
 
 -- so many bytes of what is kept were printed on each output
 pub record Flushed (bytes others : ℕ) (t : Transfer) (lines told : List ℕ) (r : Transfer) (lines′ told′ : List ℕ) : Type 0 where

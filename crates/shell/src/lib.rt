@@ -2,6 +2,7 @@
 // and what comes next. What was read and what was printed no contract can say: `read` is called only by the loop of `fill`, and `write` only by that of
 // `write_all`. All that these two do with an answer is judged by functions whose contracts say it.
 pub mod clipped;
+pub mod copying;
 pub mod failures;
 pub mod printing;
 pub mod reading;

@@ -14,7 +14,7 @@ ghost use Rattle.answers.specs.Writers.{lengthIn};
 ghost use Rattle.walk.specs.Endings.{isGoing};
 ghost use Rattle.shell.specs.Fills.{Filled};
 ghost use Rattle.shell.specs.Kept.{keptOf};
-ghost use Rattle.shell.specs.Transfers.{leftOf, restOf, wholeOf, begunOf, readOf, takenOf, putOf, Copied, Flushed};
+ghost use Rattle.shell.specs.Transfers.{leftOf, restOf, wholeOf, begunOf, readOf, takenOf, putOf, Flushed};
 
 // Output is printed in pieces of 256 KiB. Each begins at a multiple of that, where the system has large pieces of the file's pages to work with.
 pub const PRINTED: usize = 512 * BLOCK;
@@ -122,19 +122,6 @@ impl Transfer {
         let mut next = self;
         let err = self.err;
         next.err = err.with_written(answer, lines);
-        next
-    }
-
-    // Prints the first bytes of what is left on standard output, at most so many.
-    pub fn with_copied(self, bytes: usize, program: &[u8], piece: &[u8]) -> Transfer
-        ensures { λ r. ⌜ Copied bytes self (now (piece .entry)) r ⌝ }
-    {
-        let mut next = self;
-        let out = self.out;
-        let left = self.left(piece);
-        let from = 0;
-        let end = least(bytes, left.len());
-        next.out = out.printed_now(program, &left[from..end]);
         next
     }
 

@@ -1,0 +1,4 @@
+pub mod Salvaged
+pub mod Pieces
+pub mod Theorems
+pub mod Witnesses
