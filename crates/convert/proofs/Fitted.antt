@@ -22,15 +22,15 @@ use Rattle.convert.specs.Tables.{Kept, taken, ecntable}
 use Rattle.convert.specs.Pieces.{Fitted}
 use Rattle.convert.proofs.Kept.{good, sound-good, next-good}
 
-abbrev kept : Run → List ℕ → Kept
+abbrev pub kept : Run → List ℕ → Kept
 kept run zeroth = record { run = run; zeroth = zeroth }
 
 -- the turn of a block, by what it brings
-turn-goes : (i : ℕ) (run : Run) (zeroth b : List ℕ) {next : Run} → nextOf run b ≡ goes next
+pub turn-goes : (i : ℕ) (run : Run) (zeroth b : List ℕ) {next : Run} → nextOf run b ≡ goes next
     → ecntable .step i (kept run zeroth) b ≡ record { state = kept next zeroth; printed = toOutput (rowOf next zeroth); refusal = none }
 turn-goes i run zeroth b e = ap (taken (kept run zeroth)) e
 
-turn-refuses : (i : ℕ) (run : Run) (zeroth b : List ℕ) {refusal : Refusal} → nextOf run b ≡ refuses refusal
+pub turn-refuses : (i : ℕ) (run : Run) (zeroth b : List ℕ) {refusal : Refusal} → nextOf run b ≡ refuses refusal
     → ecntable .step i (kept run zeroth) b ≡ record { state = kept run zeroth; printed = nothing; refusal = some refusal }
 turn-refuses i run zeroth b e = ap (taken (kept run zeroth)) e
 

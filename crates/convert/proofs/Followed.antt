@@ -42,7 +42,7 @@ pub short-turn : (i : ℕ) (k : Kept) (b : List ℕ) → length b < blockBytes �
 short-turn i k b h = ap (taken k) (next-by (k .run) b (later-short (k .run .form) (k .run .ssrc) b (λ e. omega (arith, e))))
 
 -- what is kept: the run is that of block 0
-abbrev Sound : List ℕ → Kept → Type 0
+abbrev pub Sound : List ℕ → Kept → Type 0
 Sound zeroth k = (soundRun (k .run) zeroth ≡ true) × (k .zeroth ≡ zeroth)
 
 turn-keeps : (zeroth : List ℕ) (i : ℕ) (k : Kept) (b : List ℕ) → Sound zeroth k → Octets b → Sound zeroth (ecntable .step i k b .state)
@@ -52,7 +52,7 @@ turn-keeps zeroth i k b s o = go (nextOf (k .run) b) refl
     go (goes next) e = (sound-good (next-good (k .run) zeroth b next o (good (s .0)) e), s .1)
     go (refuses refusal) e = s
 
-turn-quiet : (i : ℕ) (k : Kept) (b : List ℕ) → ecntable .step i k b .printed .err ≡ []
+pub turn-quiet : (i : ℕ) (k : Kept) (b : List ℕ) → ecntable .step i k b .printed .err ≡ []
 turn-quiet i k b = go (nextOf (k .run) b)
   where
     go : (n : Next Run) → taken k n .printed .err ≡ []
@@ -139,10 +139,10 @@ trace-prints trace q o few session = session-prints Held Kept calls ecntable tra
 
 -- ---- room for each row
 
-abbrev Fit : List ℕ → Kept → Type 0
+abbrev pub Fit : List ℕ → Kept → Type 0
 Fit zeroth k = Sound zeroth k × (k .run .ssrc < 2 ^ 32)
 
-turn-fits : (zeroth : List ℕ) (i : ℕ) (k : Kept) (b : List ℕ) → Fit zeroth k → Octets b
+pub turn-fits : (zeroth : List ℕ) (i : ℕ) (k : Kept) (b : List ℕ) → Fit zeroth k → Octets b
     → (length (ecntable .step i k b .printed .out) ≤ rowMost) × Fit zeroth (ecntable .step i k b .state)
 turn-fits zeroth i k b s o = go (nextOf (k .run) b) refl
   where

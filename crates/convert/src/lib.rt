@@ -9,7 +9,13 @@ use trace::places::read_label;
 ghost use mathlib.Core.Path.{_≡_};
 ghost use Rattle.walk.specs.Steps.{Stepped};
 ghost use Rattle.convert.specs.Runs.{startOf, callNext, rowIn};
+ghost use Rattle.convert.specs.Tables.{noRun};
 
+mod feed_blocks;
+mod feed_lent;
+mod feed_passes;
+mod feed_soundness;
+pub mod feeds;
 pub mod pieces;
 mod rows;
 mod soundness;
@@ -32,6 +38,19 @@ pub enum Begin {
 pub struct Step {
     pub answer: Written,
     pub run: Run,
+}
+
+// The run that a refused label leaves.
+fn no_run() -> Run
+    ensures { λ r. ⌜ r ≡ noRun ⌝ }
+{
+    let totals = Totals::fresh();
+    Run {
+        form: Form::One,
+        length: 0,
+        ssrc: 0,
+        totals,
+    }
 }
 
 impl Run {

@@ -3,13 +3,12 @@
 use crate::Begin;
 use crate::Run;
 use crate::Step;
+use crate::no_run;
 use crate::rows;
 use crate::soundness::is_sound;
 use answers::Refusal;
 use answers::Written;
-use format::Form;
 use format::block::BLOCK;
-use source::Totals;
 use table::write_head;
 use table::write_refused;
 use walk::Closed;
@@ -26,7 +25,6 @@ ghost use Rattle.answers.specs.declared.Written.the-variants.{Length};
 ghost use Rattle.table.specs.Lines.{refusedLine};
 ghost use Rattle.walk.specs.Puts.{PutBy};
 ghost use Rattle.convert.specs.Runs.{soundRun, rowIn, nextOf};
-ghost use Rattle.convert.specs.Tables.{noRun};
 ghost use Rattle.convert.specs.Pieces.{beginOf, notBegun, Begins, Fitted, Takes, Ends};
 
 // How far a run has come: what is kept between blocks, the number of the next block, and whether that was refused.
@@ -55,19 +53,6 @@ struct Reach {
     bytes: usize,
     used: usize,
     ended: Ended,
-}
-
-// The run that a refused label leaves.
-fn no_run() -> Run
-    ensures { λ r. ⌜ r ≡ noRun ⌝ }
-{
-    let totals = Totals::fresh();
-    Run {
-        form: Form::One,
-        length: 0,
-        ssrc: 0,
-        totals,
-    }
 }
 
 // The progress behind block 0.

@@ -15,6 +15,7 @@ ghost use Rattle.trace.specs.Reading.{blockOf};
 ghost use Rattle.trace.specs.declared.Block.{Block};
 ghost use Rattle.walk.specs.Steps.{goes, Stepped};
 ghost use Rattle.convert.specs.Runs.{soundRun, rowOf, rowIn, arrived, nextOf};
+ghost use Rattle.convert.specs.Passes.{Forwarded};
 
 // A refusal, with the run that was given.
 pub fn refused(run: Run, refusal: Refusal) -> Step
@@ -77,6 +78,27 @@ pub fn step(run: Run, zeroth: &[u8], block: &[u8], out: &mut [u8]) -> Step
     let form = run.form;
     match read_own(form, run.ssrc, block) {
         Later::Arrivals { count } => arrivals(run, zeroth, count, block, out),
+        Later::Refused(refusal) => refused(run, refusal),
+    }
+}
+
+// Counts the n arrivals of a block and writes the row after it; the next run comes back also where out has no room.
+fn forward_row(run: Run, zeroth: &[u8], n: usize, block: &[u8], out: &mut [u8]) -> Step
+    requires { ⌜ (soundRun run (now zeroth) ≡ true) × (blockOf (now block) ≡ Block.Arrivals (run .form) n (run .ssrc)) ⌝ }
+    ensures { λ r. ⌜ Forwarded run (goes (arrived run n (now (block .entry)))) (rowOf (arrived run n (now (block .entry))) (now (zeroth .entry))) (now (out .entry)) (r .answer) (r .run) (now (out .exit)) ⌝ }
+{
+    let next = counted(run, n, block);
+    row(next, next, zeroth, out)
+}
+
+// Takes a block of a sound run's trace as `step` does; the next run comes back also where out has no room.
+pub fn forward(run: Run, zeroth: &[u8], block: &[u8], out: &mut [u8]) -> Step
+    requires { ⌜ soundRun run (now zeroth) ≡ true ⌝ }
+    ensures { λ r. ⌜ Forwarded run (nextOf run (now (block .entry))) (rowIn (now (zeroth .entry)) (nextOf run (now (block .entry)))) (now (out .entry)) (r .answer) (r .run) (now (out .exit)) ⌝ }
+{
+    let form = run.form;
+    match read_own(form, run.ssrc, block) {
+        Later::Arrivals { count } => forward_row(run, zeroth, count, block, out),
         Later::Refused(refusal) => refused(run, refusal),
     }
 }

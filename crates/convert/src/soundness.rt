@@ -33,7 +33,7 @@ fn is_own(run: Run, zeroth: &[u8]) -> bool
 }
 
 // Whether the totals are sound.
-fn are_sound(t: Totals) -> bool
+pub fn are_sound(t: Totals) -> bool
     ensures { λ r. ⌜ r ≡ all (soundTotals t) ⌝ }
 {
     let source = t.source;

@@ -28,3 +28,5 @@ pub mod WitnessesBreaker
 pub mod WitnessesBetween
 pub mod WitnessesSources
 pub mod WitnessesPieces
+pub mod FedTables
+pub mod WitnessesFeeds

@@ -5,6 +5,7 @@ use format::block::BLOCK;
 use salvage::Progress;
 use shell::copying::copied;
 use shell::failures::has_arguments;
+use shell::reading::Ahead;
 use shell::reading::Input;
 use shell::reading::fill;
 use shell::transfers::PRINTED;
@@ -35,10 +36,9 @@ fn begin(zeroth: Input, name: &[u8], read: &[u8]) -> State {
     let begun = Progress::begin(zeroth.front(read));
     let progress = begun.progress;
     let ended = progress.ended;
-    let ahead = zeroth.ahead;
     let label = Input {
         bytes: begun.copied,
-        ahead,
+        ahead: Ahead::End,
     };
     let mut transfer = Transfer::begun(zeroth, ended);
     let out = transfer.out;

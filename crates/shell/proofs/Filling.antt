@@ -13,6 +13,7 @@ use Rattle.shell.specs.declared.reading.Reading.{Reading}
 use Rattle.shell.specs.declared.retries.Outcome.{Outcome}
 use Rattle.shell.specs.declared.retries.Outcome.the-variants.{Bytes, Nothing, Again, Failed}
 use Rattle.shell.proofs.Answered.{Fair}
+use Rattle.shell.proofs.Asked.{none-of}
 
 -- how far it has come
 pub record Stands (whole : ℕ) (r : Reading) : Type 0 where
@@ -24,9 +25,6 @@ pub record Stands (whole : ℕ) (r : Reading) : Type 0 where
 -- a number that falls with each read
 unfoldable pub toGo : ℕ → Reading → ℕ
 toGo whole r = cond (isMore (r .input .ahead)) ((whole - r .input .bytes) * 4294967296 + r .left + 1) 0
-
-none-of : {A : Type 0} → _≡_ {A = ℕ} 0 1 → A
-none-of z = absurd (omega arith)
 
 pub begun-stands : {whole : ℕ} {r : Reading} → r ≡ begun → Stands whole r
 begun-stands e = rw e (record { inside = omega arith; blocks = λ f. refl; room = λ f. none-of (cc); few = omega arith })

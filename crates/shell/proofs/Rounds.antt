@@ -1,6 +1,6 @@
 -- A program's turns cannot go round for ever. Assumes nothing.
 use mathlib.Core.Path.{_≡_, refl, ap}
-use mathlib.Core.Bool.{Bool, true, false, cond, not, _&&_, _||_}
+use mathlib.Core.Bool.{Bool, true, false, not, _&&_, _||_}
 use mathlib.Core.List.{List, []}
 use Prim.Native.Nat.{ℕ, _+_, _-_, _*_, _≤_, _<_, min}
 use native.Mathlib.Omega.{arith}
@@ -13,40 +13,14 @@ use Rattle.walk.specs.declared.Ended.the-variants.{Going}
 use Rattle.shell.specs.Fills.{Filled, isFailure}
 use Rattle.shell.specs.Kept.{emptyOf, Moved}
 use Rattle.shell.specs.Transfers.{leftOf, begunOf, readOf, takenOf, putOf, wholeOf}
-use Rattle.shell.specs.Turns.{isDue, lastOf, turnOf}
+use Rattle.shell.specs.Turns.{isDue, turnOf}
 use Rattle.shell.specs.Rounds.{one, toDo, TakeLessens, PrintLessens, ReadBrings}
 use Rattle.shell.specs.declared.printing.Output.{Output}
-use Rattle.shell.specs.declared.reading.Ahead.{Ahead}
-use Rattle.shell.specs.declared.reading.Ahead.the-variants.{More, End, Failure}
+use Rattle.shell.specs.declared.reading.Ahead.the-variants.{More}
 use Rattle.shell.specs.declared.reading.Input.{Input}
 use Rattle.shell.specs.declared.transfers.Transfer.{Transfer}
-use Rattle.shell.specs.declared.turns.Turn.the-variants.{Take, Print, Finish, Stop}
+use Rattle.shell.proofs.Asked.{none-of, take-asks, print-asks}
 use Rattle.shell.proofs.Lefts.{left-long}
-
--- ---- which turn it was
-
-none-of : {A : Type 0} → _≡_ {A = ℕ} 0 1 → A
-none-of z = absurd (omega arith)
-
--- blocks are taken only if nothing is to be printed, the run goes on and a block is left
-take-asks : (failed due going long : Bool) (a : Ahead) → cond failed Stop (cond due Print (cond (not going) Finish (cond long Take (lastOf a)))) ≡ Take
-    → (due ≡ false) × (going ≡ true) × (long ≡ true)
-take-asks true due going long a e = none-of (cc)
-take-asks false true going long a e = none-of (cc)
-take-asks false false false long a e = none-of (cc)
-take-asks false false true true a e = (refl, refl, refl)
-take-asks false false true false More e = none-of (cc)
-take-asks false false true false End e = none-of (cc)
-take-asks false false true false Failure e = none-of (cc)
-
-print-asks : (failed due going long : Bool) (a : Ahead) → cond failed Stop (cond due Print (cond (not going) Finish (cond long Take (lastOf a)))) ≡ Print → due ≡ true
-print-asks true due going long a e = none-of (cc)
-print-asks false true going long a e = refl
-print-asks false false false long a e = none-of (cc)
-print-asks false false true true a e = none-of (cc)
-print-asks false false true false More e = none-of (cc)
-print-asks false false true false End e = none-of (cc)
-print-asks false false true false Failure e = none-of (cc)
 
 -- ---- a take
 

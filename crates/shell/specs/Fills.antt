@@ -11,8 +11,8 @@ use Rattle.shell.specs.declared.reading.Reading.{Reading}
 use Rattle.shell.specs.declared.retries.Outcome.{Outcome}
 use Rattle.shell.specs.declared.retries.Outcome.the-variants.{Bytes, Nothing, Again, Failed}
 
--- what is read into a buffer of n bytes: more may come only if all whole blocks that fit are there; before a failed read only whole blocks count, and the buffer
--- has room for a byte more
+-- what is read into a buffer of n bytes: more may come only if all whole blocks that fit are there; before a failed read only whole blocks count, and the
+-- buffer has room for a byte more
 pub record Filled (n : ℕ) (r : Input) : Type 0 where
   pub inside : r .bytes ≤ n
   pub full : r .ahead ≡ More → r .bytes ≡ n - n % 512

@@ -7,3 +7,4 @@ pub mod Transfers
 pub mod Turns
 pub mod Rounds
 pub mod Copies
+pub mod Sessions

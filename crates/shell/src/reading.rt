@@ -1,5 +1,4 @@
 // Standard input, read in pieces of whole blocks.
-use crate::clipped::least;
 use crate::failures::tell;
 use crate::retries::Outcome;
 use crate::retries::TRIES;
@@ -119,15 +118,6 @@ impl Input {
         true
     }
 
-    // What was read.
-    pub fn front(self, buffer: &[u8]) -> &[u8]
-        ensures { λ r. ⌜ now r ≡ take (self .bytes) (now (buffer .entry)) ⌝ }
-    {
-        let from = 0;
-        let to = least(self.bytes, buffer.len());
-        &buffer[from..to]
-    }
-
     // Where what is left in a buffer of so many bytes ends: after a failed read one byte more is left, since a block that could not be read is not a whole one.
     pub fn left_end(self, length: usize) -> usize
         ensures { λ r. ⌜ r ≡ min (endOf self) length ⌝ }
@@ -139,5 +129,14 @@ impl Input {
             return self.bytes + 1;
         }
         self.bytes
+    }
+
+    // What was read; after a failed read one byte more.
+    pub fn front(self, buffer: &[u8]) -> &[u8]
+        ensures { λ r. ⌜ now r ≡ take (endOf self) (now (buffer .entry)) ⌝ }
+    {
+        let from = 0;
+        let to = self.left_end(buffer.len());
+        &buffer[from..to]
     }
 }

@@ -1,11 +1,11 @@
--- `convert::pieces::no_run` meets its contract. Assumes nothing.
+-- `convert::no_run` meets its contract. Assumes nothing.
 use borrow.Author.Needs.{needs}
 use mathlib.Core.Path.{ap}
 use Rattle.format.specs.declared.Form.the-variants.{One}
 use Rattle.source.specs.declared.Totals.{Totals}
 use Rattle.convert.specs.declared.Run.{Run}
-use Rattle.convert.proofs.pieces.no_run.Statement.{statement}
-use Rattle.convert.proofs.pieces.no_run.Tie as tie
+use Rattle.convert.proofs.no_run.Statement.{statement}
+use Rattle.convert.proofs.no_run.Tie as tie
 
 returns : tie.Need-returns
 returns c = ap (λ (t : Totals). record { form = One; length = 0; ssrc = 0; totals = t }) (c .fresh .ensures)
