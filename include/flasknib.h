@@ -1,12 +1,13 @@
 /* Flasknib: ECN counting of one RTP source and of several, ECN reports (RFC 6679), a compound RTCP reader, a sender's circuit breaker (RFC 8083),
  * the SDP attribute ecn-capable-rtp (RFC 6679), the blocks of a trace, the rows of a table, and what the programs ecntable, ecnforms and ecnstreams
- * do with a trace, block by block.
+ * do with a trace, block by block, or bit by bit as it arrives.
  *
  * Every function returns on every input. A record is lent as an array of 64-bit words in one of the layouts below; a signed number is stored as its
  * two's complement, so (int64_t)word is the number. A refusal is its number below, and a refused call changes no word and no byte of what it was
- * lent, with one exception: refusal 7 of flasknib_arrive and flasknib_sources_arrive changes the remembered number of the record. A record in
- * another number of words than its layout has is refused with 9, as malformed, and so is a table with 16. What a call only fills may be longer (but
- * for flasknib_forms_start): it fills the front, and leaves the rest as it was. A function that writes bytes says with refusal 12 how many it needs.
+ * lent, with these exceptions: refusal 7 of flasknib_arrive and flasknib_sources_arrive changes the remembered number of the record; and
+ * flasknib_feed and flasknib_feed_close keep the first refusal 1, 13 or 14 of a trace, the rows before it written. A record in another number of
+ * words than its layout has is refused with 9, as malformed, and so is a table with 16. What a call only fills may be longer (but for
+ * flasknib_forms_start): it fills the front, and leaves the rest as it was. A function that writes bytes says with refusal 12 how many it needs.
  *
  * Byte order. Words, arguments and answers are numbers of the machine: give the sequence number of a packet as ntohs gives it. Bytes are those of
  * the network and of the trace file, and every number in them is big-endian, the highest byte first, also in records that the caller makes: the
@@ -77,8 +78,8 @@ enum {
  * The functions that write bytes (those with `out`) give the length, the number of bytes that they wrote, or minus a refusal's number. Refusal 12
  * comes with its size, the number of bytes that the call would write: the answer is minus (256 * size + 12). With a room of exactly that many bytes
  * the same call succeeds, with one byte fewer it does not. The size can be asked with a room of 0; `out` must not be null, even then. The other
- * refusals have no size. The functions that fill words answer a plain 12: how many words they need is fixed, and stands below. In the place of the
- * length, flasknib_space_label gives the number of bytes that it replaced.
+ * refusals have no size, but for those of a block that flasknib_feed gives. The functions that fill words answer a plain 12: how many words they
+ * need is fixed, and stands below. In the place of the length, flasknib_space_label gives the number of bytes that it replaced.
  *
  * The two macros take a writer's answer, an int64_t, apart. They evaluate it twice: give them a variable, not a call.
  */
@@ -86,7 +87,8 @@ enum {
 /* The refusal, or 0 where there is a length: an int. */
 #define FLASKNIB_WRITE_REFUSAL(answer) ((answer) < 0 ? (int)-((answer) % 256) : 0)
 
-/* The size that comes with refusal 12, or 0 where there is another refusal or a length: a size_t. */
+/* The size that comes with refusal 12, or the length that comes with a block's in flasknib_feed, or 0 where there is another refusal or a length: a
+ * size_t. */
 #define FLASKNIB_WRITE_SIZE(answer) ((answer) < 0 ? (size_t)-((answer) / 256) : 0)
 
 /* ---- one RTP source --------------------------------------------------------------------------------------------------------------
@@ -583,6 +585,42 @@ uint8_t flasknib_run_start(const uint8_t *zeroth, size_t length, uint64_t *run, 
  * the same length the row has that one. A refused call changes nothing. */
 int64_t flasknib_run_block(uint64_t *run, size_t words, const uint8_t *zeroth, size_t zeroth_length, const uint8_t *block, size_t block_length,
                            uint8_t *out, size_t room);
+
+/* ---- a trace that arrives bit by bit ---------------------------------------------------------------------------------------------
+ * What ecntable does with a trace, over stretches of any length as they come: flasknib_write_head, flasknib_feed on each stretch, and
+ * flasknib_feed_close at the end; after a refusal 1, 13 or 14 flasknib_write_refused, with the number and upload[FLASKNIB_UPLOAD_BLOCKS]. However the
+ * trace is cut, what is written is the same. A trace has at most 2^48 bytes.
+ *
+ * 18 words: the 15 of a run of ecntable, at the same places; the whole blocks taken; the bytes kept of the next one, 0 to 511; the kept refusal, 0
+ * for none. Beside them 1,024 bytes or more are lent with each call: block 0, then the bytes kept; those after the first 1,024 are left alone. Before
+ * the first call words and bytes are all zero. While no block is taken the run and block 0's place stay zero, the form's word too. Malformed (9) are
+ * fewer bytes, a run that is malformed, a block 0 that does not read as a label of the run's form, length and SSRC, more than 511 bytes kept or 2^48
+ * in all, another refusal than 0, 1, 13 or 14, and a place not in use that is not zero; no more is judged.
+ */
+#define FLASKNIB_UPLOAD_WORDS 18
+#define FLASKNIB_UPLOAD_KEPT_BYTES 1024
+
+/* The places of the words. The source's record is 10 words from SOURCE on. */
+#define FLASKNIB_UPLOAD_FORM 0
+#define FLASKNIB_UPLOAD_LABEL_LENGTH 1
+#define FLASKNIB_UPLOAD_SSRC 2
+#define FLASKNIB_UPLOAD_SOURCE 3
+#define FLASKNIB_UPLOAD_JUMPED 13
+#define FLASKNIB_UPLOAD_RESTARTS 14
+#define FLASKNIB_UPLOAD_BLOCKS 15
+#define FLASKNIB_UPLOAD_KEPT 16
+#define FLASKNIB_UPLOAD_REFUSAL 17
+
+/* Takes a stretch of a trace, and writes the rows of all blocks that it completes, each at most FLASKNIB_ROW_MOST_BYTES. Gives their length and the
+ * next upload, or minus refusal 9; the kept one; 10 for more than 2^48 bytes in all; 12 with the rows' size; or 13 or 14 for a block. That one comes
+ * with the length of the rows before it, which are written, as 12 with its size: FLASKNIB_WRITE_SIZE gives it. It is kept, and every later call
+ * repeats it with length 0. Any other refused call changes nothing. */
+int64_t flasknib_feed(uint64_t *upload, size_t words, uint8_t *kept, size_t kept_length, const uint8_t *stretch, size_t stretch_length, uint8_t *out,
+                      size_t room);
+
+/* Ends a trace, or asks how it would end. Gives 0, or refusal 9; the kept one; or 1 for a partial block, or for block 0 of an empty trace, which is
+ * kept. A call that gives 0 changes nothing, and feeding may go on. */
+uint8_t flasknib_feed_close(uint64_t *upload, size_t words, const uint8_t *kept, size_t length);
 
 /* ---- a trace in the other form ---------------------------------------------------------------------------------------------------
  * What the program ecnforms does with a trace, block by block: flasknib_forms_start on block 0, flasknib_forms_block on each later block, and

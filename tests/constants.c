@@ -492,6 +492,40 @@ static void run_words(void)
     CHECK(run[FLASKNIB_RUN_RESTARTS] == 1);
 }
 
+/* A trace that arrives bit by bit: a label, a sound block and one of another SSRC, cut in a record; what a feed and then a close keep. */
+static void upload_words(void)
+{
+    uint8_t trace[3 * FLASKNIB_BLOCK_BYTES], kept[FLASKNIB_UPLOAD_KEPT_BYTES] = {0}, rows[FLASKNIB_ROW_MOST_BYTES];
+    uint64_t upload[FLASKNIB_UPLOAD_WORDS] = {0};
+    size_t words = FLASKNIB_UPLOAD_WORDS, cut = FLASKNIB_BLOCK_BYTES + 11;
+
+    CHECK(label_of(FLASKNIB_FORM_TWO, 3, trace, FLASKNIB_BLOCK_BYTES) == FLASKNIB_BLOCK_BYTES);
+    restarting(FLASKNIB_FORM_TWO, SSRC, 0, trace + FLASKNIB_BLOCK_BYTES);
+    restarting(FLASKNIB_FORM_TWO, SSRC + 1, 0, trace + 2 * FLASKNIB_BLOCK_BYTES);
+    CHECK(flasknib_feed(upload, words - 1, kept, sizeof kept, trace, cut, rows, 0) == -FLASKNIB_REFUSAL_MALFORMED);
+    CHECK(flasknib_feed(upload, words, kept, sizeof kept - 1, trace, cut, rows, 0) == -FLASKNIB_REFUSAL_MALFORMED);
+    CHECK(flasknib_feed(upload, words, kept, sizeof kept, trace, cut, rows, 0) == 0);
+    CHECK(upload[FLASKNIB_UPLOAD_BLOCKS] == 1);
+    CHECK(upload[FLASKNIB_UPLOAD_KEPT] == 11);
+    CHECK(upload[FLASKNIB_UPLOAD_REFUSAL] == 0);
+    int64_t asked = flasknib_feed(upload, words, kept, sizeof kept, trace + cut, sizeof trace - cut, rows, 0);
+    CHECK(FLASKNIB_WRITE_REFUSAL(asked) == FLASKNIB_REFUSAL_ROOM);
+    int64_t answer = flasknib_feed(upload, words, kept, sizeof kept, trace + cut, sizeof trace - cut, rows, sizeof rows);
+    CHECK(FLASKNIB_WRITE_REFUSAL(answer) == FLASKNIB_REFUSAL_CONTENTS);
+    CHECK(FLASKNIB_WRITE_SIZE(answer) == FLASKNIB_WRITE_SIZE(asked) && FLASKNIB_WRITE_SIZE(answer) > 0);
+    CHECK(upload[FLASKNIB_UPLOAD_FORM] == FLASKNIB_FORM_TWO);
+    CHECK(upload[FLASKNIB_UPLOAD_LABEL_LENGTH] == 3);
+    CHECK(upload[FLASKNIB_UPLOAD_SSRC] == SSRC);
+    CHECK(upload[FLASKNIB_UPLOAD_SOURCE + FLASKNIB_SOURCE_BASE] == 30001);
+    CHECK(upload[FLASKNIB_UPLOAD_JUMPED] == 2);
+    CHECK(upload[FLASKNIB_UPLOAD_RESTARTS] == 1);
+    CHECK(upload[FLASKNIB_UPLOAD_BLOCKS] == 2);
+    CHECK(upload[FLASKNIB_UPLOAD_KEPT] == 0);
+    CHECK(upload[FLASKNIB_UPLOAD_REFUSAL] == FLASKNIB_REFUSAL_CONTENTS);
+    CHECK(flasknib_feed_close(upload, words, kept, sizeof kept) == FLASKNIB_REFUSAL_CONTENTS);
+    CHECK(flasknib_feed_close(upload, words, kept, sizeof kept - 1) == FLASKNIB_REFUSAL_MALFORMED);
+}
+
 /* The converter of forms: its words, the part that it is lent, and the one call that answers refusal 17. */
 static void forms_words(void)
 {
@@ -625,6 +659,7 @@ int main(void)
     lost_words();
     record_words();
     run_words();
+    upload_words();
     forms_words();
     streams_words();
     return checked("the header's numbers");

@@ -3,8 +3,8 @@
 
 The source is each `pub extern "C" fn` of crates/capi. Declarations stand in include/flasknib.h and, by hand, in the comparison, the benchmarks and the
 examples in Rust and Python. Result, order, types, constness and names of the parameters are compared; a slice is a pointer, to const unless it is `&mut`,
-and the count behind it. Two rules on names: what the source calls `words` is called by its record elsewhere (`source`, `sources`, `forms`); and the count
-behind a pointer is `words` or `NAME_words`, of bytes `length` or `NAME_length`, of the lists of an arrivals block `n_NAME`, of `out` always `room`.
+and the count behind it. Two rules on names: what the source calls `words` is called by its record elsewhere (`source`, `sources`, `forms`, `upload`); and the
+count behind a pointer is `words` or `NAME_words`, of bytes `length` or `NAME_length`, of the lists of an arrivals block `n_NAME`, of `out` always `room`.
 The manual page has each function once under RETURN VALUE, beside others with its result. Copies are then broken in several ways, and each must be found.
 """
 import ctypes
@@ -14,8 +14,9 @@ import re
 import sys
 
 TOP = os.path.dirname(os.path.dirname(os.path.abspath(__file__)))
-HEADER, MANUAL, CALLER = "include/flasknib.h", "man/flasknib.3", "examples/count.c"
-COMPARED, EXAMPLE, TIMED, SCRIPT = "tests/compare/library.rs", "examples/rust/flasknib.rs", "bench/library.rs", "examples/count.py"
+HEADER, MANUAL, CALLER, FEEDER = "include/flasknib.h", "man/flasknib.3", "examples/count.c", "examples/feed.c"
+COMPARED, EXAMPLE, TIMED = "tests/compare/library.rs", "examples/rust/flasknib.rs", "bench/library.rs"
+SCRIPT, FED = "examples/count.py", "examples/feed.py"
 
 C_TYPES = {f"{sign}int{bits}_t": f"{'u' if sign else 'i'}{bits}" for sign in ("u", "") for bits in (8, 16, 32, 64)} | {"size_t": "usize"}
 LISTS = {"times", "numbers", "marks"}
@@ -29,7 +30,7 @@ def texts():
     """The files that are compared, by their names."""
     names = [os.path.relpath(path, TOP) for path in glob.glob(os.path.join(TOP, "crates/capi/src/*.rt"))]
     found = {}
-    for name in [*names, HEADER, MANUAL, CALLER, COMPARED, EXAMPLE, TIMED, SCRIPT]:
+    for name in [*names, HEADER, MANUAL, CALLER, FEEDER, COMPARED, EXAMPLE, TIMED, SCRIPT, FED]:
         with open(os.path.join(TOP, name), encoding="utf-8") as file:
             found[name] = file.read()
     return found
@@ -62,7 +63,8 @@ def in_rust(text):
 
 def record(function):
     """The name of a record that the source calls `words`."""
-    return next((name for name in ("sources", "forms") if function.startswith(f"flasknib_{name}_")), "source")
+    names = {"sources": "sources", "forms": "forms", "feed": "upload"}
+    return next((names[first] for first in names if f"{function}_".startswith(f"flasknib_{first}_")), "source")
 
 
 def counts(kind, name):
@@ -103,7 +105,7 @@ def fits(declared, source):
     return declared[0] == source[0] and types == wanted and all(name in right for (_, name), (_, right) in zip(declared[1], source[1]))
 
 
-# ---- the example in Python has types alone
+# ---- the examples in Python have types alone
 
 
 def ctype(kind):
@@ -116,8 +118,8 @@ def ctype(kind):
 
 
 def in_python(text):
-    """The result and the types of each function that the example calls: what it has under FUNCTIONS."""
-    names = {"__name__": "count"}
+    """The result and the types of each function that an example calls: what it has under FUNCTIONS."""
+    names = {"__name__": "example"}
     exec(text, names)
     return {f"flasknib_{name}": types for name, types in names["FUNCTIONS"].items()}
 
@@ -127,10 +129,10 @@ def in_python(text):
 
 def undeclared(files, header):
     """Functions that a file lacks, or has too many."""
-    called = set(re.findall(r"\bflasknib_\w+(?=\()", files[CALLER]))
-    wanted = {COMPARED: set(header), EXAMPLE: called, TIMED: set(in_rust(files[TIMED])) & set(header), SCRIPT: called}
+    called, fed = (set(re.findall(r"\bflasknib_\w+(?=\()", files[file])) for file in (CALLER, FEEDER))
+    wanted = {COMPARED: set(header), EXAMPLE: called, TIMED: set(in_rust(files[TIMED])) & set(header), SCRIPT: called, FED: fed}
     for file, names in wanted.items():
-        there = set(in_python(files[file]) if file == SCRIPT else in_rust(files[file]))
+        there = set(in_python(files[file]) if file in (SCRIPT, FED) else in_rust(files[file]))
         if names != there:
             yield f"{file} has not the functions that it must: {', '.join(sorted(names ^ there))}"
 
@@ -141,9 +143,10 @@ def different(files, header):
         for name, declared in in_rust(files[file]).items():
             if name in header and declared != header[name]:
                 yield f"{file}: {name} is {shown(declared)}, and in the header {shown(header[name])}"
-    for name, types in in_python(files[SCRIPT]).items():
-        if name in header and types != tuple(ctype(kind) for kind in (header[name][0], *(kind for kind, _ in header[name][1]))):
-            yield f"{SCRIPT}: {name} has other types than in the header"
+    for file in (SCRIPT, FED):
+        for name, types in in_python(files[file]).items():
+            if name in header and types != tuple(ctype(kind) for kind in (header[name][0], *(kind for kind, _ in header[name][1]))):
+                yield f"{file}: {name} has other types than in the header"
 
 
 def unreturned(files, header):
@@ -202,6 +205,11 @@ IN_PYTHON = {
     "another result": (r'"write_row": \(c_int64', '"write_row": (c_uint64'),
     "a function gone": (r'"write_row": .*', ""),
 }
+IN_FED = {
+    "a width changed": (r"c_int64, c_uint8, c_uint64", "c_int64, c_uint64, c_uint64"),
+    "another result": (r'"feed_close": \(c_uint8', '"feed_close": (c_int64'),
+    "a function gone": (r'"feed": .*', ""),
+}
 IN_MANUAL = {"a function gone": (r"flasknib_lost\b", "flasknib_loss"), "a function twice": (r"flasknib_lost\b", "flasknib_arrive")}
 PATTERNS = {".h": PROTOTYPE, ".rs": RUST, ".rt": RATTLE}
 
@@ -216,7 +224,7 @@ def broken(files, file, change):
 def copies(files):
     """(name, broken copy) of each way of breaking one. Of the benchmarks none is gone: they declare what they time."""
     source = next(name for name in files if name.endswith(".rt") and FUNCTION in files[name])
-    ways = {HEADER: IN_C, source: IN_RATTLE, COMPARED: IN_RUST, EXAMPLE: IN_RUST, TIMED: IN_RUST, SCRIPT: IN_PYTHON, MANUAL: IN_MANUAL}
+    ways = {HEADER: IN_C, source: IN_RATTLE, COMPARED: IN_RUST, EXAMPLE: IN_RUST, TIMED: IN_RUST, SCRIPT: IN_PYTHON, FED: IN_FED, MANUAL: IN_MANUAL}
     for file, changes in ways.items():
         for what, change in changes.items():
             if (file, what) != (TIMED, "a function gone"):

@@ -367,6 +367,72 @@ static void block_0(void)
     CHECK(run_with(FLASKNIB_BLOCK_BYTES - 1, 0, row) > 0);
 }
 
+/* ---- a trace that arrives bit by bit */
+
+/* An upload that has taken a label and 9 bytes of a block with one record. Gives that block. */
+static void started(uint64_t *upload, uint8_t *kept, uint8_t *block)
+{
+    static const uint8_t record[] = {0, 0, 0, 0, 0, 1, FLASKNIB_MARK_CE, 0};
+    uint8_t zeroth[FLASKNIB_BLOCK_BYTES], none[1];
+
+    memset(upload, 0, FLASKNIB_UPLOAD_WORDS * sizeof *upload);
+    memset(kept, 0, FLASKNIB_UPLOAD_KEPT_BYTES);
+    CHECK(flasknib_write_label(FLASKNIB_FORM_ONE, (const uint8_t *)"ward", 4, SSRC, zeroth, sizeof zeroth) == FLASKNIB_BLOCK_BYTES);
+    CHECK(flasknib_write_records(FLASKNIB_FORM_ONE, record, sizeof record, SSRC, block, FLASKNIB_BLOCK_BYTES) == FLASKNIB_BLOCK_BYTES);
+    CHECK(flasknib_feed(upload, FLASKNIB_UPLOAD_WORDS, kept, FLASKNIB_UPLOAD_KEPT_BYTES, zeroth, sizeof zeroth, none, 0) == 0);
+    CHECK(flasknib_feed(upload, FLASKNIB_UPLOAD_WORDS, kept, FLASKNIB_UPLOAD_KEPT_BYTES, block, 9, none, 0) == 0);
+}
+
+/* The answer of a close where a word or a byte is changed. */
+static uint8_t closed_with(size_t word, uint64_t value, size_t at, uint8_t change)
+{
+    uint64_t upload[FLASKNIB_UPLOAD_WORDS];
+    uint8_t kept[FLASKNIB_UPLOAD_KEPT_BYTES], block[FLASKNIB_BLOCK_BYTES];
+
+    started(upload, kept, block);
+    upload[word] = value;
+    kept[at] ^= change;
+    return flasknib_feed_close(upload, FLASKNIB_UPLOAD_WORDS, kept, sizeof kept);
+}
+
+static void upload_rules(void)
+{
+    const size_t part = FLASKNIB_BLOCK_BYTES;
+
+    CHECK(closed_with(FLASKNIB_UPLOAD_KEPT, 9, part, 0) == FLASKNIB_REFUSAL_INCOMPLETE);
+    CHECK(closed_with(FLASKNIB_UPLOAD_KEPT, 9, part + 8, 1) == FLASKNIB_REFUSAL_INCOMPLETE);
+    CHECK(closed_with(FLASKNIB_UPLOAD_KEPT, 9, part + 9, 1) == FLASKNIB_REFUSAL_MALFORMED);
+    CHECK(closed_with(FLASKNIB_UPLOAD_KEPT, 9, part - 1, 1) == FLASKNIB_REFUSAL_MALFORMED);
+    CHECK(closed_with(FLASKNIB_UPLOAD_KEPT, 511, part, 0) == FLASKNIB_REFUSAL_INCOMPLETE);
+    CHECK(closed_with(FLASKNIB_UPLOAD_KEPT, 512, part, 0) == FLASKNIB_REFUSAL_MALFORMED);
+    CHECK(closed_with(FLASKNIB_UPLOAD_BLOCKS, two48 / part - 1, part, 0) == FLASKNIB_REFUSAL_INCOMPLETE);
+    CHECK(closed_with(FLASKNIB_UPLOAD_BLOCKS, two48 / part, part, 0) == FLASKNIB_REFUSAL_MALFORMED);
+    CHECK(closed_with(FLASKNIB_UPLOAD_BLOCKS, 0, part, 0) == FLASKNIB_REFUSAL_MALFORMED);
+    CHECK(closed_with(FLASKNIB_UPLOAD_JUMPED, two48, part, 0) == FLASKNIB_REFUSAL_INCOMPLETE);
+    CHECK(closed_with(FLASKNIB_UPLOAD_RESTARTS, two48 + 1, part, 0) == FLASKNIB_REFUSAL_MALFORMED);
+    CHECK(closed_with(FLASKNIB_UPLOAD_REFUSAL, 13, part, 0) == FLASKNIB_REFUSAL_CHECKSUM);
+    CHECK(closed_with(FLASKNIB_UPLOAD_REFUSAL, 12, part, 0) == FLASKNIB_REFUSAL_MALFORMED);
+}
+
+/* A close that gives 0 changes nothing and feeding goes on; one that refuses with 1 keeps it. */
+static void upload_goes_on(void)
+{
+    uint64_t upload[FLASKNIB_UPLOAD_WORDS], before[FLASKNIB_UPLOAD_WORDS];
+    uint8_t kept[FLASKNIB_UPLOAD_KEPT_BYTES], block[FLASKNIB_BLOCK_BYTES], row[FLASKNIB_ROW_MOST_BYTES];
+    const size_t words = FLASKNIB_UPLOAD_WORDS;
+
+    started(upload, kept, block);
+    CHECK(flasknib_feed(upload, words, kept, sizeof kept, block + 9, sizeof block - 9, row, sizeof row) > 0);
+    memcpy(before, upload, sizeof before);
+    CHECK(flasknib_feed_close(upload, words, kept, sizeof kept) == 0);
+    CHECK(memcmp(before, upload, sizeof before) == 0);
+    CHECK(flasknib_feed(upload, words, kept, sizeof kept, block, sizeof block, row, sizeof row) > 0);
+    CHECK(flasknib_feed(upload, words, kept, sizeof kept, block, 1, row, sizeof row) == 0);
+    CHECK(flasknib_feed_close(upload, words, kept, sizeof kept) == FLASKNIB_REFUSAL_INCOMPLETE);
+    CHECK(upload[FLASKNIB_UPLOAD_REFUSAL] == FLASKNIB_REFUSAL_INCOMPLETE);
+    CHECK(flasknib_feed(upload, words, kept, sizeof kept, block + 1, sizeof block - 1, row, sizeof row) == -FLASKNIB_REFUSAL_INCOMPLETE);
+}
+
 int main(void)
 {
     source_rules();
@@ -383,5 +449,7 @@ int main(void)
     old_labels();
     own_blocks();
     block_0();
+    upload_rules();
+    upload_goes_on();
     return checked("the header's rules");
 }

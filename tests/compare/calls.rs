@@ -43,6 +43,8 @@ pub trait Calls {
     fn streams_start(&self, zeroth: &[u8], run: &mut [u64]) -> u8;
     fn streams_block(&self, run: &mut [u64], lines: &mut [u64], block: &[u8]) -> u8;
     fn streams_row(&self, run: &[u64], i: usize, lines: &[u64], zeroth: &[u8], out: &mut [u8]) -> i64;
+    fn feed(&self, upload: &mut [u64], kept: &mut [u8], stretch: &[u8], out: &mut [u8]) -> i64;
+    fn feed_close(&self, upload: &mut [u64], kept: &[u8]) -> u8;
 }
 
 #[derive(Clone, Copy, Debug)]
@@ -66,9 +68,9 @@ pub const REDUCE: u16 = 1;
 pub const STOP: u16 = 0x100;
 pub const REFUSED: u16 = 0x200;
 
-/// Every function with every answer it can give; a length counts as 0, a writer's 12 with any size as -12, of a difference its sign, and of a block's
-/// jumps and restarts and of a label's retired bytes whether there are any.
-pub const FUNCTIONS: [(&str, &[i64]); 42] = [
+/// Every function with every answer it can give; a length counts as 0, a writer's 12 with any size as -12, a fed block's refusal with any length as minus its
+/// number, of a difference its sign, and of a block's jumps and restarts and of a label's retired bytes whether there are any.
+pub const FUNCTIONS: [(&str, &[i64]); 44] = [
     ("flasknib_arrive", &[0, 7, 8, 9, 10, 128]),
     ("flasknib_count_block", &[0, 1, 256, 257, -9, -10]),
     ("flasknib_lost", &[0, 9, 12]),
@@ -111,4 +113,6 @@ pub const FUNCTIONS: [(&str, &[i64]); 42] = [
     ("flasknib_streams_start", &[0, 1, 12, 13, 14]),
     ("flasknib_streams_block", &[0, 1, 9, 13, 14, 15]),
     ("flasknib_streams_row", &[0, -9, -10, -12]),
+    ("flasknib_feed", &[0, -1, -9, -10, -12, -13, -14]),
+    ("flasknib_feed_close", &[0, 1, 9, 13, 14]),
 ];

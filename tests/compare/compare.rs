@@ -76,8 +76,8 @@ impl Compare {
     }
 }
 
-/// A length counts as 0, a writer's 12 with any size as -12, of a difference its sign, and of a block's jumps and restarts and of a label's retired bytes
-/// whether there are any.
+/// A length counts as 0, a writer's 12 with any size as -12, a fed block's refusal with any length as minus its number, of a difference its sign, and of a
+/// block's jumps and restarts and of a label's retired bytes whether there are any.
 fn class(name: &str, answer: i64) -> i64 {
     let possible = FUNCTIONS.iter().find(|(function, _)| *function == name).expect("a function of the header").1;
     if name.ends_with("count_block") && answer >= 0 {

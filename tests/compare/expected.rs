@@ -4,6 +4,7 @@ use model::between::{between, kept_from_words, kept_to_words, lost_since, since,
 use model::breaker::{Answer, Breaker, Report};
 use model::compound::Profile;
 use model::converter::Run;
+use model::feeds::Feed;
 use model::forms::Conversion;
 use model::labels::{new_label_block, spaced};
 use model::refusal::{put, require, Refusal, Written, JUMP, LIMITS, MALFORMED, ROOM};
@@ -319,5 +320,24 @@ impl Calls for Expected {
 
     fn streams_row(&self, words: &[u64], i: usize, lines: &[u64], zeroth: &[u8], out: &mut [u8]) -> i64 {
         length(put(streams::Run::from_words(words, lines).and_then(|run| run.row(i, zeroth)), out))
+    }
+
+    /// The length of the rows, which stands beside a block's refusal as a size does beside 12.
+    fn feed(&self, words: &mut [u64], kept: &mut [u8], stretch: &[u8], out: &mut [u8]) -> i64 {
+        let taken = Feed::from_words(words, kept).and_then(|mut feed| feed.take(stretch).map(|rows| (feed, rows)));
+        let written = put(taken.as_ref().map(|(_, rows)| rows).map_err(|&refusal| refusal), out);
+        let (Ok((feed, rows)), Written::Length(_)) = (taken, written) else { return length(written) };
+        words.copy_from_slice(&feed.to_words());
+        feed.keep(kept);
+        feed.refusal.map_or(length(written), |refusal| minus(refusal) - 256 * rows.len() as i64)
+    }
+
+    fn feed_close(&self, words: &mut [u64], kept: &[u8]) -> u8 {
+        let closed = Feed::from_words(words, kept).and_then(|mut feed| {
+            let closed = feed.close();
+            words.copy_from_slice(&feed.to_words());
+            closed
+        });
+        closed.map_or_else(Refusal::number, |()| 0)
     }
 }

@@ -54,6 +54,9 @@ extern "C" {
     fn flasknib_streams_block(run: *mut u64, words: usize, lines: *mut u64, line_words: usize, block: *const u8, length: usize) -> u8;
     fn flasknib_streams_row(run: *const u64, words: usize, i: usize, lines: *const u64, line_words: usize, zeroth: *const u8,
                             zeroth_length: usize, out: *mut u8, room: usize) -> i64;
+    fn flasknib_feed(upload: *mut u64, words: usize, kept: *mut u8, kept_length: usize, stretch: *const u8, stretch_length: usize,
+                     out: *mut u8, room: usize) -> i64;
+    fn flasknib_feed_close(upload: *mut u64, words: usize, kept: *const u8, length: usize) -> u8;
 }
 
 pub struct Library;
@@ -242,5 +245,14 @@ impl Calls for Library {
     fn streams_row(&self, run: &[u64], i: usize, lines: &[u64], zeroth: &[u8], out: &mut [u8]) -> i64 {
         let (lines_at, line_words, at, room) = (lines.as_ptr(), lines.len(), out.as_mut_ptr(), out.len());
         unsafe { flasknib_streams_row(run.as_ptr(), run.len(), i, lines_at, line_words, zeroth.as_ptr(), zeroth.len(), at, room) }
+    }
+
+    fn feed(&self, upload: &mut [u64], kept: &mut [u8], stretch: &[u8], out: &mut [u8]) -> i64 {
+        let (upload_at, kept_at, at) = (upload.as_mut_ptr(), kept.as_mut_ptr(), out.as_mut_ptr());
+        unsafe { flasknib_feed(upload_at, upload.len(), kept_at, kept.len(), stretch.as_ptr(), stretch.len(), at, out.len()) }
+    }
+
+    fn feed_close(&self, upload: &mut [u64], kept: &[u8]) -> u8 {
+        unsafe { flasknib_feed_close(upload.as_mut_ptr(), upload.len(), kept.as_ptr(), kept.len()) }
     }
 }

@@ -12,6 +12,7 @@ mod compare;
 mod conversions;
 mod counting;
 mod expected;
+mod feeds;
 mod forms;
 mod labels;
 mod lent;
@@ -26,6 +27,7 @@ mod rows;
 mod runs;
 mod salvage;
 mod streams;
+mod stretches;
 mod tables;
 mod worked;
 
@@ -51,6 +53,7 @@ fn main() {
     forms::examples(compare);
     labels::examples(compare);
     salvage::examples(compare);
+    stretches::examples(compare);
     places::examples(compare);
     counting::calls(compare, draw);
     tables::calls(compare, draw);
@@ -70,11 +73,12 @@ fn main() {
     let (lines, answers) = attributes::calls(compare, draw);
     labels::calls(compare, draw);
     salvage::calls(compare, draw);
+    let fed = feeds::calls(compare, draw);
     compare.close(table.as_deref());
     let (calls, functions) = (compare.calls(), compare.functions());
     println!(
         "compare: {calls} calls of {functions} functions, {mutations} mutations of compounds, {lists} lists and {orders} other orders of them, \
          {cuts} lists cut in two, packets for {heard} heard calls, {reports} reports and {with_counts} with counts, \
-         {lines} lines that read and {answers} answers, seed {seed}: as the model"
+         {lines} lines that read and {answers} answers, {fed} cuts of traces, seed {seed}: as the model"
     );
 }

@@ -4,6 +4,7 @@ pub mod breaker;
 pub mod bytes;
 pub mod compound;
 pub mod converter;
+pub mod feeds;
 pub mod forms;
 pub mod labels;
 pub mod refusal;

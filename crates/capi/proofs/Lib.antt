@@ -10,6 +10,7 @@ pub mod SomeChains
 pub mod TableCalls
 pub mod StepLaws
 pub mod RunSteps
+pub mod FeedSteps
 pub mod FormsSteps
 pub mod StreamsLaws
 pub mod StreamsSteps

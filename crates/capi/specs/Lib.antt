@@ -9,6 +9,7 @@ pub mod Tables
 pub mod TableSteps
 pub mod StepCalls
 pub mod RunCalls
+pub mod Feeds
 pub mod FormsCalls
 pub mod StreamsWords
 pub mod StreamsCalls

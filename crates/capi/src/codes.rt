@@ -3,7 +3,7 @@ use answers::ROOM;
 use answers::Refusal;
 use answers::Written;
 ghost use mathlib.Core.Path.{_≡_};
-ghost use Prim.Native.Nat.{_^_, _<_};
+ghost use Prim.Native.Nat.{_+_, _*_, _^_, _<_};
 ghost use lib.IntN.{pos, negℤ};
 ghost use Rattle.answers.specs.Refusals.{numberOf};
 ghost use Rattle.answers.specs.Writers.{sizeIn};
@@ -46,4 +46,12 @@ pub fn length(answer: Written) -> i64
         Written::Room(n) => negative(SIZES * n as u64 + ROOM as u64),
         Written::Refused(refusal) => minus(refusal),
     }
+}
+
+// Minus the refusal's number, and the length of what was written before it.
+pub fn faulty(refusal: Refusal, n: usize) -> i64
+    requires { ⌜ n < 2 ^ 54 ⌝ }
+    ensures { λ r. ⌜ r ≡ negℤ (pos (256 * n + numberOf refusal)) ⌝ }
+{
+    negative(SIZES * n as u64 + refusal.number() as u64)
 }

@@ -8,6 +8,7 @@ pub mod compound;
 pub mod conversions;
 pub mod differences;
 pub mod ecn;
+pub mod feeds;
 pub mod losses;
 pub mod offers;
 pub mod packet_calls;

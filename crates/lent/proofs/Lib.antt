@@ -1,6 +1,7 @@
 -- The laws of lent words, and the proofs of the theorems.
 pub mod SourceLaws
 pub mod RunLaws
+pub mod FeedLaws
 pub mod ConversionLaws
 pub mod Pairs
 pub mod Restored

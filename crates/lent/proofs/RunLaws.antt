@@ -41,7 +41,7 @@ form-word (suc (suc (suc n))) e =
 
 -- ---- the parts stored one after the other
 
-length-record : (s : Source) → length (sourceWords s) ≡ 10
+pub length-record : (s : Source) → length (sourceWords s) ≡ 10
 unfolding sourceWords
 length-record s = refl
 
@@ -92,7 +92,7 @@ run-back run ssrc base highest number =
       totals = record { source = sym (back .2) i; jumped = run .totals .jumped; restarts = run .totals .restarts };
     }))
 
-source-again : (words : List ℕ) → isSource words ≡ true → sourceLoaded words ≡ source.Held (sourceOf words)
+pub source-again : (words : List ℕ) → isSource words ≡ true → sourceLoaded words ≡ source.Held (sourceOf words)
 unfolding sourceLoaded
 source-again words e = rw e
 

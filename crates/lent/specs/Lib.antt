@@ -8,6 +8,7 @@ pub mod TableReads
 pub mod LostWords
 pub mod FormWords
 pub mod RunWords
+pub mod FeedWords
 pub mod ConversionWords
 pub mod KeptWords
 pub mod CallWords

@@ -1,56 +1,25 @@
 // A run of ecntable as 15 words: its form, the label's length, the SSRC, the 10 words of the source's record, jumped and restarts.
 ghost use mathlib.Core.Path.{_≡_};
-ghost use Prim.Native.Nat.{_^_, _<_};
-ghost use lib.ListN.{getD};
 ghost use lib.Seq.{sets};
-ghost use Rattle.lent.specs.RunWords.{runWith, loaded, runWords};
+ghost use Rattle.lent.specs.RunWords.{loaded, runWords};
 use crate::access::put_all;
 use crate::access::word_at;
-use crate::form_words::form_of;
 use crate::form_words::is_form;
 use crate::form_words::number_of;
+use crate::run_parts::AFTER;
+use crate::run_parts::NUMBERS;
+use crate::run_parts::SOURCE;
+use crate::run_parts::run_with;
 use crate::source_words;
 use convert::Run;
-use source::Source;
-use source::Totals;
 
-// The words of a run, and the places of the source's record and behind it.
+// The words of a run.
 pub const WORDS: usize = 15;
-
-const SOURCE: usize = 3;
-
-const BEHIND: usize = 13;
-
-// An SSRC is below this.
-const NUMBERS: u64 = 0x1_0000_0000;
 
 // A run taken from words, or that they are no run's.
 pub enum Loaded {
     Held(Run),
     Malformed,
-}
-
-// The run in the words around the source's record, with that record.
-fn run_with(words: &[u64], source: Source) -> Run
-    requires { ⌜ getD (now words) 2 0 < 2 ^ 32 ⌝ }
-    ensures { λ r. ⌜ r ≡ runWith (now (words .entry)) source ⌝ }
-{
-    let form = form_of(word_at(words, 0));
-    let length = word_at(words, 1);
-    let ssrc = word_at(words, 2);
-    let jumped = word_at(words, 13);
-    let restarts = word_at(words, 14);
-    let totals = Totals {
-        source,
-        jumped,
-        restarts,
-    };
-    Run {
-        form,
-        length: length as usize,
-        ssrc: ssrc as u32,
-        totals,
-    }
 }
 
 // The run in 15 words; another number of them, another form, an SSRC past 32 bits and words that are no source's record are no run's.
@@ -66,7 +35,7 @@ pub fn load(words: &[u64]) -> Loaded
     if NUMBERS <= word_at(words, 2) {
         return Loaded::Malformed;
     }
-    match source_words::load(&words[SOURCE..BEHIND]) {
+    match source_words::load(&words[SOURCE..AFTER]) {
         source_words::Loaded::Held(source) => Loaded::Held(run_with(words, source)),
         source_words::Loaded::Malformed => Loaded::Malformed,
     }
@@ -84,5 +53,5 @@ pub fn store(run: Run, words: &mut [u64])
     let back = [totals.jumped, totals.restarts];
     put_all(&front, words, 0);
     put_all(&record, words, SOURCE);
-    put_all(&back, words, BEHIND);
+    put_all(&back, words, AFTER);
 }

@@ -1,10 +1,10 @@
--- `lent::run_words::run_with` meets its contract. Assumes nothing.
+-- `lent::run_parts::run_with` meets its contract. Assumes nothing.
 use borrow.Author.Needs.{needs}
 use mathlib.Core.Path.{ap, _∙_}
 use Rattle.lent.specs.FormWords.{formOf}
 use Rattle.lent.specs.RunWords.{runWith}
-use Rattle.lent.proofs.run_words.run_with.Statement.{statement}
-use Rattle.lent.proofs.run_words.run_with.Tie as tie
+use Rattle.lent.proofs.run_parts.run_with.Statement.{statement}
+use Rattle.lent.proofs.run_parts.run_with.Tie as tie
 
 returns : tie.Need-returns
 unfolding runWith
