@@ -69,7 +69,7 @@ enum {
     FLASKNIB_REFUSAL_CONTENTS = 14,    /* a block's contents, or a block of another kind, form or SSRC than its place wants */
     FLASKNIB_REFUSAL_PLACES = 15,      /* a new SSRC, and every place of the table is held */
     FLASKNIB_REFUSAL_RULES = 16,       /* a table against its rules */
-    FLASKNIB_REFUSAL_FORM_TWO = 17,    /* a time needs form 2: given by the converter of forms alone */
+    FLASKNIB_REFUSAL_FORM_TWO = 17,    /* a time needs form 2: given only by the converter of forms */
     FLASKNIB_REFUSAL_ATTRIBUTE = 18,   /* the line of an attribute is malformed */
     FLASKNIB_REFUSAL_RETIRED = 19      /* a new label has a retired byte, 10 or 13: only flasknib_write_label gives it */
 };
@@ -87,7 +87,7 @@ enum {
 /* The refusal, or 0 where there is a length: an int. */
 #define FLASKNIB_WRITE_REFUSAL(answer) ((answer) < 0 ? (int)-((answer) % 256) : 0)
 
-/* The size that comes with refusal 12, or the length that comes with a block's in flasknib_feed, or 0 where there is another refusal or a length: a
+/* The size that comes with refusal 12, or the length that comes with a block's in flasknib_feed, or 0 if there is another refusal or a length: a
  * size_t. */
 #define FLASKNIB_WRITE_SIZE(answer) ((answer) < 0 ? (size_t)-((answer) / 256) : 0)
 
@@ -425,12 +425,12 @@ uint8_t flasknib_breaker_call(const uint64_t *found, size_t found_words, uint64_
 
 /* ---- offer and answer ------------------------------------------------------------------------------------------------------------
  * The SDP attribute ecn-capable-rtp (RFC 6679, section 6.1). The line runs from `a=` to before its CR LF: the name in either case, a colon, one
- * space, 1 to 8 methods with commas between, and, behind one space, 1 to 8 parameters with a semicolon and a space between. Methods and parameters
- * that are not known are passed over where they are well formed, and counted; a second mode or ect is malformed.
+ * space, 1 to 8 methods with commas between, and, after one space, 1 to 8 parameters with a semicolon and a space between. Methods and parameters
+ * that are not known are passed over if they are well formed, and counted; a second mode or ect is malformed.
  *
  * 11 words: how many methods; eight methods, most wanted first; the mode; the ect. Of the methods only the first so many are looked at, and a
- * function that gives words leaves 0 behind them. An absent mode means setread, and an absent ect 0: nobody fills them in. Another number of words,
- * a mode or an ect above 3, and a method in use that is not 1 to 3 (of all eight where the number is above 8) are malformed (9).
+ * function that gives words leaves 0 after them. An absent mode means setread, and an absent ect 0: nobody fills them in. Another number of words,
+ * a mode or an ect above 3, and a method in use that is not 1 to 3 (of all eight if the number is above 8) are malformed (9).
  */
 #define FLASKNIB_ATTRIBUTE_WORDS 11
 #define FLASKNIB_ATTRIBUTE_MOST_METHODS 8
@@ -447,22 +447,22 @@ enum { FLASKNIB_MODE_ABSENT = 0, FLASKNIB_MODE_SETONLY = 1, FLASKNIB_MODE_READON
 /* The ects: "1" and "0" are numbered as their marks are. */
 enum { FLASKNIB_ECT_ABSENT = 0, FLASKNIB_ECT_ONE = 1, FLASKNIB_ECT_ZERO = 2, FLASKNIB_ECT_RANDOM = 3 };
 
-/* What flasknib_answer gives where the attribute is left out of the answer. It is no refusal. */
+/* What flasknib_answer gives if the attribute is left out of the answer. It is no refusal. */
 enum { FLASKNIB_LEFT_OUT = 129 };
 
 /* Reads a line. Gives 0 and 11 words at the front of `found`, or refusal 10 for over 255 bytes, 18 for a line that is not well formed, an empty one
- * too, 10 for over 8 methods or 8 parameters, known or not, or 12 where `found` has fewer words. */
+ * too, 10 for over 8 methods or 8 parameters, known or not, or 12 if `found` has fewer words. */
 uint8_t flasknib_read_attribute(const uint8_t *line, size_t length, uint64_t *found, size_t words);
 
 /* Writes the line of a record, 22 to 84 bytes, in lower case and with no CR LF: the methods, then the mode, then the ect. Gives its length, or
- * minus refusal 9, 10 for no method or over 8, or 12 with its size. What it writes reads back to the same words, but for 0 behind the last method.
+ * minus refusal 9, 10 for no method or over 8, or 12 with its size. What it writes reads back to the same words, but for 0 after the last method.
  * */
 #define FLASKNIB_ATTRIBUTE_MOST_BYTES 84
 int64_t flasknib_write_attribute(const uint64_t *attribute, size_t words, uint8_t *out, size_t room);
 
 /* Answers an offer by our abilities, the record that we would offer: the first of our methods that the offer names, our mode and our ect. Gives 0
- * and 11 words at the front of `found`. Gives FLASKNIB_LEFT_OUT, and changes no word, whatever `words` is, where no method is common, or both modes
- * are setonly or both readonly. Refusal 9 for either record, 10 for over 8 methods in either, or 12 where `found` has fewer words. */
+ * and 11 words at the front of `found`. Gives FLASKNIB_LEFT_OUT, and changes no word, whatever `words` is, if no method is common, or both modes
+ * are setonly or both readonly. Refusal 9 for either record, 10 for over 8 methods in either, or 12 if `found` has fewer words. */
 uint8_t flasknib_answer(const uint64_t *offer, size_t offer_words, const uint64_t *ours, size_t our_words, uint64_t *found, size_t words);
 
 /* ---- trace blocks and table rows -------------------------------------------------------------------------------------------------
