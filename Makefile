@@ -2,6 +2,7 @@
 # make install    copies what make built below PREFIX (/usr/local), for a package below DESTDIR, and tells the loader; needs no toolchain
 # make sums       target/SHA256SUMS, the sums of what make built
 # make deb        a Debian package of what make install installs
+# make declarations  the modules in other languages that are made from include/flasknib.h
 PREFIX ?= /usr/local
 DESTDIR ?=
 
@@ -19,7 +20,7 @@ manual := $(PROGRAMS:%=man/%.1) man/ecn.1
 built := $(binaries) $(static) $(shared) target/man/flasknib.3 target/SHA256SUMS
 to := $(DESTDIR)$(PREFIX)
 
-.PHONY: all built install sums deb programs
+.PHONY: all built install sums deb programs declarations
 .DELETE_ON_ERROR:
 
 all:
@@ -37,6 +38,9 @@ deb: $(built)
 
 programs:
 	@echo $(PROGRAMS)
+
+declarations:
+	packaging/declarations python include/flasknib.h >python/flasknib/header.py
 
 $(binaries) $(archive):
 	@echo "$@ is not there: run make first" >&2; exit 1

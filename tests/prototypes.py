@@ -1,8 +1,8 @@
 #!/usr/bin/env python3
 """tests/prototypes.py: every function of the C library is declared as its source has it, wherever it is declared.
 
-The source is each `pub extern "C" fn` of crates/capi. Declarations stand in include/flasknib.h and, by hand, in the comparison, the benchmarks and the
-examples in Rust and Python. Result, order, types, constness and names of the parameters are compared; a slice is a pointer, to const unless it is `&mut`,
+The source is each `pub extern "C" fn` of crates/capi. Declarations stand in include/flasknib.h; made from it by packaging/declarations, in the package in
+Python; and, by hand, in the comparison, the benchmarks and the examples in Rust and Python. Result, order, types, constness and names of the parameters are compared; a slice is a pointer, to const unless it is `&mut`,
 and the count behind it. Two rules on names: what the source calls `words` is called by its record elsewhere (`source`, `sources`, `forms`, `upload`); and the
 count behind a pointer is `words` or `NAME_words`, of bytes `length` or `NAME_length`, of the lists of an arrivals block `n_NAME`, of `out` always `room`.
 The manual page has each function once under RETURN VALUE, beside others with its result. Copies are then broken in several ways, and each must be found.
@@ -16,7 +16,7 @@ import sys
 TOP = os.path.dirname(os.path.dirname(os.path.abspath(__file__)))
 HEADER, MANUAL, CALLER, FEEDER = "include/flasknib.h", "man/flasknib.3", "examples/count.c", "examples/feed.c"
 COMPARED, EXAMPLE, TIMED = "tests/compare/library.rs", "examples/rust/flasknib.rs", "bench/library.rs"
-SCRIPT, FED = "examples/count.py", "examples/feed.py"
+SCRIPT, FED, PACKAGE = "examples/count.py", "examples/feed.py", "python/flasknib/header.py"
 
 C_TYPES = {f"{sign}int{bits}_t": f"{'u' if sign else 'i'}{bits}" for sign in ("u", "") for bits in (8, 16, 32, 64)} | {"size_t": "usize"}
 LISTS = {"times", "numbers", "marks"}
@@ -30,7 +30,7 @@ def texts():
     """The files that are compared, by their names."""
     names = [os.path.relpath(path, TOP) for path in glob.glob(os.path.join(TOP, "crates/capi/src/*.rt"))]
     found = {}
-    for name in [*names, HEADER, MANUAL, CALLER, FEEDER, COMPARED, EXAMPLE, TIMED, SCRIPT, FED]:
+    for name in [*names, HEADER, MANUAL, CALLER, FEEDER, COMPARED, EXAMPLE, TIMED, SCRIPT, FED, PACKAGE]:
         with open(os.path.join(TOP, name), encoding="utf-8") as file:
             found[name] = file.read()
     return found
@@ -124,15 +124,56 @@ def in_python(text):
     return {f"flasknib_{name}": types for name, types in names["FUNCTIONS"].items()}
 
 
+# ---- the package in Python has types, and calls in which a pointer and its count are one argument
+
+BOUND = re.compile(r'^_\w+ = bind\("(?P<name>flasknib_\w+)", (?P<types>.*)\)\n\n\ndef \w+\((?P<parameters>.*)\) -> int:\n(?P<body>(?: {4}.*\n)*)', re.M)
+
+
+def in_package(text):
+    """Of each function its types, the names of its parameters, and the lines of its call."""
+    found = {}
+    for d in BOUND.finditer(text):
+        names = [part.split(": ")[0] for part in split(d["parameters"])]
+        found[d["name"]] = split(d["types"]), names, set(re.sub(r'""".*?"""', "", d["body"], flags=re.S).split("\n    "))
+    return found
+
+
+def packaged(name, declaration):
+    """The same, as the header asks for it: bytes are lent by their kind, numbers are held to their types."""
+    result, parameters = declaration
+    types, names, call, lines, counted = [result], [], [], set(), False
+    for kind, parameter in parameters:
+        lent, of_bytes = kind.startswith("*"), kind.endswith(" u8") and kind.startswith("*")
+        types.append("memory" if of_bytes else f"pointer({kind.split(' ')[1]})" if lent else kind)
+        if counted:
+            call.append(f"len({call[-1]})")
+        else:
+            names.append(parameter)
+            call.append(f"lent_{parameter}" if of_bytes else parameter)
+            if of_bytes:
+                lines.add(f"lent_{parameter} = {'read' if 'const' in kind else 'written'}({parameter})")
+            elif not lent:
+                lines.add(f"{parameter} = fits({parameter}, {kind})")
+        counted = lent
+    return types, names, lines | {f"return _{name.partition('_')[2]}({', '.join(call)})"}
+
+
+def same_in_package(found, wanted):
+    """Whether a call is the header's; beside its lines there may be those that keep memory apart."""
+    types, names, lines = found
+    return (types, names) == wanted[:2] and {line.strip() for line in lines if line.strip() and not line.strip().startswith("apart(")} == wanted[2]
+
+
 # ---- what is wrong
 
 
 def undeclared(files, header):
     """Functions that a file lacks, or has too many."""
     called, fed = (set(re.findall(r"\bflasknib_\w+(?=\()", files[file])) for file in (CALLER, FEEDER))
-    wanted = {COMPARED: set(header), EXAMPLE: called, TIMED: set(in_rust(files[TIMED])) & set(header), SCRIPT: called, FED: fed}
+    wanted = {COMPARED: set(header), EXAMPLE: called, TIMED: set(in_rust(files[TIMED])) & set(header), SCRIPT: called, FED: fed, PACKAGE: set(header)}
+    readers = {SCRIPT: in_python, FED: in_python, PACKAGE: in_package}
     for file, names in wanted.items():
-        there = set(in_python(files[file]) if file in (SCRIPT, FED) else in_rust(files[file]))
+        there = set(readers.get(file, in_rust)(files[file]))
         if names != there:
             yield f"{file} has not the functions that it must: {', '.join(sorted(names ^ there))}"
 
@@ -147,6 +188,9 @@ def different(files, header):
         for name, types in in_python(files[file]).items():
             if name in header and types != tuple(ctype(kind) for kind in (header[name][0], *(kind for kind, _ in header[name][1]))):
                 yield f"{file}: {name} has other types than in the header"
+    for name, found in in_package(files[PACKAGE]).items():
+        if name in header and not same_in_package(found, packaged(name, header[name])):
+            yield f"{PACKAGE}: {name} is not called as the header has it"
 
 
 def unreturned(files, header):
@@ -210,6 +254,16 @@ IN_FED = {
     "another result": (r'"feed_close": \(c_uint8', '"feed_close": (c_int64'),
     "a function gone": (r'"feed": .*', ""),
 }
+IN_PACKAGE = {
+    "a width changed": (r'(bind\("flasknib_write_row", i64, memory, usize), u32', r"\1, u16"),
+    "another result": (r'bind\("flasknib_write_row", i64', 'bind("flasknib_write_row", u64'),
+    "a function gone": (r"flasknib_write_row", "flasknib_other"),
+    "a number that is not held to its type": (r"    jumped = fits\(jumped, u64\)\n", ""),
+    "a limit of another type": (r"fits\(restarts, u64\)", "fits(restarts, u32)"),
+    "memory that is not lent to be written": (r"lent_out = written\(out\)", "lent_out = read(out)"),
+    "arguments exchanged": (r"(return _write_row\(.*)jumped, restarts", r"\1restarts, jumped"),
+    "another count": (r"(return _write_row\(.*)len\(lent_out\)", r"\1len(lent_label)"),
+}
 IN_MANUAL = {"a function gone": (r"flasknib_lost\b", "flasknib_loss"), "a function twice": (r"flasknib_lost\b", "flasknib_arrive")}
 PATTERNS = {".h": PROTOTYPE, ".rs": RUST, ".rt": RATTLE}
 
@@ -225,6 +279,7 @@ def copies(files):
     """(name, broken copy) of each way of breaking one. Of the benchmarks none is gone: they declare what they time."""
     source = next(name for name in files if name.endswith(".rt") and FUNCTION in files[name])
     ways = {HEADER: IN_C, source: IN_RATTLE, COMPARED: IN_RUST, EXAMPLE: IN_RUST, TIMED: IN_RUST, SCRIPT: IN_PYTHON, FED: IN_FED, MANUAL: IN_MANUAL}
+    ways[PACKAGE] = IN_PACKAGE
     for file, changes in ways.items():
         for what, change in changes.items():
             if (file, what) != (TIMED, "a function gone"):

@@ -1,0 +1,120 @@
+"""Compound RTCP: what a packet reports about a source, and what came between two reports."""
+import enum
+from typing import NamedTuple, Optional, Tuple
+
+from . import header
+from ._lend import Buffer, Words, u64
+from ._state import signed
+from .header import lost_since, since16, since32  # noqa: F401
+from .refusals import accepted
+
+
+class Profile(enum.IntEnum):
+    """Which compounds are taken: those that begin with an SR or an RR (RFC 3550), or reduced-size ones too (RFC 5506)."""
+
+    COMPOUND = header.PROFILE_COMPOUND
+    REDUCED_SIZE = header.PROFILE_REDUCED_SIZE
+
+
+class ReportBlock(NamedTuple):
+    """A report block of an SR or an RR."""
+
+    fraction: int
+    lost: int
+    highest: int
+    jitter: int
+    lsr: int
+    dlsr: int
+
+
+class Feedback(NamedTuple):
+    """An ECN feedback packet. CE, not-ECT, lost and duplicates are counted modulo 65,536."""
+
+    sender: int
+    highest: int
+    ect0: int
+    ect1: int
+    ce: int
+    not_ect: int
+    lost: int
+    duplicates: int
+
+
+class Summary(NamedTuple):
+    """An entry of an ECN summary block of an XR packet."""
+
+    ect0: int
+    ect1: int
+    ce: int
+    not_ect: int
+    lost: int
+    duplicates: int
+
+
+class Between(NamedTuple):
+    """What came between two ECN reports, as `Breaker.report_ecn` takes it."""
+
+    lost: int
+    marked: int
+    expected: int
+
+
+class Compound(NamedTuple):
+    """What a compound reports about a source: the first report of each kind, None if there is none.
+
+    words   all of it, as the header lays it out
+    """
+
+    report: Optional[ReportBlock]
+    feedback: Optional[Feedback]
+    summary: Optional[Summary]
+    sr_or_rr: bool
+    words: Tuple[int, ...]
+
+
+def fields(words: Words, record: str, names: Tuple[str, ...]) -> Tuple[int, ...]:
+    """The words of a report by their names in the header."""
+    return tuple(words[getattr(header, f"COMPOUND_{record}_{name.upper()}")] for name in names)
+
+
+def compound_of(words: Words) -> Compound:
+    report = feedback = summary = None
+    if words[header.COMPOUND_REPORT]:
+        report = ReportBlock(*fields(words, "REPORT", ReportBlock._fields))
+        report = report._replace(lost=signed(report.lost))
+    if words[header.COMPOUND_FEEDBACK]:
+        feedback = Feedback(*fields(words, "FEEDBACK", Feedback._fields))
+    if words[header.COMPOUND_SUMMARY]:
+        summary = Summary(*fields(words, "SUMMARY", Summary._fields))
+    return Compound(report, feedback, summary, bool(words[header.COMPOUND_SR_OR_RR]), tuple(words))
+
+
+def read_compound(packet: Buffer, media: int, profile: int = Profile.REDUCED_SIZE) -> Compound:
+    """Reads a compound, the payload of one UDP packet, for what it reports about the SSRC `media`. Refused with 10 or 1 to 6; a
+    fault anywhere in it refuses all of it.
+
+    >>> import flasknib
+    >>> sources = flasknib.Sources()
+    >>> _ = sources.arrive(1, 17, flasknib.Mark.CE)
+    >>> found = flasknib.read_compound(sources.compound(sender=9), media=1)
+    >>> found.feedback
+    Feedback(sender=9, highest=17, ect0=0, ect1=0, ce=1, not_ect=0, lost=0, duplicates=0)
+    >>> found.report, found.sr_or_rr
+    (None, True)
+    """
+    found = (u64 * header.COMPOUND_WORDS)()
+    accepted(header.read_compound(packet, media, profile, found))
+    return compound_of(found)
+
+
+def ecn_between(later: Feedback, earlier: Feedback) -> Between:
+    """What came between two ECN feedback packets of one receiver about one source. Refused with 10 if the highest number went
+    back.
+
+    >>> from flasknib import Feedback, ecn_between
+    >>> ecn_between(Feedback(9, 130, 0, 0, 3, 0, 1, 0), Feedback(9, 30, 0, 0, 65535, 0, 0, 0))
+    Between(lost=1, marked=4, expected=100)
+    """
+    counts = (u64 * header.ECN_WORDS)()
+    accepted(header.ecn_between(later.highest, later.ce, later.lost, earlier.highest, earlier.ce, earlier.lost, counts))
+    return Between(signed(counts[header.ECN_LOST]), counts[header.ECN_MARKED], counts[header.ECN_EXPECTED])
