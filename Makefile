@@ -2,6 +2,7 @@
 # make install    copies what make built below PREFIX (/usr/local), for a package below DESTDIR, and tells the loader; needs no toolchain
 # make sums       target/SHA256SUMS, the sums of what make built
 # make deb        a Debian package of what make install installs
+# make wheel      a wheel for pip, of the package in Python, the library, the programs and ecn
 # make declarations  the modules in other languages that are made from include/flasknib.h
 PREFIX ?= /usr/local
 DESTDIR ?=
@@ -20,7 +21,7 @@ manual := $(PROGRAMS:%=man/%.1) man/ecn.1
 built := $(binaries) $(static) $(shared) target/man/flasknib.3 target/SHA256SUMS
 to := $(DESTDIR)$(PREFIX)
 
-.PHONY: all built install sums deb programs declarations
+.PHONY: all built install sums deb wheel programs declarations
 .DELETE_ON_ERROR:
 
 all:
@@ -35,6 +36,9 @@ sums: target/SHA256SUMS
 
 deb: $(built)
 	packaging/deb
+
+wheel: $(built)
+	packaging/wheel $(shared) $(binaries)
 
 programs:
 	@echo $(PROGRAMS)
@@ -64,7 +68,7 @@ target/SHA256SUMS: $(binaries) $(static) $(shared) packaging/sums
 
 install: $(built)
 	install -d "$(to)/bin" "$(to)/include" "$(to)/lib/pkgconfig" "$(to)/share/man/man1" "$(to)/share/man/man3" "$(to)/share/doc/flasknib" \
-		"$(to)/share/flasknib/ecnlib"
+		"$(to)/share/flasknib/ecnlib" "$(to)/share/flasknib/flasknib"
 	install -m 755 $(binaries) "$(to)/bin"
 	install -m 644 include/flasknib.h "$(to)/include"
 	install -m 644 $(static) $(shared) "$(to)/lib"
@@ -77,6 +81,7 @@ install: $(built)
 	install -m 644 target/SHA256SUMS "$(to)/share/doc/flasknib"
 	install -m 644 tools/wireshark/ecn.lua "$(to)/share/flasknib"
 	install -m 644 tools/ecnlib/*.py "$(to)/share/flasknib/ecnlib"
+	install -m 644 python/flasknib/*.py python/flasknib/py.typed "$(to)/share/flasknib/flasknib"
 	install -m 755 tools/ecn "$(to)/share/flasknib"
 	ln -sf ../share/flasknib/ecn "$(to)/bin/ecn"
 	@[ -n "$(DESTDIR)" ] || packaging/loader "$(PREFIX)/lib"

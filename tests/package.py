@@ -2,6 +2,7 @@
 
 It uses the library of target/staticlib/libcapi.a, which it links with a C compiler in a folder of its own.
 """
+import contextlib
 import copy
 import csv
 import doctest
@@ -18,6 +19,7 @@ import shutil
 import subprocess
 import sys
 import tempfile
+import textwrap
 import threading
 import tracemalloc
 import unittest
@@ -655,6 +657,20 @@ class Whole(Tried):
             self.assertEqual(result.failed, 0)
             tried += result.attempted
         self.assertGreater(tried, 90)
+
+    def test_page(self):
+        """The pieces of docs/LIBRARY.md, and its first program, which has 20 lines and prints what stands below it."""
+        page = (TOP / "docs/LIBRARY.md").read_text().partition("\n## Python\n")[2].partition("\n## ")[0]
+        pieces = [textwrap.dedent(piece).strip() + "\n" for piece in re.findall(r"(?:^(?: {4}.*)?\n)+", page, re.M) if piece.strip()]
+        program = next(at for at, piece in enumerate(pieces) if piece.startswith("import flasknib\n"))
+        self.assertLessEqual(sum(map(bool, pieces[program].splitlines())), 20)
+        printed = io.StringIO()
+        with contextlib.redirect_stdout(printed):
+            exec(pieces[program].replace("samples/", f"{SAMPLES}/"), {})
+        self.assertEqual(printed.getvalue(), pieces[program + 1])
+        examples = "\n".join(piece for piece in pieces if piece.startswith(">>> "))
+        test = doctest.DocTestParser().get_doctest(examples, {}, "LIBRARY.md", None, 0)
+        self.assertEqual((doctest.DocTestRunner().run(test).failed, len(test.examples) >= 7), (0, True))
 
     def test_names(self):
         self.assertEqual(flasknib.__version__, (TOP / "VERSION").read_text().strip())

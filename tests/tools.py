@@ -5,6 +5,7 @@ It uses the proved programs of target/bin and, where target/staticlib/libcapi.a 
 import argparse
 import contextlib
 import csv
+import ctypes
 import io
 import os
 import pathlib
@@ -24,11 +25,11 @@ import unittest
 import xml.etree.ElementTree as xml
 
 TOP = pathlib.Path(__file__).resolve().parent.parent
-sys.path.insert(0, str(TOP / "tools"))
+sys.path[:0] = [str(TOP / each) for each in ("tools", "tests", "python")]
+import writer  # noqa: E402
 from ecnlib import bars, make  # noqa: E402
-from ecnlib.blocks import FORMS, Record, Script, header, records_in  # noqa: E402
+from ecnlib.blocks import FORMS, Record, header, records_in  # noqa: E402
 from ecnlib.common import Ended  # noqa: E402
-from ecnlib.library import Attributes, Library  # noqa: E402
 
 ECN, BIN, SAMPLES = TOP / "tools/ecn", TOP / "target/bin", TOP / "samples"
 BUILT = tempfile.TemporaryDirectory()
@@ -53,6 +54,7 @@ def built_library() -> bool:
 
 
 LIBRARY = built_library()
+os.environ["FLASKNIB_LIBRARY"] = str(SHARED) if LIBRARY else ""  # for the parts of ecn that are called here
 needs_library = unittest.skipUnless(LIBRARY, "no libcapi.a or no cc")
 
 
@@ -95,7 +97,8 @@ class Tried(unittest.TestCase):
     def begun(self, *words, signals=signal.SIG_DFL, **kept) -> subprocess.Popen:
         """A call that goes on, with the signals that end it set in this way, whatever this process itself was started with."""
         set_signals = lambda: [signal.signal(each, signals) for each in ENDINGS]  # noqa: E731
-        child = subprocess.Popen([sys.executable, "-S", ECN, *words], env=OURS, preexec_fn=set_signals, start_new_session=True, **kept)
+        environment = OURS | {"FLASKNIB_LIBRARY": os.environ["FLASKNIB_LIBRARY"]}
+        child = subprocess.Popen([sys.executable, "-S", ECN, *words], env=environment, preexec_fn=set_signals, start_new_session=True, **kept)
         self.addCleanup(child.wait)
         self.addCleanup(child.kill)
         return child
@@ -113,11 +116,11 @@ def printed(name: str) -> str:
 
 
 def label(text=b"x", ssrc=7, form=1):
-    return Script().label(FORMS[form], text, ssrc)
+    return writer.label(text, ssrc, form)
 
 
 def arrivals(count=3, ssrc=7, form=1, first=10):
-    return Script().arrivals(FORMS[form], [Record(20 * n, first + n, n % 4) for n in range(count)], ssrc)
+    return writer.arrivals([(20 * n, first + n, n % 4) for n in range(count)], ssrc, form)
 
 
 class Table(Tried):
@@ -272,10 +275,13 @@ class Files(Tried):
         self.assertEqual((self.folder / "other").read_bytes(), wanted[1:-1])
         self.alone("link", "other")
 
-    def test_standard_output_of_make_and_plot(self):
+    @needs_library
+    def test_standard_output_of_make(self):
         self.out.write_text("time,number,mark\n0,1,2\n")
-        made = self.into("-", words=("make", self.out, "--ssrc", "7"))
-        self.assertEqual(made, b"A" + label(b"") + Script().arrivals(FORMS[1], [Record(0, 1, 2)], 7) + b"B")
+        made = self.into("-", words=("make", self.out, "--ssrc", "7"), library=True)
+        self.assertEqual(made, b"A" + label(b"") + writer.arrivals([(0, 1, 2)], 7) + b"B")
+
+    def test_standard_output_of_plot(self):
         self.assertRegex(self.into("/dev/stdout", words=("plot", SAMPLES / "c1.csv")), b"(?s)^A<svg .*</svg>\nB$")
 
     def test_pipes(self):
@@ -314,12 +320,13 @@ class Files(Tried):
             pipe.write((SAMPLES / "c1.csv").read_bytes())
         self.assertEqual(child.wait(LONG), 0)
 
+    @needs_library
     def test_standard_input(self):
         """Through all commands, and from the place where a file stands."""
         text = "time,number,mark\n0,65534,2\n20,65535,2\n40,0,3\n41,0,3\n100,3,1\n"
         with open(self.folder / "made.trace", "w+b", buffering=0) as file:
             file.write(b"before")
-            self.ecn("make", "-", "-o", "-", "--ssrc", "1", input=text, stdout=file)
+            self.ecn("make", "-", "-o", "-", "--ssrc", "1", input=text, stdout=file, library=True)
             file.seek(6)
             self.assertEqual(file.read()[512:], (SAMPLES / "c1.trace").read_bytes()[512:])
             file.seek(6)
@@ -426,7 +433,8 @@ class Endings(Tried):
         (self.folder / "in.csv").write_text("time,number,mark\n0,1,2\n")
         trace, place = self.trace(label(), arrivals()), self.folder / "place"
         place.mkdir()
-        for words in (["table", trace, "-o", place / "out"], ["look", trace], ["make", self.folder / "in.csv", "--ssrc", "7", "-o", place / "out"]):
+        made = ["make", self.folder / "in.csv", "--ssrc", "7", "-o", place / "out"]
+        for words in (["table", trace, "-o", place / "out"], ["look", trace], *([made] if LIBRARY else [])):
             self.ends(signal.SIGTERM, *words)
         for command in ("label", "salvage"):
             self.ends(signal.SIGTERM, command, trace, "-o", place / "out", name=f"ecn{command}")
@@ -520,7 +528,8 @@ class Look(Tried):
     @needs_library
     def test_library_alone(self):
         """The tools at another place, with no program to be found."""
-        shutil.copytree(TOP / "tools", self.folder / "tools")
+        for name in ("tools", "python"):
+            shutil.copytree(TOP / name, self.folder / name)
         words = dict(script=self.folder / "tools/ecn", library=True, env={"PATH": ""})
         lines = self.shown(SAMPLES / "damaged.trace", "--brief", status=1, **words)
         self.assertEqual([at for at, line in enumerate(lines) if "REFUSED" in line], [5, 9])
@@ -530,7 +539,8 @@ class Look(Tried):
     def test_library_in_a_folder_with_brackets(self):
         place = self.folder / "a [1]"
         shutil.copytree(TOP / "tools", place)
-        shutil.copy(SHARED, place)
+        shutil.copytree(TOP / "python/flasknib", place / "flasknib")
+        shutil.copy(SHARED, place / "flasknib")
         environment = {name: value for name, value in OURS.items() if name != "FLASKNIB_LIBRARY"}
         words = [sys.executable, "-S", place / "ecn", "look", SAMPLES / "c1.trace", "--bin", BIN]
         ran = subprocess.run(words, env=environment, stdout=subprocess.PIPE, text=True)
@@ -569,6 +579,7 @@ class Look(Tried):
         self.assertIn("cannot be used", self.ecn("look", SAMPLES / "c1.trace", status=2, env={"FLASKNIB_LIBRARY": "/dev/null"}).stderr)
 
 
+@needs_library
 class Make(Tried):
     def setUp(self):
         super().setUp()
@@ -578,38 +589,43 @@ class Make(Tried):
 
     def make(self, text: str, *words, **kept) -> subprocess.CompletedProcess:
         self.csv.write_text(text, encoding="utf-8")
-        return self.ecn("make", self.csv, "-o", self.made, *words, **kept)
+        return self.ecn("make", self.csv, "-o", self.made, *words, **{"library": True, **kept})
 
-    def writers(self):
-        return (False, True) if LIBRARY else (False,)
+    def ecn(self, *words, **kept) -> subprocess.CompletedProcess:
+        return super().ecn(*words, **{"library": True, **kept})
+
+    def test_no_library(self):
+        ran = self.make("time,number,mark\n0,1,2\n", "--ssrc", "1", status=2, library=False)
+        self.assertIn("ecn: the library libflasknib.so is not there: in a clone `make` builds it", ran.stderr)
+        self.assertIn("cannot be used", self.make("", "--ssrc", "1", status=2, env={"FLASKNIB_LIBRARY": "/dev/null"}).stderr)
+        shutil.copytree(TOP / "tools", self.folder / "tools")
+        ran = self.make("", "--ssrc", "1", status=2, script=self.folder / "tools/ecn")
+        self.assertIn("the package flasknib is not there, beside ecn or on Python's path", ran.stderr)
 
     def test_c1_in_both_forms(self):
         text = "Mark, number,time,note\r\nECT(0),65534,0,a\r\n2,65535,20,\r\nce,0,40,\r\n3,0,41,\r\nect(1),3,100,b\r\n"
         with open(SAMPLES / "c1.trace", "rb") as trace:
             second = subprocess.run([BIN / "ecnforms"], stdin=trace, capture_output=True).stdout
-        for library in self.writers():
-            ran = self.make(text, "--label", "probe 2, left", "--ssrc", "1", library=library)
-            self.assertRegex(ran.stderr, "2 blocks, 5 records, 1 source; written by " + ("the proved" if library else "this script"))
-            self.assertRegex(ran.stderr, "taken by ecntable\n$")
-            self.assertEqual(ran.stdout, "")
-            self.assertEqual(self.made.read_bytes(), (SAMPLES / "c1.trace").read_bytes())
-            self.make(text, "--label", "probe 2, left", "--ssrc", "0x1", "--form", "2", library=library)
-            self.assertEqual(self.made.read_bytes(), second)
+        ran = self.make(text, "--label", "probe 2, left", "--ssrc", "1")
+        self.assertRegex(ran.stderr, "2 blocks, 5 records, 1 source; written by the proved writer in libflasknib.so, taken by ecntable\n$")
+        self.assertEqual(ran.stdout, "")
+        self.assertEqual(self.made.read_bytes(), (SAMPLES / "c1.trace").read_bytes())
+        self.make(text, "--label", "probe 2, left", "--ssrc", "0x1", "--form", "2")
+        self.assertEqual(self.made.read_bytes(), second)
 
     def test_sizes(self):
-        """Blocks are packed full, and both writers give the same bytes."""
+        """Blocks are packed full, and the tests' own writer gives the same bytes."""
         draw = random.Random(25)
         for form in FORMS.values():
             for count in (0, form.most, form.most + 1):
                 records = [Record(draw.randrange(256**form.time), draw.randrange(65536), draw.randrange(4)) for _ in range(count)]
                 text = "time,number,mark\n" + "".join("%d,%d,%d\n" % record for record in records)
-                made = set()
-                for library in self.writers():
-                    self.make(text, "--ssrc", str(2**32 - 1), "--form", str(form.number), library=library)
-                    made.add(self.made.read_bytes())
-                self.assertEqual(len(made), 1)
-                blocks = [each[at : at + 512] for each in made for at in range(0, len(each), 512)]
-                self.assertEqual(len(blocks), 1 + -(-count // form.most))
+                self.make(text, "--ssrc", str(2**32 - 1), "--form", str(form.number))
+                parts = [records[at : at + form.most] for at in range(0, count, form.most)]
+                wanted = [writer.label(b"", 2**32 - 1, form.number), *(writer.arrivals(part, 2**32 - 1, form.number) for part in parts)]
+                made = self.made.read_bytes()
+                self.assertEqual(made, b"".join(wanted))
+                blocks = [made[at : at + 512] for at in range(0, len(made), 512)]
                 self.assertEqual([record for block in blocks[1:] for record in records_in(block, form)], records)
 
     def test_several_sources(self):
@@ -663,33 +679,29 @@ class Make(Tried):
         self.alone("in.csv")
 
     def test_retired_bytes(self):
-        """One sentence says which byte of the label is retired, by either writer; a byte outside the rules comes first."""
+        """One sentence says which byte of the label is retired; a byte outside the rules comes first."""
         for text, told in (
             ("ward 3\nbed 12", "its byte 7 is 10 (LF), and line breaks are retired; put a space there"),
             ("ward 3\r\nbed 12", "its byte 7 is 13 (CR), and"),
             ("\n", "its byte 1 is 10 (LF), and"),
             ("x" * 501 + "\r", "its byte 502 is 13 (CR), and"),
         ):
-            for library in self.writers():
-                ran = self.make("time,number,mark\n0,1,2\n", "--ssrc", "1", "--label", text, status=1, library=library)
-                self.assertIn(f"ecn: the label is refused with 19: {told}", ran.stderr)
-                self.assertEqual(ran.stderr.count("\n"), 1)
+            ran = self.make("time,number,mark\n0,1,2\n", "--ssrc", "1", "--label", text, status=1)
+            self.assertIn(f"ecn: the label is refused with 19: {told}", ran.stderr)
+            self.assertEqual(ran.stderr.count("\n"), 1)
         for text in ("a\nb\tc", "\n" * 503):
             self.assertIn("the label has to be", self.make("time,number,mark\n", "--ssrc", "1", "--label", text, status=1).stderr)
         self.alone("in.csv")
 
-    @needs_library
-    def test_both_refuse_the_same(self):
-        """The library's writer refuses with 19 just what the script does."""
-        writer = Library(str(SHARED))
-        for byte in range(256):
-            try:
-                made = make.label_given(os.fsdecode(bytes([byte])))
-            except Ended as ended:
-                number = 19 if "refused with 19" in str(ended) else 10
-                self.assertRaisesRegex(Ended, f"refuses a block with {number}", writer.label, FORMS[1], bytes([byte]), 7)
+    def test_labels_of_one_byte(self):
+        """Printable ASCII is written, line breaks are retired, and any other byte is outside the rules."""
+        for byte in range(1, 256):
+            given = make.Writer(FORMS[1], os.fsdecode(bytes([byte])))
+            if 32 <= byte <= 126:
+                self.assertEqual(given.zeroth(7), label(bytes([byte])))
             else:
-                self.assertEqual(writer.label(FORMS[1], made, 7), label(made))
+                told = "refused with 19: its byte 1 is" if byte in (10, 13) else "has to be 0 to 502 bytes"
+                self.assertRaisesRegex(Ended, told, given.zeroth, 7)
 
     def test_failures(self):
         self.assertIn("missing: No such file", self.ecn("make", self.folder / "missing", "-o", self.made, "--ssrc", "1", status=2).stderr)
@@ -851,11 +863,12 @@ class Salvage(Tried):
         self.assertEqual(self.out.read_text(), "as it was")
         self.alone("made.trace", "out.csv")
 
+    @needs_library
     def test_a_new_label(self):
         """README's way if the label block itself is damaged: one that ecn make wrote, in front of the rest."""
         rest = [arrivals(), arrivals(first=13)[:-1] + b"\0", arrivals(first=16)]
         path, new = self.trace(b"\0" * 512, *rest), self.folder / "label.trace"
-        self.ecn("make", "-", "--ssrc", "7", "--label", "ward 3", "-o", new, input="time,number,mark\n")
+        self.ecn("make", "-", "--ssrc", "7", "--label", "ward 3", "-o", new, input="time,number,mark\n", library=True)
         joined = self.trace(new.read_bytes(), path.read_bytes()[512:], name="joined.trace")
         self.assertIn("    2      13", self.salvaged(joined, 1, "3 blocks copied, 1 left out"))
         self.assertEqual(self.out.read_bytes(), b"".join([label(b"ward 3"), rest[0], rest[2]]))
@@ -1102,7 +1115,9 @@ class Answers(Tried):
 
     def test_utf8(self):
         """In a string just those bytes are taken that Python's decoder takes."""
-        calls, behind = Attributes(str(SHARED)), (b"", b"\x80", b"\xbf\xbf", b"\x80\x80\x80", b"\xc0")
+        import flasknib
+
+        behind, words = (b"", b"\x80", b"\xbf\xbf", b"\x80\x80\x80", b"\xc0"), (ctypes.c_uint64 * 11)()
         for first in range(0x80, 0x100):
             for second in range(0x70, 0xD0):
                 for more in behind:
@@ -1111,7 +1126,9 @@ class Answers(Tried):
                         sound = "\x7f" not in text.decode()
                     except UnicodeDecodeError:
                         sound = False
-                    self.assertEqual(calls.read(b'a=ecn-capable-rtp: rtp x="' + text + b'"')[0], 0 if sound else 18, text)
+                    line = b'a=ecn-capable-rtp: rtp x="' + text + b'"'
+                    found = flasknib.header.read_attribute(line, words)
+                    self.assertEqual(found, 0 if sound else 18, text)
 
     def test_refused(self):
         self.assertEqual(self.answered("a=ecn-capable-rtp: ice", ours="ice,rtp", status=1, told="ecn: --ours is refused with 18\n"), b"")

@@ -15,6 +15,7 @@ Every count and every verdict is a call of the proved library. A state is an obj
 
 `flasknib.header` has the functions of flasknib.h as they stand.
 """
+from ._library import path as library_path
 from .attribute import Attribute, Ect, Method, Mode, answer, offer, read_attribute, write_attribute
 from .blocks import Block, Form, Kind, Record, read_block, read_own, record_at, records, space_label, write_arrivals, write_label, write_records
 from .breaker import Answer, Breaker
@@ -62,6 +63,7 @@ __all__ = [
     "ecn_between",
     "feedback",
     "head_line",
+    "library_path",
     "lost_since",
     "offer",
     "other_form",

@@ -1,8 +1,8 @@
 """Answers the ECN lines of an offer: prints the lines a=ecn-capable-rtp of the answer.
 
 Our abilities are the line that we would offer. The offer is a whole SDP or the one line, in a file or on standard input. Each of its lines that
-begins with a=ecn-capable-rtp (RFC 6679) is read, answered and written by the proved library (found by $FLASKNIB_LIBRARY, beside this script, or
-on the system's path); the script looks for the lines and judges nothing. The answer has the first of our methods that the offer names, our mode
+begins with a=ecn-capable-rtp (RFC 6679) is read, answered and written by the proved library (that of $FLASKNIB_LIBRARY, or of this installation,
+or of the system); the script looks for the lines and judges nothing. The answer has the first of our methods that the offer names, our mode
 and our ect. Put each line below the m= line of the same stream, never above the first.
 
 On standard error, lines counted from 1: `left out line I` where the answer has no such line, and `refused N line I`.
@@ -16,9 +16,9 @@ import os
 import re
 import sys
 
-from .common import FAILED, REFUSED, WELL, Ended, file_name, printing, say
+from .common import REFUSED, WELL, Ended, file_name, printing, say
 from .files import Input, shown
-from .library import Attributes, library
+from .library import package
 
 OURS = "a=ecn-capable-rtp: ice,rtp mode=setread; ect=0"
 LINE = re.compile(rb"a=ecn-capable-rtp(:.*)?", re.IGNORECASE | re.DOTALL)
@@ -35,24 +35,23 @@ def ended(line: bytes) -> bytes:
 
 
 def run(options: argparse.Namespace) -> int:
-    calls = library(Attributes)
-    if calls is None:
-        raise Ended(FAILED, "the library libflasknib.so is not there: answer has no other reader")
-    refusal, ours = calls.read(os.fsencode(options.ours))
-    if refusal:
-        raise Ended(REFUSED, f"--ours is refused with {refusal}")
+    flasknib = package(needed=True)
+    try:
+        ours = flasknib.read_attribute(os.fsencode(options.ours))
+    except flasknib.Refused as refused:
+        raise Ended(REFUSED, f"--ours is refused with {refused.number}") from refused
     seen, status = 0, WELL
     with io.BufferedReader(Input(options.sdp), 1 << 18) as offer, printing():
         for number, line in enumerate(map(ended, offer), 1):
             if not LINE.fullmatch(line):
                 continue
             seen += 1
-            refusal, offered = calls.read(line)
-            if refusal:
-                say(f"refused {refusal} line {number}\n")
+            try:
+                answer = flasknib.answer(line, ours)
+            except flasknib.Refused as refused:
+                say(f"refused {refused.number} line {number}\n")
                 status = REFUSED
                 continue
-            answer = calls.answer(offered, ours)
             if answer is None:
                 say(f"left out line {number}\n")
             else:

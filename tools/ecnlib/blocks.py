@@ -1,8 +1,8 @@
 """The bytes of a trace, as docs/TRACE.md has them. Whether a block is sound is not said here: that is the proved reader's to say."""
 import struct
-from typing import Iterator, NamedTuple, Sequence
+from typing import Iterator, NamedTuple
 
-BLOCK, BODY = 512, 502
+BLOCK = 512
 MARKS = ("not-ECT", "ECT(1)", "ECT(0)", "CE")
 RETIRED = {10: "LF", 13: "CR"}  # bytes that an older label may have, and no new one
 
@@ -47,23 +47,3 @@ def records_in(block: bytes, form: Form) -> Iterator[Record]:
     for at in range(8, 8 + header(block).count * width, width):
         number, mark = struct.unpack_from(">HB", block, at + form.time)
         yield Record(int.from_bytes(block[at : at + form.time], "big"), number, mark)
-
-
-class Script:
-    """The writer where the library is not there."""
-
-    name = "this script"
-
-    def label(self, form: Form, label: bytes, ssrc: int) -> bytes:
-        return self.block(form.label, len(label), ssrc, label)
-
-    def arrivals(self, form: Form, records: Sequence[Record], ssrc: int) -> bytes:
-        body = (each.time.to_bytes(form.time, "big") + struct.pack(">HBB", each.number, each.mark, 0) for each in records)
-        return self.block(form.arrivals, len(records), ssrc, b"".join(body))
-
-    def block(self, kind: int, count: int, ssrc: int, body: bytes) -> bytes:
-        front = struct.pack(">HHI", kind, count, ssrc) + body.ljust(BODY, b"\0")
-        total = sum(struct.unpack(">255H", front))
-        while total > 0xFFFF:
-            total = (total & 0xFFFF) + (total >> 16)
-        return front + struct.pack(">H", 0xFFFF - total)

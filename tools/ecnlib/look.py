@@ -1,6 +1,6 @@
 """Shows a trace: each block with its verdict, and its records.
 
-The verdicts are the proved reader's. The library (found by $FLASKNIB_LIBRARY, beside this script, or on the system's path) judges each
+The verdicts are the proved reader's. The library (that of $FLASKNIB_LIBRARY, or of this installation, or of the system) judges each
 block alone. The program ecntable judges each block at its place: it ends at the first block that it refuses, so it is run again on
 the trace without that block, until it refuses none, and 100 times at most. Where one of the two is missing the other's verdicts are
 shown alone. A block that is refused is shown with its header's numbers and no records. The last line counts the blocks of the whole
@@ -24,7 +24,7 @@ from . import programs
 from .blocks import BLOCK, FORMS, MARKS, check, header, label_in, records_in
 from .common import FAILED, REFUSALS, REFUSED, WELL, Ended, file_name, many, printing
 from .files import Input
-from .library import Library, library
+from .library import file_of, package
 
 MOST_RUNS = 100  # of the program on one trace
 
@@ -103,20 +103,30 @@ class Judge:
     """The verdict on each block, from the program, the library, or both."""
 
     def __init__(self, trace: BinaryIO, streams: bool, folder: Optional[str]):
-        self.alone: Optional[Library] = library()
+        self.library = package()
         name = "ecnstreams" if streams else "ecntable"
         try:
             path = programs.program(name, folder)
         except Ended:
-            if self.alone is None or folder:
+            if self.library is None or folder:
                 raise
-            self.place, self.by = AtPlace({}, 0, f"the program {name} is not there"), self.alone.file
+            self.place, self.by = AtPlace({}, 0, f"the program {name} is not there"), file_of(self.library)
             return
         self.place = judged_at_place(path, trace)
-        self.by = name + (f" and {self.alone.file}" if self.alone else "")
+        self.by = name + (f" and {file_of(self.library)}" if self.library else "")
+
+    def by_itself(self, block: bytes) -> Optional[int]:
+        """The refusal of a block by itself, or 0; None where the library is not there."""
+        if self.library is None:
+            return None
+        try:
+            self.library.read_block(block)
+        except self.library.Refused as refused:
+            return refused.number
+        return 0
 
     def verdict(self, index: int, block: bytes) -> Verdict:
-        alone = self.alone.refusal(block) if self.alone else None
+        alone = self.by_itself(block)
         if index in self.place.refusals:
             return refused(self.place.refusals[index], "; by itself it is sound" if alone == 0 else "")
         if self.place.end is None or index < self.place.end:

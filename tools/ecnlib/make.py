@@ -8,22 +8,23 @@ each block has arrivals of one source in their order, and blocks are written as 
 CSV `-` is standard input, and TRACE `-` standard output. Standard output, /dev/stdout, /dev/fd/N, a device or a pipe is written to where it
 stands and never replaced: it gets the trace when that is whole, and no byte before.
 
-The blocks are written by the proved library where it is found ($FLASKNIB_LIBRARY, beside this script, or the system's path), else by this
-script. The trace is put in place only when the proved program takes it: ecntable for one source; for several ecnstreams, or where that is missing
-ecntable for each of them. What was used is said on standard error.
+The blocks are written by the proved library (that of $FLASKNIB_LIBRARY, or of this installation, or of the system); where it is not there the
+command says how to build it. The trace is put in place only when the proved program takes it: ecntable for one source; for several
+ecnstreams, or where that is missing ecntable for each of them. What was used is said on standard error.
 
 Exit status: 0 the trace is in place; 1 the CSV file or the label is outside the trace's rules, or the label has a line
-break, or the program refuses the trace; 2 a read or a write failed, the program is missing, or the arguments are wrong.
+break, or the program refuses the trace; 2 a read or a write failed, the program or the library is missing, or the
+arguments are wrong.
 """
 import argparse
 import csv
 import io
-from typing import BinaryIO, Iterator, NamedTuple, Optional
+from typing import BinaryIO, Iterator, List, NamedTuple, Optional
 
 from . import files, programs
-from .blocks import BLOCK, BODY, FORMS, MARKS, RETIRED, Form, Record, Script, header
+from .blocks import BLOCK, FORMS, MARKS, RETIRED, Form, Record, header
 from .common import REFUSED, WELL, Ended, file_name, many, refused_words, tell
-from .library import library
+from .library import file_of, package
 
 COLUMNS = ("time", "number", "mark", "ssrc")
 MARK_NAMES = {name.lower(): mark for mark, name in enumerate(MARKS)} | {str(mark): mark for mark in range(4)}
@@ -91,42 +92,57 @@ def arrivals_in(text: io.TextIOBase, name: str, form: Form, ssrc: Optional[int])
         raise Ended(REFUSED, f"{name}: this is no text in UTF-8") from error
 
 
-def label_given(text: str) -> bytes:
-    label = text.encode("utf-8", "surrogateescape")
-    if len(label) > BODY or any(not 32 <= byte <= 126 and byte not in RETIRED for byte in label):
-        raise Ended(REFUSED, f"the label has to be 0 to {BODY} bytes of printable ASCII")
-    for place, byte in enumerate(label, 1):
-        if byte in RETIRED:
-            which = f"its byte {place} is {byte} ({RETIRED[byte]})"
-            raise Ended(REFUSED, f"the label is refused with 19: {which}, and line breaks are retired; put a space there")
-    return label
+def label_fault(number: int, label: bytes) -> Ended:
+    """Why the library refuses a label, in words."""
+    if number != 19:
+        return Ended(REFUSED, "the label has to be 0 to 502 bytes of printable ASCII")
+    place, byte = next((place, byte) for place, byte in enumerate(label, 1) if byte in RETIRED)
+    which = f"its byte {place} is {byte} ({RETIRED[byte]})"
+    return Ended(REFUSED, f"the label is refused with 19: {which}, and line breaks are retired; put a space there")
+
+
+class Writer:
+    """The proved library's writers of blocks."""
+
+    def __init__(self, form: Form, label: str):
+        self.library, self.form, self.label = package(needed=True), form, label.encode("utf-8", "surrogateescape")
+        self.name = f"the proved writer in {file_of(self.library)}"
+
+    def zeroth(self, ssrc: int) -> bytes:
+        try:
+            return self.library.write_label(self.form.number, self.label, ssrc)
+        except self.library.Refused as refused:
+            raise label_fault(refused.number, self.label) from refused
+
+    def arrivals(self, records: List[Record], ssrc: int) -> bytes:
+        return self.library.write_arrivals(self.form.number, *zip(*records), ssrc)
 
 
 class Made:
     """A trace as it is written: block by block, with what it holds."""
 
-    def __init__(self, form: Form, label: bytes):
-        self.form, self.label, self.writer = form, label, library() or Script()
+    def __init__(self, writer: Writer):
+        self.writer, self.form = writer, writer.form
         self.sources, self.blocks, self.records = {}, 0, 0
 
     def write(self, arrivals: Iterator[Arrival], ssrc: Optional[int], out: files.Output) -> None:
         """All blocks. The label has the SSRC of the first arrival, or the one that was given."""
         for ssrc, record in arrivals:
             if not self.blocks:
-                self.put(out, self.writer.label(self.form, self.label, ssrc))
+                self.put(out, self.writer.zeroth(ssrc))
             self.records += 1
             held = self.sources.setdefault(ssrc, [])
             held.append(record)
             if len(held) == self.form.most:
-                self.put(out, self.writer.arrivals(self.form, held, ssrc))
+                self.put(out, self.writer.arrivals(held, ssrc))
                 held.clear()
         if not self.blocks:
             if ssrc is None:
                 raise Ended(REFUSED, "there are no arrivals, so the SSRC has to be given: leave out the column ssrc and give --ssrc")
-            self.put(out, self.writer.label(self.form, self.label, ssrc))
+            self.put(out, self.writer.zeroth(ssrc))
         for ssrc, held in self.sources.items():
             if held:
-                self.put(out, self.writer.arrivals(self.form, held, ssrc))
+                self.put(out, self.writer.arrivals(held, ssrc))
 
     def put(self, out: files.Output, block: bytes) -> None:
         out.write(block)
@@ -134,7 +150,7 @@ class Made:
 
     def only(self, file: BinaryIO, ssrc: int) -> Iterator[bytes]:
         """The trace of one source alone."""
-        yield self.writer.label(self.form, self.label, ssrc)
+        yield self.writer.zeroth(ssrc)
         file.seek(BLOCK)
         yield from (block for block in iter(lambda: file.read(BLOCK), b"") if header(block).ssrc == ssrc)
 
@@ -160,7 +176,8 @@ class Made:
 def run(options: argparse.Namespace) -> int:
     if options.ssrc is not None and not 0 <= options.ssrc < 2**32:
         raise Ended(REFUSED, f"the SSRC {options.ssrc} is not from 0 to {2**32 - 1}")
-    made = Made(FORMS[options.form], label_given(options.label))
+    made = Made(Writer(FORMS[options.form], options.label))
+    made.writer.zeroth(0)  # a label that is refused is told before the CSV file is read
     with files.Output(options.out, files.identities([options.csv])) as trace:
         with io.TextIOWrapper(io.BufferedReader(files.Input(options.csv)), "utf-8-sig", newline="") as text:
             made.write(arrivals_in(text, files.shown(options.csv), made.form, options.ssrc), options.ssrc, trace)

@@ -4,6 +4,7 @@ import os
 import re
 import shutil
 import subprocess
+import sys
 import tempfile
 import threading
 from typing import BinaryIO, Iterable, List, NamedTuple, Optional, Tuple
@@ -25,10 +26,10 @@ class Refusal(NamedTuple):
 
 def program(name: str, folder: Optional[str]) -> str:
     """The program's path: in the folder of --bin, else of $ECN_BIN, else beside the script, in the repository's target/bin or where both are installed, else
-    on the path."""
+    beside the command (where a wheel has put both), else on the path."""
     given = folder or os.environ.get("ECN_BIN")
-    folders = [given] if given else [BESIDE, *(os.path.join(BESIDE, "..", *below) for below in (("target", "bin"), ("..", "bin")))]
-    for each in folders:
+    own = [BESIDE, *(os.path.join(BESIDE, "..", *below) for below in (("target", "bin"), ("..", "bin"))), os.path.dirname(os.path.realpath(sys.argv[0]))]
+    for each in [given] if given else own:
         path = os.path.join(each, name)
         if os.path.isfile(path) and os.access(path, os.X_OK):
             return os.path.abspath(path)

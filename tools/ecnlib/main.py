@@ -1,0 +1,55 @@
+"""ecn: what the proved programs cannot do themselves. It runs them on traces, shows a trace, makes one from a CSV file,
+copies one with no line break in its label, saves what is left of a damaged one, draws a table, and answers an offer.
+
+Every count and every verdict is a proved program's or the proved library's; the script moves bytes and draws. As a
+file's name `-` is standard input or output. Exit status: 0 all is well; 1 a block of a trace, or what was given, is
+refused; 2 a read or a write failed, a program is missing, or the arguments are wrong.
+"""
+import argparse
+import importlib
+import sys
+
+from . import endings
+from .common import FAILED, Ended, fill_streams, printing, tell
+
+COMMANDS = ("table", "look", "make", "label", "salvage", "plot", "answer")
+
+
+class Parser(argparse.ArgumentParser):
+    def print_help(self, file=None) -> None:
+        print(self.format_help(), end="", file=file)  # argparse itself passes over a write that fails
+
+
+def arguments(words: list) -> argparse.ArgumentParser:
+    """Those of the command that is named, which alone is loaded; where none is, of all."""
+    parser = Parser(prog="ecn", description=__doc__, formatter_class=argparse.RawDescriptionHelpFormatter)
+    commands = parser.add_subparsers(dest="command", required=True, metavar="COMMAND")
+    for name in [name for name in COMMANDS if name in words[:1]] or COMMANDS:
+        command = importlib.import_module(f".{name}", __package__)
+        short, explained = command.__doc__.splitlines()[0], argparse.RawDescriptionHelpFormatter
+        own = commands.add_parser(name, help=short, description=command.__doc__, formatter_class=explained)
+        command.add_arguments(own)
+        own.set_defaults(run=command.run)
+        if name not in ("plot", "answer"):
+            own.add_argument("--bin", metavar="FOLDER", help="where the proved programs are (else $ECN_BIN, beside this script, the path)")
+    return parser
+
+
+def main() -> int:
+    fill_streams()
+    endings.watch()
+    try:
+        with printing():
+            options = arguments(sys.argv[1:]).parse_args()
+        return options.run(options)
+    except Ended as ended:
+        tell(str(ended))
+        return ended.status
+    except BrokenPipeError:
+        return FAILED
+    except OSError as error:
+        tell(f"{error.filename}: {error.strerror}" if error.filename else f"{error.strerror}")
+        return FAILED
+    except endings.Signalled:
+        endings.leave()
+        return FAILED
