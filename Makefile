@@ -45,6 +45,7 @@ programs:
 
 declarations:
 	packaging/declarations python include/flasknib.h >python/flasknib/header.py
+	packaging/declarations rust include/flasknib.h >rust/flasknib/src/header.rs
 
 $(binaries) $(archive):
 	@echo "$@ is not there: run make first" >&2; exit 1

@@ -12,7 +12,7 @@ import tempfile
 
 TOP = os.path.dirname(os.path.dirname(os.path.abspath(__file__)))
 SCRIPT, HEADER = os.path.join(TOP, "packaging/declarations"), os.path.join(TOP, "include/flasknib.h")
-MADE = {"python": "python/flasknib/header.py"}
+MADE = {"python": "python/flasknib/header.py", "rust": "rust/flasknib/src/header.rs"}
 
 SMALL = """
 #ifndef FLASKNIB_H
@@ -118,6 +118,9 @@ def main():
                 wrong += [f"{name} is not refused in {language}" for language in MADE if made(language, path).returncode == 0]
             else:
                 wrong += of_small(path)
+    with open(os.path.join(TOP, "VERSION"), encoding="utf-8") as file, open(os.path.join(TOP, "rust/flasknib/Cargo.toml"), encoding="utf-8") as crate:
+        if f'\nversion = "{file.read().strip()}"\n' not in crate.read():
+            wrong.append("rust/flasknib/Cargo.toml has another version than VERSION")
     for line in wrong:
         print("declarations: FAILED,", line)
     if not wrong:

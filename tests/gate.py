@@ -75,11 +75,11 @@ case " $* " in *" tests/$BROKEN/main.rs "*) exit 1 ;; esac
 printf '#!/bin/sh\\necho built' >"$out" && chmod +x "$out"
 """
 RT = 'case $1 in check) exit "$CHECK" ;; staticlib) echo built >target/staticlib/libcapi.a; exit "$LIBRARY" ;; esac\n'
-OVER_PROGRAMS = {"program", "tables", "faults", "installation", "tools"}
-OVER_LIBRARY = {"compare", "header", "languages", "capture", "dissector", "received", "examples", "installation", "tools"}
+OVER_PROGRAMS = {"program", "tables", "faults", "installation", "wheel", "tools"}
+OVER_LIBRARY = {"compare", "header", "languages", "capture", "dissector", "received", "examples", "rust", "package", "installation", "wheel", "tools"}
 # What fails (rustc is missing, the source of a part, the programs, the library), and the parts that must fail for it.
 FAILING = {
-    "no compiler": (None, 0, 0, {"program", "tables", "compare", "header", "capture", "dissector", "received", "examples"}),
+    "no compiler": (None, 0, 0, {"program", "tables", "compare", "header", "capture", "dissector", "received", "examples", "rust"}),
     "a test that does not compile": ("compare", 0, 0, {"compare", "header"}),
     "programs that are not proved": ("nothing", 1, 0, OVER_PROGRAMS),
     "a library that is not proved": ("nothing", 0, 1, OVER_LIBRARY),
@@ -88,7 +88,8 @@ FAILING = {
 
 def left(tree):
     """What an earlier run left, each file of which tells where it is run."""
-    for name in "program compare capture received count breaker answer count_rust libmodel.rlib libdraw.rlib compare.table capture.lines".split():
+    built = "program compare capture received count breaker answer count_rust rust libmodel.rlib libdraw.rlib libflasknib.rlib"
+    for name in [*built.split(), "compare.table", "capture.lines"]:
         script(tree.top / "target/tests" / name, f"echo {name} >>\"$RAN\"\n")
     for name in ("ecntable", "ecnforms", "ecnstreams", "ecnlabel", "ecnsalvage"):
         script(tree.top / "target/bin" / name, f"echo {name} >>\"$RAN\"\n")

@@ -2,7 +2,7 @@
 """tests/prototypes.py: every function of the C library is declared as its source has it, wherever it is declared.
 
 The source is each `pub extern "C" fn` of crates/capi. Declarations stand in include/flasknib.h; made from it by packaging/declarations, in the package in
-Python; and, by hand, in the comparison, the benchmarks and the examples in Rust and Python. Result, order, types, constness and names of the parameters are compared; a slice is a pointer, to const unless it is `&mut`,
+Python and the crate in Rust; and, by hand, in the benchmarks and the examples in Python. Result, order, types, constness and names of the parameters are compared; a slice is a pointer, to const unless it is `&mut`,
 and the count behind it. Two rules on names: what the source calls `words` is called by its record elsewhere (`source`, `sources`, `forms`, `upload`); and the
 count behind a pointer is `words` or `NAME_words`, of bytes `length` or `NAME_length`, of the lists of an arrivals block `n_NAME`, of `out` always `room`.
 The manual page has each function once under RETURN VALUE, beside others with its result. Copies are then broken in several ways, and each must be found.
@@ -15,7 +15,7 @@ import sys
 
 TOP = os.path.dirname(os.path.dirname(os.path.abspath(__file__)))
 HEADER, MANUAL, CALLER, FEEDER = "include/flasknib.h", "man/flasknib.3", "examples/count.c", "examples/feed.c"
-COMPARED, EXAMPLE, TIMED = "tests/compare/library.rs", "examples/rust/flasknib.rs", "bench/library.rs"
+CRATE, TIMED = "rust/flasknib/src/header.rs", "bench/library.rs"
 SCRIPT, FED, PACKAGE = "examples/count.py", "examples/feed.py", "python/flasknib/header.py"
 
 C_TYPES = {f"{sign}int{bits}_t": f"{'u' if sign else 'i'}{bits}" for sign in ("u", "") for bits in (8, 16, 32, 64)} | {"size_t": "usize"}
@@ -30,7 +30,7 @@ def texts():
     """The files that are compared, by their names."""
     names = [os.path.relpath(path, TOP) for path in glob.glob(os.path.join(TOP, "crates/capi/src/*.rt"))]
     found = {}
-    for name in [*names, HEADER, MANUAL, CALLER, FEEDER, COMPARED, EXAMPLE, TIMED, SCRIPT, FED, PACKAGE]:
+    for name in [*names, HEADER, MANUAL, CALLER, FEEDER, CRATE, TIMED, SCRIPT, FED, PACKAGE]:
         with open(os.path.join(TOP, name), encoding="utf-8") as file:
             found[name] = file.read()
     return found
@@ -170,7 +170,7 @@ def same_in_package(found, wanted):
 def undeclared(files, header):
     """Functions that a file lacks, or has too many."""
     called, fed = (set(re.findall(r"\bflasknib_\w+(?=\()", files[file])) for file in (CALLER, FEEDER))
-    wanted = {COMPARED: set(header), EXAMPLE: called, TIMED: set(in_rust(files[TIMED])) & set(header), SCRIPT: called, FED: fed, PACKAGE: set(header)}
+    wanted = {CRATE: set(header), TIMED: set(in_rust(files[TIMED])) & set(header), SCRIPT: called, FED: fed, PACKAGE: set(header)}
     readers = {SCRIPT: in_python, FED: in_python, PACKAGE: in_package}
     for file, names in wanted.items():
         there = set(readers.get(file, in_rust)(files[file]))
@@ -180,7 +180,7 @@ def undeclared(files, header):
 
 def different(files, header):
     """Declarations that are not the header's."""
-    for file in (COMPARED, EXAMPLE, TIMED):
+    for file in (CRATE, TIMED):
         for name, declared in in_rust(files[file]).items():
             if name in header and declared != header[name]:
                 yield f"{file}: {name} is {shown(declared)}, and in the header {shown(header[name])}"
@@ -278,7 +278,7 @@ def broken(files, file, change):
 def copies(files):
     """(name, broken copy) of each way of breaking one. Of the benchmarks none is gone: they declare what they time."""
     source = next(name for name in files if name.endswith(".rt") and FUNCTION in files[name])
-    ways = {HEADER: IN_C, source: IN_RATTLE, COMPARED: IN_RUST, EXAMPLE: IN_RUST, TIMED: IN_RUST, SCRIPT: IN_PYTHON, FED: IN_FED, MANUAL: IN_MANUAL}
+    ways = {HEADER: IN_C, source: IN_RATTLE, CRATE: IN_RUST, TIMED: IN_RUST, SCRIPT: IN_PYTHON, FED: IN_FED, MANUAL: IN_MANUAL}
     ways[PACKAGE] = IN_PACKAGE
     for file, changes in ways.items():
         for what, change in changes.items():

@@ -1,31 +1,13 @@
-//! examples/count.c in Rust: the same calls, the same output.
-//! Build: rustc --edition 2021 examples/rust/count.rs -L target/lib -l static=flasknib
-mod flasknib;
-
-use flasknib::{write_head, Arrival, Refused, Source, Written};
+//! examples/count.c in Rust, over the crate in rust/flasknib: the same calls, the same output.
+//! Build: rustc --edition 2021 --crate-name flasknib --crate-type rlib rust/flasknib/src/lib.rs -o libflasknib.rlib
+//!        rustc --edition 2021 examples/rust/count.rs --extern flasknib=libflasknib.rlib -L target/lib -l static=flasknib
+use flasknib::{head_line, Arrival, Refusal, Refused, Source};
 
 const LABEL: &[u8] = b"probe 2, left";
 const MEDIA: u32 = 1;
 const SENDER: u32 = 9;
 const ARRIVALS: [(u16, u8); 5] = [(65534, 2), (65535, 2), (0, 3), (0, 3), (3, 1)];
 const REBOOTED: [u8; 12] = [0x75, 0x30, 2, 0, 0x75, 0x31, 2, 0, 0x75, 0x32, 3, 0]; // 30000, 30001, 30002, in records of 4 bytes, big-endian
-
-/// The bytes that a writer writes in as much room as it asks for.
-fn written(mut write: impl FnMut(&mut [u8]) -> Written) -> Result<Vec<u8>, Refused> {
-    let mut out = match write(&mut []) {
-        Written::Room(size) => vec![0; size],
-        Written::Length(_) => return Ok(vec![]), // nothing to write
-        Written::Refused(refusal) => return Err(refusal),
-    };
-    match write(&mut out) {
-        Written::Length(length) => {
-            out.truncate(length);
-            Ok(out)
-        }
-        Written::Room(_) => Err(Refused(12)),
-        Written::Refused(refusal) => Err(refusal),
-    }
-}
 
 fn print_words(name: &str, bytes: &[u8]) {
     let words: Vec<String> = bytes.chunks(4).map(|word| word.iter().map(|byte| format!("{byte:02X}")).collect()).collect();
@@ -42,37 +24,36 @@ fn run() -> Result<(), Refused> {
 
     for (wire, mark) in ARRIVALS {
         match source.arrive(wire, mark)? {
-            Arrival::Accepted => {}
+            Arrival::Counted => {}
             Arrival::Jump => jumped += 1,
             Arrival::Restarted => restarts += 1,
         }
     }
 
-    println!("highest {}", source.word(Source::HIGHEST) as i64);
-    let places =
-        [("ECT(0)", Source::ECT0), ("ECT(1)", Source::ECT1), ("CE", Source::CE), ("not-ECT", Source::NOT_ECT), ("duplicates", Source::DUPLICATES)];
-    for (name, place) in places {
-        println!("{name} {}", source.word(place));
+    println!("highest {}", source.highest());
+    let counts = [("ECT(0)", source.ect0()), ("ECT(1)", source.ect1()), ("CE", source.ce()), ("not-ECT", source.not_ect())];
+    for (name, count) in counts.into_iter().chain([("duplicates", source.duplicates())]) {
+        println!("{name} {count}");
     }
 
-    print_words("feedback", &written(|out| source.write_feedback(SENDER, MEDIA, out))?);
-    print_words("summary", &written(|out| source.write_summary(MEDIA, out))?);
-    if let Written::Room(size) = source.write_row(LABEL, MEDIA, jumped, restarts, &mut []) {
-        println!("row in 0 bytes: refused 12, {size} bytes");
+    print_words("feedback", &source.feedback(SENDER, MEDIA)?);
+    print_words("summary", &source.summary(MEDIA)?);
+    match source.row_into(LABEL, MEDIA, jumped, restarts, &mut []) {
+        Err(Refused { refusal: Refusal::Room, size: Some(size), .. }) => println!("row in 0 bytes: refused 12, {size} bytes"),
+        Err(refused) => return Err(refused),
+        Ok(_) => {}
     }
-    print_text(&written(write_head)?);
-    print_text(&written(|out| source.write_row(LABEL, MEDIA, jumped, restarts, out))?);
+    print_text(&head_line());
+    print_text(&source.row(LABEL, MEDIA, jumped, restarts)?);
 
-    let (jumps, new) = source.count_block(&REBOOTED, 4)?;
-    jumped += jumps;
-    restarts += new;
-    print_text(&written(|out| source.write_row(LABEL, MEDIA, jumped, restarts, out))?);
+    let counted = source.count_block(&REBOOTED, 4)?;
+    print_text(&source.row(LABEL, MEDIA, jumped + counted.jumps, restarts + counted.restarts)?);
     Ok(())
 }
 
 fn main() {
-    if let Err(Refused(number)) = run() {
-        eprintln!("refused {number}");
+    if let Err(refused) = run() {
+        eprintln!("{refused}");
         std::process::exit(1);
     }
 }
