@@ -22,6 +22,8 @@ import tempfile
 import textwrap
 import threading
 import tracemalloc
+import types
+import typing
 import unittest
 from array import array
 
@@ -676,6 +678,19 @@ class Whole(Tried):
         self.assertEqual(flasknib.__version__, (TOP / "VERSION").read_text().strip())
         for name in flasknib.__all__:
             self.assertTrue(getattr(flasknib, name).__doc__, name)
+
+    def test_hints(self):
+        """Each argument and each answer of what is public has a type, and the names of the types are there."""
+        seen = 0
+        for name in flasknib.__all__:
+            thing = getattr(flasknib, name)
+            members = [each for each in vars(thing).values() if isinstance(each, types.FunctionType)] if isinstance(thing, type) else [thing]
+            for each in members:
+                if isinstance(each, types.FunctionType) and each.__module__.startswith("flasknib"):
+                    wanted = {*each.__code__.co_varnames[: each.__code__.co_argcount + each.__code__.co_kwonlyargcount], "return"} - {"self", "cls"}
+                    self.assertEqual(set(typing.get_type_hints(each)) - {"self", "cls"}, wanted, each)
+                    seen += 1
+        self.assertGreater(seen, 60)
 
     def ran(self, library, text="import flasknib") -> subprocess.CompletedProcess:
         environment = {name: value for name, value in os.environ.items() if not name.startswith("PYTHON")}

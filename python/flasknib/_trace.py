@@ -8,7 +8,7 @@ from ._lend import Buffer
 BLOCK = header.BLOCK_BYTES
 STRETCH = 128 * BLOCK  # bytes that are taken at a time
 
-Trace = Union[str, "os.PathLike[str]", Buffer, BinaryIO]
+Trace = Union[str, os.PathLike[str], Buffer, BinaryIO]
 
 
 def stretches(trace: Trace) -> Iterator[memoryview]:

@@ -25,7 +25,7 @@ class Refused(Exception):
     1 INCOMPLETE - empty input, a header cut off, not one whole block
     """
 
-    def __init__(self, number: int, size: Optional[int] = None, block: Optional[int] = None, table: bytes = b""):
+    def __init__(self, number: int, size: Optional[int] = None, block: Optional[int] = None, table: bytes = b"") -> None:
         super().__init__(number, size, block, table)
         self.number, self.size, self.block, self.table = number, size, block, table
         self.name, self.text = header.REFUSALS.get(number, ("UNKNOWN", "a refusal that this package does not know"))

@@ -1,9 +1,10 @@
 """Compound RTCP: what a packet reports about a source, and what came between two reports."""
 import enum
-from typing import NamedTuple, Optional, Tuple
+from operator import itemgetter
+from typing import Callable, Iterable, NamedTuple, Optional, Sequence, Tuple
 
 from . import header
-from ._lend import Buffer, Words, u64
+from ._lend import Buffer, u64
 from ._state import signed
 from .header import lost_since, since16, since32  # noqa: F401
 from .refusals import accepted
@@ -72,21 +73,26 @@ class Compound(NamedTuple):
     words: Tuple[int, ...]
 
 
-def fields(words: Words, record: str, names: Tuple[str, ...]) -> Tuple[int, ...]:
-    """The words of a report by their names in the header."""
-    return tuple(words[getattr(header, f"COMPOUND_{record}_{name.upper()}")] for name in names)
+def places(record: str, names: Iterable[str]) -> Callable[[Sequence[int]], Tuple[int, ...]]:
+    """Takes the words of a report by their names in the header."""
+    return itemgetter(*(getattr(header, f"COMPOUND_{record}_{name.upper()}") for name in names))
 
 
-def compound_of(words: Words) -> Compound:
+of_report = places("REPORT", ReportBlock._fields)
+of_feedback = places("FEEDBACK", Feedback._fields)
+of_summary = places("SUMMARY", Summary._fields)
+
+
+def compound_of(words: Tuple[int, ...]) -> Compound:
     report = feedback = summary = None
     if words[header.COMPOUND_REPORT]:
-        report = ReportBlock(*fields(words, "REPORT", ReportBlock._fields))
+        report = ReportBlock(*of_report(words))
         report = report._replace(lost=signed(report.lost))
     if words[header.COMPOUND_FEEDBACK]:
-        feedback = Feedback(*fields(words, "FEEDBACK", Feedback._fields))
+        feedback = Feedback(*of_feedback(words))
     if words[header.COMPOUND_SUMMARY]:
-        summary = Summary(*fields(words, "SUMMARY", Summary._fields))
-    return Compound(report, feedback, summary, bool(words[header.COMPOUND_SR_OR_RR]), tuple(words))
+        summary = Summary(*of_summary(words))
+    return Compound(report, feedback, summary, bool(words[header.COMPOUND_SR_OR_RR]), words)
 
 
 def read_compound(packet: Buffer, media: int, profile: int = Profile.REDUCED_SIZE) -> Compound:
@@ -104,7 +110,7 @@ def read_compound(packet: Buffer, media: int, profile: int = Profile.REDUCED_SIZ
     """
     found = (u64 * header.COMPOUND_WORDS)()
     accepted(header.read_compound(packet, media, profile, found))
-    return compound_of(found)
+    return compound_of(tuple(found))
 
 
 def ecn_between(later: Feedback, earlier: Feedback) -> Between:
