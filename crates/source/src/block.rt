@@ -2,7 +2,7 @@
 use crate::Arrival;
 use crate::BlockCount;
 use crate::Source;
-use crate::step::step;
+use crate::step_again;
 use format::Wire;
 use format::block::BEHIND_TIME;
 use format::block::MOST_RECORDS;
@@ -104,7 +104,7 @@ pub fn count(s: Source, records: &[u8], width: usize) -> BlockCount
         let place = at + width - BEHIND_TIME;
         let number = join16(records[place], records[place + 1]);
         let mark = records[place + 2];
-        let answer = step(next, Wire(number), mark);
+        let answer = step_again::step(next, Wire(number), mark);
         next = after(answer);
         jumps += jump(answer);
         restarts += restart(answer);

@@ -15,6 +15,7 @@ mod restarts;
 mod sequence;
 mod soundness;
 mod step;
+mod step_again;
 
 use answers::Refusal;
 use format::Wire;
@@ -115,6 +116,19 @@ impl Source {
             return Arrival::Refused(Refusal::Limits, self);
         }
         step::step(self, wire, mark)
+    }
+
+    // Counts one arrival, as `arrive` does: the call for a record that stands in a table.
+    pub fn arrive_in_table(self, wire: Wire, mark: u8) -> Arrival
+        ensures { λ r. ⌜ r ≡ arrival self wire mark ⌝ }
+    {
+        if !soundness::is_sound(self) {
+            return Arrival::Refused(Refusal::Malformed, self);
+        }
+        if 3 < mark {
+            return Arrival::Refused(Refusal::Limits, self);
+        }
+        step_again::step(self, wire, mark)
     }
 
     // Counts the arrivals of one block in order, going on after a jump and when full: `records` holds 1 to 62 records of `width` bytes, the

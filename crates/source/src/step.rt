@@ -18,7 +18,7 @@ ghost use Rattle.source.specs.Record.{arrivals, hasCounted, sound};
 ghost use Rattle.source.specs.Arrivals.{ahead, behind, later, arrival};
 
 // An arrival d numbers above the highest.
-fn ahead(s: Source, d: u64, mark: u8) -> Source
+pub fn ahead(s: Source, d: u64, mark: u8) -> Source
     requires { ⌜ (hasCounted s ≡ true) × (arrivals s < 2 ^ 48) × (1 ≤ d) × (d < 65536) ⌝ }
     ensures { λ r. ⌜ r ≡ ahead s d mark ⌝ }
 {
@@ -31,7 +31,7 @@ fn ahead(s: Source, d: u64, mark: u8) -> Source
 }
 
 // An arrival k numbers below the highest.
-fn behind(s: Source, k: u64, mark: u8) -> Source
+pub fn behind(s: Source, k: u64, mark: u8) -> Source
     requires { ⌜ (hasCounted s ≡ true) × (arrivals s < 2 ^ 48) × (k < 100) ⌝ }
     ensures { λ r. ⌜ r ≡ behind s k mark ⌝ }
 {
