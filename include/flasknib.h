@@ -50,29 +50,40 @@ extern "C" {
  * what another uses, so with a record to each thread. Of the C library it uses memcpy and its like, and nothing else.
  */
 
-/* Refusals. */
+/* Refusals, each with the text that flasknib_refusal_text writes. 7 stores in the record the number that would follow the jump. 11 is given to a
+ * report that is not later than the last report or start, or earlier than a heard packet, and to a tick or a heard packet earlier than these. Where
+ * bytes are written, 12 comes with their number. Only the converter of forms gives 17, and only flasknib_write_label 19.
+ */
 enum {
-    FLASKNIB_REFUSAL_INCOMPLETE = 1,   /* empty input, a header cut off, not one whole block */
+    FLASKNIB_REFUSAL_INCOMPLETE = 1,   /* the input is empty, or ends in the middle of a block or a header */
     FLASKNIB_REFUSAL_VERSION = 2,      /* the version in an RTCP header is not 2 */
     FLASKNIB_REFUSAL_FIRST_PACKET = 3, /* the first packet is no SR or RR */
     FLASKNIB_REFUSAL_PACKET_SIZE = 4,  /* a packet passes the end, or does not have its body's size */
     FLASKNIB_REFUSAL_PADDING = 5,      /* the padding is wrong, or not in the last packet */
     FLASKNIB_REFUSAL_BLOCK_SIZE = 6,   /* an XR block passes its packet */
-    FLASKNIB_REFUSAL_JUMP = 7,         /* the sequence number jumps; the record remembers the number that would follow it */
+    FLASKNIB_REFUSAL_JUMP = 7,         /* the sequence number is too far from the highest: a jump */
     FLASKNIB_REFUSAL_FULL = 8,         /* 2^48 arrivals are counted */
-    FLASKNIB_REFUSAL_MALFORMED = 9,    /* a record is malformed: what that is stands with its layout */
-    FLASKNIB_REFUSAL_LIMITS = 10,      /* an argument outside its limits: a number, a label, records, a compound's size */
-    FLASKNIB_REFUSAL_TIME = 11,        /* a report not later than the last report or start, or earlier than a heard packet; a tick or a heard
-                                        * packet earlier than these */
-    FLASKNIB_REFUSAL_ROOM = 12,        /* the output is too small; where bytes are written, the answer has their number, the size */
-    FLASKNIB_REFUSAL_CHECKSUM = 13,    /* a block's checksum */
-    FLASKNIB_REFUSAL_CONTENTS = 14,    /* a block's contents, or a block of another kind, form or SSRC than its place wants */
-    FLASKNIB_REFUSAL_PLACES = 15,      /* a new SSRC, and every place of the table is held */
-    FLASKNIB_REFUSAL_RULES = 16,       /* a table against its rules */
-    FLASKNIB_REFUSAL_FORM_TWO = 17,    /* a time needs form 2: given only by the converter of forms */
-    FLASKNIB_REFUSAL_ATTRIBUTE = 18,   /* the line of an attribute is malformed */
-    FLASKNIB_REFUSAL_RETIRED = 19      /* a new label has a retired byte, 10 or 13: only flasknib_write_label gives it */
+    FLASKNIB_REFUSAL_MALFORMED = 9,    /* the record is malformed */
+    FLASKNIB_REFUSAL_LIMITS = 10,      /* a number, a label, records or a size is outside the limits */
+    FLASKNIB_REFUSAL_TIME = 11,        /* the time is earlier than a call before it allows */
+    FLASKNIB_REFUSAL_ROOM = 12,        /* the output is too small */
+    FLASKNIB_REFUSAL_CHECKSUM = 13,    /* the block's checksum does not fit */
+    FLASKNIB_REFUSAL_CONTENTS = 14,    /* the block breaks the format, or has a wrong kind, form or SSRC for its place */
+    FLASKNIB_REFUSAL_PLACES = 15,      /* a source is new, and every place of the table is held (at most 16) */
+    FLASKNIB_REFUSAL_RULES = 16,       /* the table breaks its rules, or has over 16 places */
+    FLASKNIB_REFUSAL_FORM_TWO = 17,    /* a time of 2^32 ms or more needs form 2 */
+    FLASKNIB_REFUSAL_ATTRIBUTE = 18,   /* the attribute is malformed */
+    FLASKNIB_REFUSAL_RETIRED = 19      /* a new label has a retired byte, 10 or 13 */
 };
+
+/* The version of the library that is linked: 65,536 * major + 256 * minor + patch. */
+#define FLASKNIB_VERSION (65536 * FLASKNIB_VERSION_MAJOR + 256 * FLASKNIB_VERSION_MINOR + FLASKNIB_VERSION_PATCH)
+uint32_t flasknib_version(void);
+
+/* Writes what a refusal means, one sentence in ASCII, not ended by a zero byte. Gives its length, or minus a refusal: 10 a number that is no
+ * refusal's (1 to 19), 12. */
+#define FLASKNIB_REFUSAL_TEXT_MOST_BYTES 80
+int64_t flasknib_refusal_text(uint8_t number, uint8_t *out, size_t room);
 
 /* ---- what a writer answers -------------------------------------------------------------------------------------------------------
  * The functions that write bytes (those with `out`) give the length, the number of bytes that they wrote, or minus a refusal's number. Refusal 12

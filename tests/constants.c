@@ -398,6 +398,21 @@ static int asks(int64_t answer, size_t size)
     return FLASKNIB_WRITE_REFUSAL(answer) == FLASKNIB_REFUSAL_ROOM && FLASKNIB_WRITE_SIZE(answer) == size;
 }
 
+/* Each refusal has a text, and no other number has one. */
+static void texts(void)
+{
+    uint8_t out[FLASKNIB_REFUSAL_TEXT_MOST_BYTES];
+
+    CHECK(flasknib_version() == FLASKNIB_VERSION);
+    for (int number = FLASKNIB_REFUSAL_INCOMPLETE; number <= FLASKNIB_REFUSAL_RETIRED; number++) {
+        int64_t length = flasknib_refusal_text((uint8_t)number, out, sizeof out);
+        CHECK(length > 0);
+        CHECK(asks(flasknib_refusal_text((uint8_t)number, out, 0), (size_t)length));
+    }
+    CHECK(flasknib_refusal_text(0, out, sizeof out) == -FLASKNIB_REFUSAL_LIMITS);
+    CHECK(flasknib_refusal_text(FLASKNIB_REFUSAL_RETIRED + 1, out, sizeof out) == -FLASKNIB_REFUSAL_LIMITS);
+}
+
 static void sizes(void)
 {
     uint8_t out[1], zeroth[FLASKNIB_BLOCK_BYTES], label[FLASKNIB_LABEL_MOST_BYTES];
@@ -654,6 +669,7 @@ int main(void)
     breaker_words();
     stops();
     blocks();
+    texts();
     sizes();
     tables();
     lost_words();

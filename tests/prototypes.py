@@ -40,7 +40,7 @@ def texts():
 
 
 def split(parameters):
-    return [part for part in re.split(r",\s*", parameters.strip()) if part]
+    return [part for part in re.split(r",\s*", parameters.strip()) if part not in ("", "void")]
 
 
 def c_parameter(text):

@@ -34,6 +34,8 @@ REFUSAL_RULES = 16
 REFUSAL_FORM_TWO = 17
 REFUSAL_ATTRIBUTE = 18
 REFUSAL_RETIRED = 19
+VERSION = 512
+REFUSAL_TEXT_MOST_BYTES = 80
 SOURCE_WORDS = 10
 SOURCE_BASE = 0
 SOURCE_HIGHEST = 1
@@ -219,26 +221,45 @@ LINE_RESTARTS = 12
 
 # The refusals: name and text of each.
 REFUSALS = {
-    1: ('INCOMPLETE', 'empty input, a header cut off, not one whole block'),
+    1: ('INCOMPLETE', 'the input is empty, or ends in the middle of a block or a header'),
     2: ('VERSION', 'the version in an RTCP header is not 2'),
     3: ('FIRST_PACKET', 'the first packet is no SR or RR'),
     4: ('PACKET_SIZE', "a packet passes the end, or does not have its body's size"),
     5: ('PADDING', 'the padding is wrong, or not in the last packet'),
     6: ('BLOCK_SIZE', 'an XR block passes its packet'),
-    7: ('JUMP', 'the sequence number jumps; the record remembers the number that would follow it'),
+    7: ('JUMP', 'the sequence number is too far from the highest: a jump'),
     8: ('FULL', '2^48 arrivals are counted'),
-    9: ('MALFORMED', 'a record is malformed: what that is stands with its layout'),
-    10: ('LIMITS', "an argument outside its limits: a number, a label, records, a compound's size"),
-    11: ('TIME', 'a report not later than the last report or start, or earlier than a heard packet; a tick or a heard packet earlier than these'),
-    12: ('ROOM', 'the output is too small; where bytes are written, the answer has their number, the size'),
-    13: ('CHECKSUM', "a block's checksum"),
-    14: ('CONTENTS', "a block's contents, or a block of another kind, form or SSRC than its place wants"),
-    15: ('PLACES', 'a new SSRC, and every place of the table is held'),
-    16: ('RULES', 'a table against its rules'),
-    17: ('FORM_TWO', 'a time needs form 2: given only by the converter of forms'),
-    18: ('ATTRIBUTE', 'the line of an attribute is malformed'),
-    19: ('RETIRED', 'a new label has a retired byte, 10 or 13: only flasknib_write_label gives it'),
+    9: ('MALFORMED', 'the record is malformed'),
+    10: ('LIMITS', 'a number, a label, records or a size is outside the limits'),
+    11: ('TIME', 'the time is earlier than a call before it allows'),
+    12: ('ROOM', 'the output is too small'),
+    13: ('CHECKSUM', "the block's checksum does not fit"),
+    14: ('CONTENTS', 'the block breaks the format, or has a wrong kind, form or SSRC for its place'),
+    15: ('PLACES', 'a source is new, and every place of the table is held (at most 16)'),
+    16: ('RULES', 'the table breaks its rules, or has over 16 places'),
+    17: ('FORM_TWO', 'a time of 2^32 ms or more needs form 2'),
+    18: ('ATTRIBUTE', 'the attribute is malformed'),
+    19: ('RETIRED', 'a new label has a retired byte, 10 or 13'),
 }
+
+_version = bind("flasknib_version", u32)
+
+
+def version() -> int:
+    """The version of the library that is linked: 65,536 * major + 256 * minor + patch."""
+    return _version()
+
+
+_refusal_text = bind("flasknib_refusal_text", i64, u8, memory, usize)
+
+
+def refusal_text(number: int, out: Buffer) -> int:
+    """Writes what a refusal means, one sentence in ASCII, not ended by a zero byte. Gives its length, or
+    minus a refusal: 10 a number that is no refusal's (1 to 19), 12."""
+    number = fits(number, u8)
+    lent_out = written(out)
+    return _refusal_text(number, lent_out, len(lent_out))
+
 
 _arrive = bind("flasknib_arrive", u8, pointer(u64), usize, u16, u8)
 

@@ -35,6 +35,8 @@ pub trait Calls {
     fn write_head(&self, out: &mut [u8]) -> i64;
     fn write_row(&self, label: &[u8], ssrc: u32, source: &[u64], jumped: u64, restarts: u64, out: &mut [u8]) -> i64;
     fn write_refused(&self, number: u8, block: u64, out: &mut [u8]) -> i64;
+    fn version(&self) -> u32;
+    fn refusal_text(&self, number: u8, out: &mut [u8]) -> i64;
     fn run_start(&self, zeroth: &[u8], run: &mut [u64]) -> u8;
     fn run_block(&self, run: &mut [u64], zeroth: &[u8], block: &[u8], out: &mut [u8]) -> i64;
     fn forms_start(&self, zeroth: &[u8], forms: &mut [u64], out: &mut [u8]) -> i64;
@@ -70,7 +72,7 @@ pub const REFUSED: u16 = 0x200;
 
 /// Every function with every answer it can give; a length counts as 0, a writer's 12 with any size as -12, a fed block's refusal with any length as minus its
 /// number, of a difference its sign, and of a block's jumps and restarts and of a label's retired bytes whether there are any.
-pub const FUNCTIONS: [(&str, &[i64]); 44] = [
+pub const FUNCTIONS: [(&str, &[i64]); 46] = [
     ("flasknib_arrive", &[0, 7, 8, 9, 10, 128]),
     ("flasknib_count_block", &[0, 1, 256, 257, -9, -10]),
     ("flasknib_lost", &[0, 9, 12]),
@@ -105,6 +107,8 @@ pub const FUNCTIONS: [(&str, &[i64]); 44] = [
     ("flasknib_write_head", &[0, -12]),
     ("flasknib_write_row", &[0, -9, -10, -12]),
     ("flasknib_write_refused", &[0, -12]),
+    ("flasknib_version", &[512]),
+    ("flasknib_refusal_text", &[0, -10, -12]),
     ("flasknib_run_start", &[0, 1, 12, 13, 14]),
     ("flasknib_run_block", &[0, -1, -9, -12, -13, -14]),
     ("flasknib_forms_start", &[0, -1, -9, -12, -13, -14]),

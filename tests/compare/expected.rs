@@ -11,7 +11,7 @@ use model::refusal::{put, require, Refusal, Written, JUMP, LIMITS, MALFORMED, RO
 use model::source::{count_block, Counted, Source};
 use model::streams::Table;
 use model::trace::{arrivals_block, records_block, Contents, Form, Record};
-use model::{compound, forms, report, salvage, sdp, streams, table, trace};
+use model::{compound, forms, refusal, report, salvage, sdp, streams, table, trace};
 
 pub struct Expected;
 
@@ -260,6 +260,16 @@ impl Calls for Expected {
     fn write_row(&self, label: &[u8], ssrc: u32, words: &[u64], jumped: u64, restarts: u64, out: &mut [u8]) -> i64 {
         let row = Source::from_words(words).and_then(|source| table::row(label, ssrc, &source, jumped, restarts));
         length(put(row, out))
+    }
+
+    /// That of the file VERSION.
+    fn version(&self) -> u32 {
+        let numbers: Vec<u32> = include_str!("../../VERSION").trim().split('.').map(|each| each.parse().expect("a number")).collect();
+        65_536 * numbers[0] + 256 * numbers[1] + numbers[2]
+    }
+
+    fn refusal_text(&self, number: u8, out: &mut [u8]) -> i64 {
+        length(put(refusal::text(number), out))
     }
 
     fn write_refused(&self, number: u8, block: u64, out: &mut [u8]) -> i64 {

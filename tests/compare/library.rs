@@ -142,6 +142,14 @@ impl Calls for Library {
         header::write_row(label, ssrc, source, jumped, restarts, out)
     }
 
+    fn version(&self) -> u32 {
+        header::version()
+    }
+
+    fn refusal_text(&self, number: u8, out: &mut [u8]) -> i64 {
+        header::refusal_text(number, out)
+    }
+
     fn write_refused(&self, number: u8, block: u64, out: &mut [u8]) -> i64 {
         header::write_refused(number, block, out)
     }

@@ -1,5 +1,5 @@
 //! What needs no state of its own: flasknib_lost, flasknib_since16, flasknib_since32, flasknib_lost_since, flasknib_breaker_start_preset,
-//! flasknib_record_at and flasknib_write_refused.
+//! flasknib_record_at, flasknib_write_refused, flasknib_version and flasknib_refusal_text.
 use crate::compare::Compare;
 use crate::lent::Lent;
 use draw::{blocks, sources, Draw};
@@ -12,6 +12,7 @@ pub fn calls(compare: &Compare, draw: &Draw) {
         differences(compare, draw);
         record_at(compare, draw);
         write_refused(compare, draw);
+        refusal_text(compare, draw);
     }
     for _ in 0..5_000 {
         let mut words = Lent::new(&vec![draw.u64(); draw.room(breaker::WORDS)]);
@@ -56,6 +57,16 @@ fn record_at(compare: &Compare, draw: &Draw) {
     compare.call("flasknib_record_at", &mut lent, |calls, (block, found)| {
         i64::from(calls.record_at(block.part(), index, found.part_mut()))
     });
+}
+
+/// The version, and the texts of numbers around those that have one.
+fn refusal_text(compare: &Compare, draw: &Draw) {
+    compare.call("flasknib_version", &mut (), |calls, _| i64::from(calls.version()));
+    let number = draw.edge(0, 20) as u8;
+    for room in draw.rooms(model::refusal::text(number).map_or(0, str::len)) {
+        let mut out = Lent::new(&draw.bytes(room));
+        compare.call("flasknib_refusal_text", &mut out, |calls, out| calls.refusal_text(number, out.part_mut()));
+    }
 }
 
 fn write_refused(compare: &Compare, draw: &Draw) {

@@ -41,6 +41,34 @@ pub fn require(holds: bool, refusal: Refusal) -> Result<(), Refusal> {
     }
 }
 
+/// What each number means, as the header says.
+const TEXTS: [&str; 19] = [
+    "the input is empty, or ends in the middle of a block or a header",
+    "the version in an RTCP header is not 2",
+    "the first packet is no SR or RR",
+    "a packet passes the end, or does not have its body's size",
+    "the padding is wrong, or not in the last packet",
+    "an XR block passes its packet",
+    "the sequence number is too far from the highest: a jump",
+    "2^48 arrivals are counted",
+    "the record is malformed",
+    "a number, a label, records or a size is outside the limits",
+    "the time is earlier than a call before it allows",
+    "the output is too small",
+    "the block's checksum does not fit",
+    "the block breaks the format, or has a wrong kind, form or SSRC for its place",
+    "a source is new, and every place of the table is held (at most 16)",
+    "the table breaks its rules, or has over 16 places",
+    "a time of 2^32 ms or more needs form 2",
+    "the attribute is malformed",
+    "a new label has a retired byte, 10 or 13",
+];
+
+/// The text of a number; 10 for one that has none.
+pub fn text(number: u8) -> Result<&'static str, Refusal> {
+    usize::from(number).checked_sub(1).and_then(|i| TEXTS.get(i)).copied().ok_or(LIMITS)
+}
+
 /// What a writer answers.
 #[derive(Clone, Copy, Debug, PartialEq)]
 pub enum Written {

@@ -1,4 +1,5 @@
 pub mod Codes
+pub mod About
 pub mod Sources
 pub mod CompoundCalls
 pub mod BreakerCalls

@@ -27,6 +27,8 @@ pub const REFUSAL_RULES: usize = 16;
 pub const REFUSAL_FORM_TWO: usize = 17;
 pub const REFUSAL_ATTRIBUTE: usize = 18;
 pub const REFUSAL_RETIRED: usize = 19;
+pub const VERSION: usize = 512;
+pub const REFUSAL_TEXT_MOST_BYTES: usize = 80;
 pub const SOURCE_WORDS: usize = 10;
 pub const SOURCE_BASE: usize = 0;
 pub const SOURCE_HIGHEST: usize = 1;
@@ -214,7 +216,7 @@ pub const LINE_RESTARTS: usize = 12;
 #[derive(Clone, Copy, Debug, PartialEq, Eq, Hash, PartialOrd, Ord)]
 #[repr(u8)]
 pub enum Refusal {
-    /// empty input, a header cut off, not one whole block
+    /// the input is empty, or ends in the middle of a block or a header
     Incomplete = 1,
     /// the version in an RTCP header is not 2
     Version = 2,
@@ -226,61 +228,62 @@ pub enum Refusal {
     Padding = 5,
     /// an XR block passes its packet
     BlockSize = 6,
-    /// the sequence number jumps; the record remembers the number that would follow it
+    /// the sequence number is too far from the highest: a jump
     Jump = 7,
     /// 2^48 arrivals are counted
     Full = 8,
-    /// a record is malformed: what that is stands with its layout
+    /// the record is malformed
     Malformed = 9,
-    /// an argument outside its limits: a number, a label, records, a compound's size
+    /// a number, a label, records or a size is outside the limits
     Limits = 10,
-    /// a report not later than the last report or start, or earlier than a heard packet; a tick or a heard
-    /// packet earlier than these
+    /// the time is earlier than a call before it allows
     Time = 11,
-    /// the output is too small; where bytes are written, the answer has their number, the size
+    /// the output is too small
     Room = 12,
-    /// a block's checksum
+    /// the block's checksum does not fit
     Checksum = 13,
-    /// a block's contents, or a block of another kind, form or SSRC than its place wants
+    /// the block breaks the format, or has a wrong kind, form or SSRC for its place
     Contents = 14,
-    /// a new SSRC, and every place of the table is held
+    /// a source is new, and every place of the table is held (at most 16)
     Places = 15,
-    /// a table against its rules
+    /// the table breaks its rules, or has over 16 places
     Rules = 16,
-    /// a time needs form 2: given only by the converter of forms
+    /// a time of 2^32 ms or more needs form 2
     FormTwo = 17,
-    /// the line of an attribute is malformed
+    /// the attribute is malformed
     Attribute = 18,
-    /// a new label has a retired byte, 10 or 13: only flasknib_write_label gives it
+    /// a new label has a retired byte, 10 or 13
     Retired = 19,
 }
 
 /// Each refusal with its name in the header and its text.
 pub const REFUSALS: [(Refusal, &str, &str); 19] = [
-    (Refusal::Incomplete, "INCOMPLETE", "empty input, a header cut off, not one whole block"),
+    (Refusal::Incomplete, "INCOMPLETE", "the input is empty, or ends in the middle of a block or a header"),
     (Refusal::Version, "VERSION", "the version in an RTCP header is not 2"),
     (Refusal::FirstPacket, "FIRST_PACKET", "the first packet is no SR or RR"),
     (Refusal::PacketSize, "PACKET_SIZE", "a packet passes the end, or does not have its body's size"),
     (Refusal::Padding, "PADDING", "the padding is wrong, or not in the last packet"),
     (Refusal::BlockSize, "BLOCK_SIZE", "an XR block passes its packet"),
-    (Refusal::Jump, "JUMP", "the sequence number jumps; the record remembers the number that would follow it"),
+    (Refusal::Jump, "JUMP", "the sequence number is too far from the highest: a jump"),
     (Refusal::Full, "FULL", "2^48 arrivals are counted"),
-    (Refusal::Malformed, "MALFORMED", "a record is malformed: what that is stands with its layout"),
-    (Refusal::Limits, "LIMITS", "an argument outside its limits: a number, a label, records, a compound's size"),
-    (Refusal::Time, "TIME", "a report not later than the last report or start, or earlier than a heard packet; a tick or a heard packet earlier than these"),
-    (Refusal::Room, "ROOM", "the output is too small; where bytes are written, the answer has their number, the size"),
-    (Refusal::Checksum, "CHECKSUM", "a block's checksum"),
-    (Refusal::Contents, "CONTENTS", "a block's contents, or a block of another kind, form or SSRC than its place wants"),
-    (Refusal::Places, "PLACES", "a new SSRC, and every place of the table is held"),
-    (Refusal::Rules, "RULES", "a table against its rules"),
-    (Refusal::FormTwo, "FORM_TWO", "a time needs form 2: given only by the converter of forms"),
-    (Refusal::Attribute, "ATTRIBUTE", "the line of an attribute is malformed"),
-    (Refusal::Retired, "RETIRED", "a new label has a retired byte, 10 or 13: only flasknib_write_label gives it"),
+    (Refusal::Malformed, "MALFORMED", "the record is malformed"),
+    (Refusal::Limits, "LIMITS", "a number, a label, records or a size is outside the limits"),
+    (Refusal::Time, "TIME", "the time is earlier than a call before it allows"),
+    (Refusal::Room, "ROOM", "the output is too small"),
+    (Refusal::Checksum, "CHECKSUM", "the block's checksum does not fit"),
+    (Refusal::Contents, "CONTENTS", "the block breaks the format, or has a wrong kind, form or SSRC for its place"),
+    (Refusal::Places, "PLACES", "a source is new, and every place of the table is held (at most 16)"),
+    (Refusal::Rules, "RULES", "the table breaks its rules, or has over 16 places"),
+    (Refusal::FormTwo, "FORM_TWO", "a time of 2^32 ms or more needs form 2"),
+    (Refusal::Attribute, "ATTRIBUTE", "the attribute is malformed"),
+    (Refusal::Retired, "RETIRED", "a new label has a retired byte, 10 or 13"),
 ];
 
 /// The functions as C has them.
 pub mod raw {
     extern "C" {
+        pub fn flasknib_version() -> u32;
+        pub fn flasknib_refusal_text(number: u8, out: *mut u8, room: usize) -> i64;
         pub fn flasknib_arrive(source: *mut u64, words: usize, wire: u16, mark: u8) -> u8;
         pub fn flasknib_count_block(source: *mut u64, words: usize, records: *const u8, length: usize, width: usize) -> i64;
         pub fn flasknib_lost(source: *const u64, words: usize, found: *mut u64, found_words: usize) -> u8;
@@ -326,6 +329,17 @@ pub mod raw {
         pub fn flasknib_streams_block(run: *mut u64, words: usize, lines: *mut u64, line_words: usize, block: *const u8, length: usize) -> u8;
         pub fn flasknib_streams_row(run: *const u64, words: usize, i: usize, lines: *const u64, line_words: usize, zeroth: *const u8, zeroth_length: usize, out: *mut u8, room: usize) -> i64;
     }
+}
+
+/// The version of the library that is linked: 65,536 * major + 256 * minor + patch.
+pub fn version() -> u32 {
+    unsafe { raw::flasknib_version() }
+}
+
+/// Writes what a refusal means, one sentence in ASCII, not ended by a zero byte. Gives its length, or minus a
+/// refusal: 10 a number that is no refusal's (1 to 19), 12.
+pub fn refusal_text(number: u8, out: &mut [u8]) -> i64 {
+    unsafe { raw::flasknib_refusal_text(number, out.as_mut_ptr(), out.len()) }
 }
 
 /// Counts one arrival. Gives 0 or FLASKNIB_RESTARTED and the next record, or refusal 9, 10 for a mark above
