@@ -45,8 +45,8 @@ def sent(port, stretches, reset):
 
 def fed(library, stretches, reset=False):
     """What the example prints."""
-    command = [sys.executable, EXAMPLE, library]
-    with subprocess.Popen(command, stdout=subprocess.PIPE, stderr=subprocess.PIPE) as example:
+    environment = {**os.environ, "FLASKNIB_LIBRARY": library, "PYTHONPATH": os.path.join(TOP, "python"), "PYTHONDONTWRITEBYTECODE": "1"}
+    with subprocess.Popen([sys.executable, EXAMPLE], env=environment, stdout=subprocess.PIPE, stderr=subprocess.PIPE) as example:
         said = example.stderr.readline().split()
         if said[:1] != [b"port"]:
             sys.exit(f"feed: FAILED, the example says no port: {said} {example.stderr.read()}")

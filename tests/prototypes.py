@@ -2,21 +2,19 @@
 """tests/prototypes.py: every function of the C library is declared as its source has it, wherever it is declared.
 
 The source is each `pub extern "C" fn` of crates/capi. Declarations stand in include/flasknib.h; made from it by packaging/declarations, in the package in
-Python and the crate in Rust; and, by hand, in the benchmarks and the examples in Python. Result, order, types, constness and names of the parameters are compared; a slice is a pointer, to const unless it is `&mut`,
-and the count behind it. Two rules on names: what the source calls `words` is called by its record elsewhere (`source`, `sources`, `forms`, `upload`); and the
+Python and the crate in Rust; and, by hand, in the benchmarks. Result, order, types, constness and names of the parameters are compared; a slice is a
+pointer, to const unless it is `&mut`, and the count behind it. Two rules on names: what the source calls `words` is called by its record elsewhere (`source`, `sources`, `forms`, `upload`); and the
 count behind a pointer is `words` or `NAME_words`, of bytes `length` or `NAME_length`, of the lists of an arrivals block `n_NAME`, of `out` always `room`.
 The manual page has each function once under RETURN VALUE, beside others with its result. Copies are then broken in several ways, and each must be found.
 """
-import ctypes
 import glob
 import os
 import re
 import sys
 
 TOP = os.path.dirname(os.path.dirname(os.path.abspath(__file__)))
-HEADER, MANUAL, CALLER, FEEDER = "include/flasknib.h", "man/flasknib.3", "examples/count.c", "examples/feed.c"
-CRATE, TIMED = "rust/flasknib/src/header.rs", "bench/library.rs"
-SCRIPT, FED, PACKAGE = "examples/count.py", "examples/feed.py", "python/flasknib/header.py"
+HEADER, MANUAL = "include/flasknib.h", "man/flasknib.3"
+PACKAGE, CRATE, TIMED = "python/flasknib/header.py", "rust/flasknib/src/header.rs", "bench/library.rs"
 
 C_TYPES = {f"{sign}int{bits}_t": f"{'u' if sign else 'i'}{bits}" for sign in ("u", "") for bits in (8, 16, 32, 64)} | {"size_t": "usize"}
 LISTS = {"times", "numbers", "marks"}
@@ -30,7 +28,7 @@ def texts():
     """The files that are compared, by their names."""
     names = [os.path.relpath(path, TOP) for path in glob.glob(os.path.join(TOP, "crates/capi/src/*.rt"))]
     found = {}
-    for name in [*names, HEADER, MANUAL, CALLER, FEEDER, CRATE, TIMED, SCRIPT, FED, PACKAGE]:
+    for name in [*names, HEADER, MANUAL, PACKAGE, CRATE, TIMED]:
         with open(os.path.join(TOP, name), encoding="utf-8") as file:
             found[name] = file.read()
     return found
@@ -105,25 +103,6 @@ def fits(declared, source):
     return declared[0] == source[0] and types == wanted and all(name in right for (_, name), (_, right) in zip(declared[1], source[1]))
 
 
-# ---- the examples in Python have types alone
-
-
-def ctype(kind):
-    """A type for ctypes, which has const for bytes alone."""
-    if kind == "*const u8":
-        return ctypes.c_char_p
-    if kind.startswith("*"):
-        return ctypes.POINTER(ctype(kind.split(" ")[1]))
-    return ctypes.c_size_t if kind == "usize" else getattr(ctypes, {"u": "c_uint", "i": "c_int"}[kind[0]] + kind[1:])
-
-
-def in_python(text):
-    """The result and the types of each function that an example calls: what it has under FUNCTIONS."""
-    names = {"__name__": "example"}
-    exec(text, names)
-    return {f"flasknib_{name}": types for name, types in names["FUNCTIONS"].items()}
-
-
 # ---- the package in Python has types, and calls in which a pointer and its count are one argument
 
 BOUND = re.compile(r'^_\w+ = bind\("(?P<name>flasknib_\w+)", (?P<types>.*)\)\n\n\ndef \w+\((?P<parameters>.*)\) -> int:\n(?P<body>(?: {4}.*\n)*)', re.M)
@@ -169,13 +148,12 @@ def same_in_package(found, wanted):
 
 def undeclared(files, header):
     """Functions that a file lacks, or has too many."""
-    called, fed = (set(re.findall(r"\bflasknib_\w+(?=\()", files[file])) for file in (CALLER, FEEDER))
-    wanted = {CRATE: set(header), TIMED: set(in_rust(files[TIMED])) & set(header), SCRIPT: called, FED: fed, PACKAGE: set(header)}
-    readers = {SCRIPT: in_python, FED: in_python, PACKAGE: in_package}
-    for file, names in wanted.items():
-        there = set(readers.get(file, in_rust)(files[file]))
-        if names != there:
-            yield f"{file} has not the functions that it must: {', '.join(sorted(names ^ there))}"
+    for file, there in ((PACKAGE, in_package(files[PACKAGE])), (CRATE, in_rust(files[CRATE]))):
+        if set(there) != set(header):
+            yield f"{file} has not the functions that it must: {', '.join(sorted(set(there) ^ set(header)))}"
+    more = set(in_rust(files[TIMED])) - set(header)
+    if more:
+        yield f"{TIMED} has functions that the header has not: {', '.join(sorted(more))}"
 
 
 def different(files, header):
@@ -184,10 +162,6 @@ def different(files, header):
         for name, declared in in_rust(files[file]).items():
             if name in header and declared != header[name]:
                 yield f"{file}: {name} is {shown(declared)}, and in the header {shown(header[name])}"
-    for file in (SCRIPT, FED):
-        for name, types in in_python(files[file]).items():
-            if name in header and types != tuple(ctype(kind) for kind in (header[name][0], *(kind for kind, _ in header[name][1]))):
-                yield f"{file}: {name} has other types than in the header"
     for name, found in in_package(files[PACKAGE]).items():
         if name in header and not same_in_package(found, packaged(name, header[name])):
             yield f"{PACKAGE}: {name} is not called as the header has it"
@@ -244,16 +218,6 @@ IN_RUST = IN_RATTLE | {
     "counts exchanged": (r"length(.*)words", r"words\1length"),
     "a pointer without its count": (r"words: usize,\s+", ""),
 }
-IN_PYTHON = {
-    "a width changed": (r"BYTES, c_size_t, c_uint32", "BYTES, c_size_t, c_uint16"),
-    "another result": (r'"write_row": \(c_int64', '"write_row": (c_uint64'),
-    "a function gone": (r'"write_row": .*', ""),
-}
-IN_FED = {
-    "a width changed": (r"c_int64, c_uint8, c_uint64", "c_int64, c_uint64, c_uint64"),
-    "another result": (r'"feed_close": \(c_uint8', '"feed_close": (c_int64'),
-    "a function gone": (r'"feed": .*', ""),
-}
 IN_PACKAGE = {
     "a width changed": (r'(bind\("flasknib_write_row", i64, memory, usize), u32', r"\1, u16"),
     "another result": (r'bind\("flasknib_write_row", i64', 'bind("flasknib_write_row", u64'),
@@ -278,8 +242,7 @@ def broken(files, file, change):
 def copies(files):
     """(name, broken copy) of each way of breaking one. Of the benchmarks none is gone: they declare what they time."""
     source = next(name for name in files if name.endswith(".rt") and FUNCTION in files[name])
-    ways = {HEADER: IN_C, source: IN_RATTLE, CRATE: IN_RUST, TIMED: IN_RUST, SCRIPT: IN_PYTHON, FED: IN_FED, MANUAL: IN_MANUAL}
-    ways[PACKAGE] = IN_PACKAGE
+    ways = {HEADER: IN_C, source: IN_RATTLE, CRATE: IN_RUST, TIMED: IN_RUST, PACKAGE: IN_PACKAGE, MANUAL: IN_MANUAL}
     for file, changes in ways.items():
         for what, change in changes.items():
             if (file, what) != (TIMED, "a function gone"):
