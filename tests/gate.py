@@ -75,7 +75,7 @@ case " $* " in *" tests/$BROKEN/main.rs "*) exit 1 ;; esac
 printf '#!/bin/sh\\necho built' >"$out" && chmod +x "$out"
 """
 RT = 'case $1 in check) exit "$CHECK" ;; staticlib) echo built >target/staticlib/libcapi.a; exit "$LIBRARY" ;; esac\n'
-OVER_PROGRAMS = {"program", "tables", "faults", "installation", "wheel", "tools"}
+OVER_PROGRAMS = {"program", "tables", "faults", "package", "installation", "wheel", "tools"}
 OVER_LIBRARY = {"compare", "header", "languages", "capture", "dissector", "received", "examples", "rust", "package", "installation", "wheel", "tools"}
 # What fails (rustc is missing, the source of a part, the programs, the library), and the parts that must fail for it.
 FAILING = {

@@ -1,6 +1,6 @@
 """package.py [NAME..]: python/flasknib, held to the examples in C, the samples, document 01 and the header. The last line is 'N passed, M failed'.
 
-It uses the library of target/staticlib/libcapi.a, which it links with a C compiler in a folder of its own.
+It uses the programs of target/bin and the library of target/staticlib/libcapi.a, which it links with a C compiler in a folder of its own.
 """
 import contextlib
 import copy
@@ -28,7 +28,7 @@ import unittest
 from array import array
 
 TOP = pathlib.Path(__file__).resolve().parent.parent
-SAMPLES, EXAMPLES, PACKAGE = TOP / "samples", TOP / "examples", TOP / "python"
+SAMPLES, EXAMPLES, PACKAGE, PROGRAMS = TOP / "samples", TOP / "examples", TOP / "python", TOP / "target/bin"
 ARCHIVE = TOP / "target/staticlib/libcapi.a"
 BUILT = tempfile.TemporaryDirectory(prefix="a folder ü ")
 SHARED = pathlib.Path(BUILT.name) / "libflasknib.so"
@@ -38,10 +38,11 @@ if not ARCHIVE.exists() or not shutil.which("cc"):
 subprocess.run(["cc", "-shared", "-o", SHARED, "-Wl,--whole-archive", ARCHIVE, "-Wl,--no-whole-archive", "-Wl,-z,defs"], check=True)
 os.environ["FLASKNIB_LIBRARY"] = str(SHARED)
 sys.dont_write_bytecode = True  # the repository may not be ours to write to
-sys.path.insert(0, str(PACKAGE))
+sys.path[:0] = [str(PACKAGE), str(TOP / "tests")]
 import flasknib  # noqa: E402
 from flasknib import Arrival, Breaker, Feed, Mark, Refused, Source, Sources, header  # noqa: E402
 from flasknib import _lend  # noqa: E402
+import writer  # noqa: E402
 
 LABEL, BLOCK = flasknib.write_label(1, b"ward 3", 7), header.BLOCK_BYTES
 ARRIVALS = flasknib.write_arrivals(1, [0, 20], [5, 6], [2, 3], 7)
@@ -66,6 +67,56 @@ def table_of(trace) -> bytes:
     except Refused as refused:
         printed += [refused.table, flasknib.refused_line(refused.number, refused.block)]
     return b"".join(printed)
+
+
+def drawn(draw: random.Random) -> bytes:
+    """A trace of up to 12 blocks of one source or several, perhaps damaged."""
+    form, sources = draw.choice((1, 2)), draw.choice(([7], [7], [7, 8, 9], list(range(20))))
+    blocks, wire = [writer.label(b"ward 3", 7, form)], draw.randrange(65536)
+    for _ in range(draw.choice((0, 1, 3, 12, 40))):
+        records, ssrc = [], draw.choice(sources)
+        for _ in range(draw.randint(1, 62 if form == 1 else 50)):
+            wire = draw.choice((wire + 1, wire + 1, wire + 1, wire, wire + 5, wire - 3, wire + 9000)) % 65536
+            records.append((draw.choice((5, 2**32 - 1, 2 ** (32 if form == 1 or draw.random() < 0.9 else 48) - 1)), wire, draw.randrange(4)))
+        blocks.append(writer.arrivals(records, ssrc, form))
+    trace = bytearray(b"".join(blocks))
+    for _ in range(draw.choice((0, 0, 1, 3))):
+        trace[draw.randrange(len(trace))] ^= 1 << draw.randrange(8)
+    return bytes(trace[: draw.choice((len(trace), len(trace), draw.randint(0, len(trace))))])
+
+
+def ran(program: str, trace: bytes) -> tuple:
+    """What a proved program prints of a trace, on standard output and on standard error."""
+    done = subprocess.run([PROGRAMS / program], input=trace, capture_output=True, check=True)
+    return done.stdout, done.stderr
+
+
+def streams_of(trace: bytes) -> bytes:
+    """What ecnstreams prints."""
+    head = flasknib.head_line()
+    try:
+        found = flasknib.streams(trace)
+    except Refused as refused:
+        return head + flasknib.refused_line(refused.number, refused.block)
+    return head + b"".join((",".join(map(str, row)) + "\r\n").encode() for row in found)
+
+
+def form_of(trace: bytes) -> tuple:
+    """What ecnforms prints."""
+    blocks = []
+    try:
+        for each in flasknib.other_form(trace):
+            blocks.append(each)
+    except Refused as refused:
+        return b"".join(blocks), flasknib.refused_line(refused.number, refused.block)
+    return b"".join(blocks), b""
+
+
+def salvage_of(trace: bytes) -> tuple:
+    """What ecnsalvage prints."""
+    found = list(flasknib.salvage(trace))
+    copied = b"".join(each.block for each in found if not each.refused)
+    return copied, b"".join(flasknib.refused_line(each.refused.number, each.index) for each in found if each.refused)
 
 
 class Tried(unittest.TestCase):
@@ -241,6 +292,22 @@ class Samples(Tried):
         head = flasknib.head_line().decode().rstrip("\r\n").split(",")
         self.assertEqual(list(flasknib.Row._fields), head)
 
+    def test_hostile_labels(self):
+        """Labels come back as they are, those with retired bytes too."""
+        for label in (b"", b" ", b",", b'"', b'""', b'","', b"\r", b"\n", b"\r\n", b"a\rb", b'a\n"b",1\nc', b"\n" * 502, b'"' * 502, b"refused 13 block 1"):
+            trace = writer.label(label, 7) + writer.arrivals([(0, 5, 3)], 7) + writer.arrivals([(0, 6, 0)], 7)
+            self.assertEqual([(row.label.encode(), row.highest) for row in flasknib.rows(trace)], [(label, 5), (label, 6)])
+
+    def test_programs(self):
+        """On traces that are sound and damaged the package prints what the programs print."""
+        draw = random.Random(20261117)
+        for _ in range(60):
+            trace = drawn(draw)
+            self.assertEqual(table_of(trace), ran("ecntable", trace)[0])
+            self.assertEqual(streams_of(trace), ran("ecnstreams", trace)[0])
+            self.assertEqual(form_of(trace), ran("ecnforms", trace))
+            self.assertEqual(salvage_of(trace), ran("ecnsalvage", trace))
+
     def test_streams(self):
         found = flasknib.streams(SAMPLES / "streams/scanners.trace")
         self.assertEqual([tuple(row) for row in found], self.values(SAMPLES / "streams/scanners.csv")[0])
@@ -381,9 +448,18 @@ class Given(Tried):
         for out in (block, memoryview(block)[511:]):
             with self.assertRaises(ValueError):
                 flasknib.write_label(1, memoryview(block)[505:], 7, out=out)
-        with self.assertRaises(ValueError):
-            header.feed((_lend.u64 * 18)(), block, b"", block)
-        self.assertEqual(block, LABEL)
+        words = (_lend.u64 * 100)()
+        memory = memoryview(words).cast("B")
+        for call in (
+            lambda: header.feed((_lend.u64 * 18)(), block, b"", block),
+            lambda: header.lost(words, words),
+            lambda: header.answer(words, words, words),
+            lambda: header.write_feedback(words, 9, 1, memory[792:]),
+            lambda: header.read_compound(memory[:8], 1, 0, words),
+            lambda: header.streams_block(words, (_lend.u64 * 2).from_buffer(words, 792), b""),
+        ):
+            self.assertRaises(ValueError, call)
+        self.assertEqual((block, sum(words)), (LABEL, 0))
         two = bytearray(1024)
         flasknib.write_label(1, memoryview(two)[:0], 7, out=memoryview(two)[512:])
         self.assertEqual(two[512:], flasknib.write_label(1, b"", 7))

@@ -118,9 +118,9 @@ def in_package(text):
 
 
 def packaged(name, declaration):
-    """The same, as the header asks for it: bytes are lent by their kind, numbers are held to their types."""
+    """The same, as the header asks for it: bytes are lent by their kind, numbers are held to their types, and what is written is kept apart."""
     result, parameters = declaration
-    types, names, call, lines, counted = [result], [], [], set(), False
+    types, names, call, lines, outs, ins, counted = [result], [], [], set(), [], [], False
     for kind, parameter in parameters:
         lent, of_bytes = kind.startswith("*"), kind.endswith(" u8") and kind.startswith("*")
         types.append("memory" if of_bytes else f"pointer({kind.split(' ')[1]})" if lent else kind)
@@ -133,14 +133,17 @@ def packaged(name, declaration):
                 lines.add(f"lent_{parameter} = {'read' if 'const' in kind else 'written'}({parameter})")
             elif not lent:
                 lines.add(f"{parameter} = fits({parameter}, {kind})")
+            if lent:
+                (ins if "const" in kind else outs).append(call[-1])
         counted = lent
+    lines |= {f"apart({', '.join(outs[at:] + ins)})" for at in range(len(outs)) if outs[at + 1 :] + ins}
     return types, names, lines | {f"return _{name.partition('_')[2]}({', '.join(call)})"}
 
 
 def same_in_package(found, wanted):
-    """Whether a call is the header's; beside its lines there may be those that keep memory apart."""
+    """Whether a call is the header's."""
     types, names, lines = found
-    return (types, names) == wanted[:2] and {line.strip() for line in lines if line.strip() and not line.strip().startswith("apart(")} == wanted[2]
+    return (types, names) == wanted[:2] and {line.strip() for line in lines if line.strip()} == wanted[2]
 
 
 # ---- what is wrong
@@ -225,6 +228,7 @@ IN_PACKAGE = {
     "a number that is not held to its type": (r"    jumped = fits\(jumped, u64\)\n", ""),
     "a limit of another type": (r"fits\(restarts, u64\)", "fits(restarts, u32)"),
     "memory that is not lent to be written": (r"lent_out = written\(out\)", "lent_out = read(out)"),
+    "memory that is not kept apart": (r"    apart\(lent_out, lent_label, source\)\n", ""),
     "arguments exchanged": (r"(return _write_row\(.*)jumped, restarts", r"\1restarts, jumped"),
     "another count": (r"(return _write_row\(.*)len\(lent_out\)", r"\1len(lent_label)"),
 }

@@ -3,7 +3,7 @@ import ctypes
 import mmap
 from array import array
 from operator import index
-from typing import Any, Callable, Iterable, Union
+from typing import Any, Callable, Iterable, Tuple, Union
 
 from ._library import function
 
@@ -96,8 +96,19 @@ def written(lent: Buffer) -> View:
     return View(lent, WRITABLE)
 
 
-def apart(out: View, *others: Union[bytes, View]) -> None:
+def ends(lent: Union[View, Words]) -> Tuple[int, int]:
+    """Where the memory of a view or of an array begins and ends."""
+    if isinstance(lent, View):
+        return lent.at, lent.at + len(lent)
+    first = ctypes.addressof(lent)
+    return first, first + ctypes.sizeof(lent)
+
+
+def apart(out: Union[View, Words], *others: Union[bytes, View, Words]) -> None:
     """What a call writes overlaps nothing else that it is lent. (Nothing can write to a bytes object.)"""
+    first, last = ends(out)
     for other in others:
-        if isinstance(other, View) and out.at < other.at + len(other) and other.at < out.at + len(out):
-            raise ValueError("the memory that is written overlaps what is read")
+        if not isinstance(other, bytes):
+            begin, end = ends(other)
+            if first < end and begin < last:
+                raise ValueError("the memory that is written overlaps what else is lent")

@@ -285,6 +285,7 @@ def count_block(source: Words, records: Buffer, width: int) -> int:
     the pair that makes a restart is a jump, the second is counted as a restart alone."""
     width = fits(width, usize)
     lent_records = read(records)
+    apart(source, lent_records)
     return _count_block(source, len(source), lent_records, len(lent_records), width)
 
 
@@ -295,6 +296,7 @@ def lost(source: Words, found: Words) -> int:
     """The packets lost: highest - base + 1, less the different numbers that arrived. Negative where packets
     from before the base came, and 0 in the fresh record. Gives 0 and 1 word, signed, at the front of `found`,
     or refusal 9, or 12 where `found` has no word."""
+    apart(found, source)
     return _lost(source, len(source), found, len(found))
 
 
@@ -308,6 +310,7 @@ def write_feedback(source: Words, sender: int, media: int, out: Buffer) -> int:
     sender = fits(sender, u32)
     media = fits(media, u32)
     lent_out = written(out)
+    apart(lent_out, source)
     return _write_feedback(source, len(source), sender, media, lent_out, len(lent_out))
 
 
@@ -320,6 +323,7 @@ def write_summary(source: Words, media: int, out: Buffer) -> int:
     12 with its size."""
     media = fits(media, u32)
     lent_out = written(out)
+    apart(lent_out, source)
     return _write_summary(source, len(source), media, lent_out, len(lent_out))
 
 
@@ -345,6 +349,7 @@ def sources_count_block(sources: Words, ssrc: int, records: Buffer, width: int) 
     ssrc = fits(ssrc, u32)
     width = fits(width, usize)
     lent_records = read(records)
+    apart(sources, lent_records)
     return _sources_count_block(sources, len(sources), ssrc, lent_records, len(lent_records), width)
 
 
@@ -357,6 +362,7 @@ def sources_write_compound(sources: Words, sender: int, out: Buffer) -> int:
     or 12 with its size."""
     sender = fits(sender, u32)
     lent_out = written(out)
+    apart(lent_out, sources)
     return _sources_write_compound(sources, len(sources), sender, lent_out, len(lent_out))
 
 
@@ -367,6 +373,7 @@ def sources_place(sources: Words, place: int, found: Words) -> int:
     """The words of one held place, counted from 0. Gives 0 and 11 words at the front of `found`, or refusal
     16, 9, 10 for a place that is not held, or 12 where `found` has fewer words."""
     place = fits(place, usize)
+    apart(found, sources)
     return _sources_place(sources, len(sources), place, found, len(found))
 
 
@@ -381,6 +388,7 @@ def read_compound(bytes: Buffer, media: int, profile: int, found: Words) -> int:
     media = fits(media, u32)
     profile = fits(profile, u8)
     lent_bytes = read(bytes)
+    apart(found, lent_bytes)
     return _read_compound(lent_bytes, len(lent_bytes), media, profile, found, len(found))
 
 
@@ -535,6 +543,8 @@ def breaker_call(found: Words, kept: Words, call: Words) -> int:
     reader gave and an earlier call kept is never refused with 9, and the breaker takes the losses that it
     gives: time, round trip, packet size and rate are the caller's. Where the breaker refuses the call, put
     the kept words back to what they were before, so that the next report counts from there."""
+    apart(kept, call, found)
+    apart(call, found)
     return _breaker_call(found, len(found), kept, len(kept), call, len(call))
 
 
@@ -546,6 +556,7 @@ def read_attribute(line: Buffer, found: Words) -> int:
     line that is not well formed, an empty one too, 10 for over 8 methods or 8 parameters, known or not, or 12
     if `found` has fewer words."""
     lent_line = read(line)
+    apart(found, lent_line)
     return _read_attribute(lent_line, len(lent_line), found, len(found))
 
 
@@ -557,6 +568,7 @@ def write_attribute(attribute: Words, out: Buffer) -> int:
     mode, then the ect. Gives its length, or minus refusal 9, 10 for no method or over 8, or 12 with its size.
     What it writes reads back to the same words, but for 0 after the last method."""
     lent_out = written(out)
+    apart(lent_out, attribute)
     return _write_attribute(attribute, len(attribute), lent_out, len(lent_out))
 
 
@@ -569,6 +581,7 @@ def answer(offer: Words, ours: Words, found: Words) -> int:
     and changes no word, whatever `words` is, if no method is common, or both modes are setonly or both
     readonly. Refusal 9 for either record, 10 for over 8 methods in either, or 12 if `found` has fewer
     words."""
+    apart(found, offer, ours)
     return _answer(offer, len(offer), ours, len(ours), found, len(found))
 
 
@@ -580,6 +593,7 @@ def read_block(block: Buffer, found: Words) -> int:
     for another length than 512, 13, or 14 for contents against the rules above, or 12 where `found` has fewer
     words."""
     lent_block = read(block)
+    apart(found, lent_block)
     return _read_block(lent_block, len(lent_block), found, len(found))
 
 
@@ -608,6 +622,7 @@ def record_at(block: Buffer, i: int, found: Words) -> int:
     else of the block is judged: flasknib_read_block does that, once a block."""
     i = fits(i, usize)
     lent_block = read(block)
+    apart(found, lent_block)
     return _record_at(lent_block, len(lent_block), i, found, len(found))
 
 
@@ -652,7 +667,7 @@ def write_arrivals(form: int, times: Words, numbers: Numbers, marks: Buffer, ssr
     ssrc = fits(ssrc, u32)
     lent_marks = read(marks)
     lent_out = written(out)
-    apart(lent_out, lent_marks)
+    apart(lent_out, times, numbers, lent_marks)
     return _write_arrivals(form, times, len(times), numbers, len(numbers), lent_marks, len(lent_marks), ssrc, lent_out, len(lent_out))
 
 
@@ -693,7 +708,7 @@ def write_row(label: Buffer, ssrc: int, source: Words, jumped: int, restarts: in
     restarts = fits(restarts, u64)
     lent_label = read(label)
     lent_out = written(out)
-    apart(lent_out, lent_label)
+    apart(lent_out, lent_label, source)
     return _write_row(lent_label, len(lent_label), ssrc, source, len(source), jumped, restarts, lent_out, len(lent_out))
 
 
@@ -716,6 +731,7 @@ def run_start(zeroth: Buffer, run: Words) -> int:
     """Takes block 0, which must be a label block of either form. Gives 0 and 15 words at the front of `run`,
     or refusal 1, 13 or 14 (14 for arrivals too), or 12 where `run` has fewer words."""
     lent_zeroth = read(zeroth)
+    apart(run, lent_zeroth)
     return _run_start(lent_zeroth, len(lent_zeroth), run, len(run))
 
 
@@ -733,6 +749,7 @@ def run_block(run: Words, zeroth: Buffer, block: Buffer, out: Buffer) -> int:
     lent_zeroth = read(zeroth)
     lent_block = read(block)
     lent_out = written(out)
+    apart(run, lent_out, lent_zeroth, lent_block)
     apart(lent_out, lent_zeroth, lent_block)
     return _run_block(run, len(run), lent_zeroth, len(lent_zeroth), lent_block, len(lent_block), lent_out, len(lent_out))
 
@@ -749,6 +766,7 @@ def feed(upload: Words, kept: Buffer, stretch: Buffer, out: Buffer) -> int:
     lent_kept = written(kept)
     lent_stretch = read(stretch)
     lent_out = written(out)
+    apart(upload, lent_kept, lent_out, lent_stretch)
     apart(lent_kept, lent_out, lent_stretch)
     apart(lent_out, lent_stretch)
     return _feed(upload, len(upload), lent_kept, len(lent_kept), lent_stretch, len(lent_stretch), lent_out, len(lent_out))
@@ -762,6 +780,7 @@ def feed_close(upload: Words, kept: Buffer) -> int:
     or for block 0 of an empty trace, which is kept. A call that gives 0 changes nothing, and feeding may go
     on."""
     lent_kept = read(kept)
+    apart(upload, lent_kept)
     return _feed_close(upload, len(upload), lent_kept, len(lent_kept))
 
 
@@ -774,6 +793,7 @@ def forms_start(zeroth: Buffer, forms: Words, out: Buffer) -> int:
     number of words, 1, 13 or 14 for the block (14 for arrivals too), or 12 with its size."""
     lent_zeroth = read(zeroth)
     lent_out = written(out)
+    apart(forms, lent_out, lent_zeroth)
     apart(lent_out, lent_zeroth)
     return _forms_start(lent_zeroth, len(lent_zeroth), forms, len(forms), lent_out, len(lent_out))
 
@@ -790,6 +810,7 @@ def forms_block(forms: Words, part: Buffer, block: Buffer, out: Buffer) -> int:
     lent_part = written(part)
     lent_block = read(block)
     lent_out = written(out)
+    apart(forms, lent_part, lent_out, lent_block)
     apart(lent_part, lent_out, lent_block)
     apart(lent_out, lent_block)
     return _forms_block(forms, len(forms), lent_part, len(lent_part), lent_block, len(lent_block), lent_out, len(lent_out))
@@ -803,7 +824,7 @@ def forms_close(forms: Words, part: Buffer, out: Buffer) -> int:
     length, or minus refusal 9, or 12 with its size."""
     lent_part = read(part)
     lent_out = written(out)
-    apart(lent_out, lent_part)
+    apart(lent_out, forms, lent_part)
     return _forms_close(forms, len(forms), lent_part, len(lent_part), lent_out, len(lent_out))
 
 
@@ -815,6 +836,7 @@ def streams_start(zeroth: Buffer, run: Words) -> int:
     at the front of `run`, for a run that holds no line, or refusal 1, 13 or 14 (14 for arrivals too), or 12
     where `run` has fewer words."""
     lent_zeroth = read(zeroth)
+    apart(run, lent_zeroth)
     return _streams_start(lent_zeroth, len(lent_zeroth), run, len(run))
 
 
@@ -826,6 +848,8 @@ def streams_block(run: Words, lines: Words, block: Buffer) -> int:
     SSRC; a new SSRC gets a line. Gives 0, the next run and the lines, or refusal 9, 1, 13 or 14 for the
     block, 9 for the line of its SSRC, or 15 for a seventeenth SSRC. A refused call changes no word."""
     lent_block = read(block)
+    apart(run, lines, lent_block)
+    apart(lines, lent_block)
     return _streams_block(run, len(run), lines, len(lines), lent_block, len(lent_block))
 
 
@@ -841,5 +865,5 @@ def streams_row(run: Words, i: int, lines: Words, zeroth: Buffer, out: Buffer) -
     i = fits(i, usize)
     lent_zeroth = read(zeroth)
     lent_out = written(out)
-    apart(lent_out, lent_zeroth)
+    apart(lent_out, run, lines, lent_zeroth)
     return _streams_row(run, len(run), i, lines, len(lines), lent_zeroth, len(lent_zeroth), lent_out, len(lent_out))
