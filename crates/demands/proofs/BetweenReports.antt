@@ -1,6 +1,7 @@
 -- What came between two of our own reports. Assumes nothing.
 use mathlib.Core.Path.{_≡_, refl, sym, _∙_, ap}
-use mathlib.Core.Bool.{Bool, false, cond}
+use mathlib.Core.Bool.{Bool, true, false, cond}
+use native.Mathlib.Omega.{arith}
 use lib.Count.{ones, onesIn}
 use lib.IntN.{ℤ, pos, negℤ, _+ℤ_, _-ℤ_, +ℤ-assoc, negℤ-+ℤ, +ℤ-negℤ-cancel, -ℤ-+ℤ-cancel}
 use lib.Signed.{leZ-yes, ltZ-yes}
@@ -10,12 +11,14 @@ use Rattle.source.specs.declared.Source.{Source}
 use Rattle.source.specs.Places.{pack, place, marks, places, moved, added}
 use Rattle.source.specs.Record.{distinct, fresh, hasCounted, sound, lost}
 use Rattle.source.specs.Distances.{reachOf}
+use Rattle.source.specs.Between.{expected}
+use Rattle.source.proofs.Facts.{fresh-none}
 use Rattle.source.specs.Arrivals.{counted, first, ahead, behind, distance, arrival}
 use Rattle.report.specs.Carried.{highestOf, countsOf}
 use Rattle.between.specs.Differences.{signalsOf, expectingOf}
 use Rattle.between.specs.Theorems.{Carry}
 use Rattle.between.proofs.Exact.{signals-exact, between-exact, given-in-limits}
-use Rattle.demands.specs.BetweenReports.{truthOf, BetweenReports, expectedBy, ExpectedBetween, second, last, BetweenC1}
+use Rattle.demands.specs.BetweenReports.{truthOf, BetweenReports, ExpectedInAll, ExpectedBetween, second, last, BetweenC1}
 
 -- a report's counters carry those of its record
 carry : (s : Source) → Carry (countsOf s) (truthOf s)
@@ -32,11 +35,20 @@ shifted x y k =
     ap (λ (z : ℤ). x +ℤ k +ℤ z) (negℤ-+ℤ y k) ∙ sym (+ℤ-assoc (x +ℤ k) (negℤ y) (negℤ k))
     ∙ ap (λ (z : ℤ). z -ℤ k) (exchange x k (negℤ y)) ∙ +ℤ-negℤ-cancel (x -ℤ y) k
 
-expected-is : (s : Source) → fresh s ≡ false → expectedBy s ≡ s .highest .0 -ℤ s .base .0 +ℤ pos 1
-unfolding lost
-expected-is s e =
-    let all = s .highest .0 -ℤ s .base .0 +ℤ pos 1 in
-    ap (λ (b : Bool). cond b (pos 0) (all -ℤ pos (distinct s)) +ℤ pos (distinct s)) e ∙ -ℤ-+ℤ-cancel all (pos (distinct s))
+expected-is : (s : Source) → fresh s ≡ false → expected s ≡ s .highest .0 -ℤ s .base .0 +ℤ pos 1
+unfolding expected
+expected-is s e = ap (λ (b : Bool). cond b (pos 0) (s .highest .0 -ℤ s .base .0 +ℤ pos 1)) e
+
+pub expected-in-all : ExpectedInAll
+unfolding expected lost
+expected-in-all s = go (fresh s) refl
+  where
+    all : ℤ
+    all = s .highest .0 -ℤ s .base .0 +ℤ pos 1
+
+    go : (b : Bool) → fresh s ≡ b → cond b (pos 0) all ≡ cond b (pos 0) (all -ℤ pos (distinct s)) +ℤ pos (distinct s)
+    go true f = let none : distinct s ≡ 0 = omega (arith, fresh-none s f) in rw none
+    go false f = sym (-ℤ-+ℤ-cancel all (pos (distinct s)))
 
 pub expected-between : ExpectedBetween
 expected-between t s q p same =

@@ -26,7 +26,7 @@ use Rattle.forms.proofs.Returns.{going-on, converted-octets, converted-reads, s
 use Rattle.forms.proofs.Traces.{Goes}
 use Rattle.forms.proofs.Whole.{brings, many-brought, converted-started}
 use Rattle.demands.specs.PrintedTable.{recordsBy, together, AllArrivals, EndsIn}
-use Rattle.demands.specs.BothForms.{recordsTotals, BothForms}
+use Rattle.demands.specs.BothForms.{labelIn, recordsTotals, BothForms}
 use Rattle.demands.proofs.LastRow.{last-row}
 
 -- blocks that go hold arrivals, and their records taken together are those that the converter takes
@@ -49,9 +49,9 @@ module _ (trace : List ℕ) (form : Form) (n ssrc : ℕ) (o : Octets (drop block
   going = going-on 1 (blocksOf trace .others) (record { form = form; ssrc = ssrc; held = [] }) (sym (ap (λ (p : Printed). p .err) (converted-started trace label)) ∙ none-told)
 
   ends : 1 ≤ length (blocksOf trace .others)
-      → EndsIn trace (rowBytes (take n (bodyOf (blocksOf trace .zeroth))) ssrc (recordsTotals (recordsTaken form ssrc (blocksOf trace .others))))
+      → EndsIn trace (labelIn trace n) ssrc (rowBytes (labelIn trace n) ssrc (recordsTotals (recordsTaken form ssrc (blocksOf trace .others))))
   ends some =
-      subst (λ (rs : List Record). EndsIn trace (rowBytes (take n (bodyOf (blocksOf trace .zeroth))) ssrc (recordsTotals rs)))
+      subst (λ (rs : List Record). EndsIn trace (labelIn trace n) ssrc (rowBytes (labelIn trace n) ssrc (recordsTotals rs)))
       (together-go form ssrc (blocksOf trace .others) going)
       (last-row trace form n ssrc o label some (arrivals-go form ssrc (blocksOf trace .others) going))
 
@@ -78,6 +78,6 @@ both-forms trace form n ssrc o label none-told some =
     let others = blocksOf (converted trace .out) .others in
     let there : 1 ≤ length others = some-blocks (otherForm form) ssrc others (subst (λ (rs : List Record). 1 ≤ length rs) (sym (r .records)) (some-records trace form n ssrc (octets-drop blockBytes trace o) label none-told (blocksOf trace .others) (going trace form n ssrc (octets-drop blockBytes trace o) label none-told) some)) in (
       ends trace form n ssrc (octets-drop blockBytes trace o) label none-told some,
-      subst (EndsIn (converted trace .out)) (ap₂ (λ (l : List ℕ) (rs : List Record). rowBytes l ssrc (recordsTotals rs)) (r .text) (r .records))
+      subst (λ (x : List ℕ × List ℕ). EndsIn (converted trace .out) (x .0) ssrc (x .1)) (ap₂ (λ (l : List ℕ) (rs : List Record). (l, rowBytes l ssrc (recordsTotals rs))) (r .text) (r .records))
           (ends (converted trace .out) (otherForm form) n ssrc (converted-octets trace form n ssrc o label) (r .label) (same-records trace form n ssrc o label .accepted) there),
     )

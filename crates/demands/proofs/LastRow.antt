@@ -6,7 +6,7 @@ use native.Mathlib.Nat.{add-zero, add-assoc}
 use native.Mathlib.Omega.{arith}
 use borrow.Table.Elements.{map-app}
 use lib.ListN.{length, take, drop}
-use Rattle.format.specs.Blocks.{blockBytes}
+use Rattle.format.specs.Blocks.{bodyAt, blockBytes}
 use Rattle.format.specs.declared.Form.{Form}
 use Rattle.numbers.proofs.BigEndian.{Octets}
 use Rattle.source.specs.declared.Source.{Source}
@@ -17,7 +17,6 @@ use Rattle.source.specs.Record.{freshRecord}
 use Rattle.source.specs.Arrivals.{arrival, after}
 use Rattle.source.specs.Blocks.{Packet, jump, restart, countAll}
 use Rattle.source.specs.Totals.{mostTold, withBlock}
-use Rattle.trace.specs.Layout.{bodyOf}
 use Rattle.trace.specs.Reading.{blockOf}
 use Rattle.trace.specs.declared.Block.{Block}
 use Rattle.trace.specs.declared.Block.the-variants.{Label, Arrivals}
@@ -36,8 +35,8 @@ use Rattle.convert.proofs.Kept.{Good, next-good, start-good}
 use Rattle.convert.proofs.Steps.{start-label, next-by}
 use Rattle.convert.proofs.Whole.{rest, rest-goes, printed-started}
 use Rattle.walk.proofs.Pieces.{octets-blocks}
-use Rattle.demands.specs.PrintedTable.{inRecord, recordsBy, together, AllArrivals, EndsIn}
-use Rattle.demands.specs.BothForms.{recordsTotals}
+use Rattle.demands.specs.PrintedTable.{inRecord, recordsBy, together, AllArrivals, rowsThen, EndsIn}
+use Rattle.demands.specs.BothForms.{labelIn, recordsTotals}
 use Rattle.demands.proofs.Traces.{records-counted}
 
 -- ---- counting in two parts
@@ -106,9 +105,15 @@ module _ (form : Form) (zeroth : List ℕ) (n ssrc : ℕ) where
       next-by (with us) b (own-later form ssrc b is)
       ∙ ap (λ (t : Totals). goes (record { form = form; length = n; ssrc = ssrc; totals = t })) (ap (withBlock (recordsTotals us)) counted ∙ sym (totals-parts us (recordsBy b (Arrivals form k ssrc))))
 
-  rest-rows : (i : ℕ) (b : List ℕ) (bs : List (List ℕ)) (us : List Record) → AllArrivals form ssrc (b ∷ bs) → Each Octets (b ∷ bs) → Good (with us) zeroth
-      → (front : List (List ℕ)) × (rest i (b ∷ bs) (with us) zeroth ≡ toOutput (joined front ++ rowOf (with (us ++ together (b ∷ bs))) zeroth))
-  unfolding walk closed
+  label : List ℕ
+  label = take n (drop bodyAt zeroth)
+
+  -- the rows of some blocks, behind the first records, as rows of totals
+  Rows : ℕ → List (List ℕ) → List Record → Type 0
+  Rows i bs us = (front : List Totals) × (rest i bs (with us) zeroth ≡ toOutput (rowsThen label ssrc front (rowBytes label ssrc (recordsTotals (us ++ together bs)))))
+
+  rest-rows : (i : ℕ) (b : List ℕ) (bs : List (List ℕ)) (us : List Record) → AllArrivals form ssrc (b ∷ bs) → Each Octets (b ∷ bs) → Good (with us) zeroth → Rows i (b ∷ bs) us
+  unfolding walk closed Rows rowOf label
   rest-rows i b [] us a o g =
       let more = recordsBy b (Arrivals form (a .0) ssrc) in
       let next = next-is us b (a .0) (a .1) g in
@@ -120,40 +125,36 @@ module _ (form : Form) (zeroth : List ℕ) (n ssrc : ℕ) where
       let later = rest-rows (suc i) c cs (us ++ more) (a .2) (o .1) (next-good (with us) zeroth b (with (us ++ more)) (o .0) g next) in
       let row = rowOf (with (us ++ more)) zeroth in
       let all : us ++ together (b ∷ c ∷ cs) ≡ (us ++ more) ++ together (c ∷ cs) = ap (λ (r : Block). us ++ (recordsBy b r ++ together (c ∷ cs))) (a .1) ∙ sym (append-assoc us more (together (c ∷ cs))) in (
-        row ∷ later .0,
+        recordsTotals (us ++ more) ∷ later .0,
         rest-goes zeroth i b (c ∷ cs) (with us) next ∙ ap (both (toOutput row)) (later .1)
-            ∙ rw all (ap toOutput (sym (append-assoc row (joined (later .0)) (rowOf (with ((us ++ more) ++ together (c ∷ cs))) zeroth)))),
+            ∙ rw all (ap toOutput (sym (append-assoc row (joined (map (rowBytes label ssrc) (later .0))) (rowOf (with ((us ++ more) ++ together (c ∷ cs))) zeroth)))),
       )
 
 -- ---- the last line
 
-module _ (trace : List ℕ) (form : Form) (n ssrc : ℕ) (o : Octets (drop blockBytes trace)) (label : blockOf (blocksOf trace .zeroth) ≡ Label form n ssrc) where
-  row-of : List Record → List ℕ
-  row-of records = rowBytes (take n (bodyOf (blocksOf trace .zeroth))) ssrc (recordsTotals records)
-
-  same-row : (records : List Record) → rowOf (with form (blocksOf trace .zeroth) n ssrc records) (blocksOf trace .zeroth) ≡ row-of records
-  unfolding rowOf row-of
-  same-row records = ap (λ (l : List ℕ). rowBytes l ssrc (recordsTotals records)) (sym (accepted (blocksOf trace .zeroth) label .block .place))
-
+module _ (trace : List ℕ) (form : Form) (n ssrc : ℕ) (o : Octets (drop blockBytes trace)) (isLabel : blockOf (blocksOf trace .zeroth) ≡ Label form n ssrc) where
   begun : startOf (blocksOf trace .zeroth) ≡ begin.Started (with form (blocksOf trace .zeroth) n ssrc [])
   unfolding recordsTotals countAll
-  begun = start-label (blocksOf trace .zeroth) label
+  begun = start-label (blocksOf trace .zeroth) isLabel
 
-  by-blocks : (b : List ℕ) (bs : List (List ℕ)) → blocksOf trace .others ≡ b ∷ bs → Each Octets (b ∷ bs) → AllArrivals form ssrc (b ∷ bs) → EndsIn trace (row-of (together (b ∷ bs)))
+  by-blocks : (b : List ℕ) (bs : List (List ℕ)) → blocksOf trace .others ≡ b ∷ bs → Each Octets (b ∷ bs) → AllArrivals form ssrc (b ∷ bs)
+      → EndsIn trace (labelIn trace n) ssrc (rowBytes (labelIn trace n) ssrc (recordsTotals (together (b ∷ bs))))
+  unfolding Rows label
   by-blocks b bs e o a =
       let zeroth = blocksOf trace .zeroth in
       let rows = rest-rows form zeroth n ssrc 1 b bs [] a o (start-good zeroth (with form zeroth n ssrc []) begun) in (
         rows .0,
         printed-started trace (with form zeroth n ssrc []) begun ∙ ap (λ (l : List (List ℕ)). both (toOutput headBytes) (rest 1 l (with form zeroth n ssrc []) zeroth)) e
-            ∙ ap (both (toOutput headBytes)) (rows .1) ∙ ap (λ (r : List ℕ). toOutput (headBytes ++ (joined (rows .0) ++ r))) (same-row (together (b ∷ bs))),
+            ∙ ap (both (toOutput headBytes)) (rows .1)
+            ∙ ap (λ (l : List ℕ). toOutput (headBytes ++ rowsThen l ssrc (rows .0) (rowBytes l ssrc (recordsTotals (together (b ∷ bs)))))) (sym (accepted zeroth isLabel .block .place)),
       )
 
   pub last-row : 1 ≤ length (blocksOf trace .others) → AllArrivals form ssrc (blocksOf trace .others)
-      → EndsIn trace (rowBytes (take n (bodyOf (blocksOf trace .zeroth))) ssrc (recordsTotals (together (blocksOf trace .others))))
-  unfolding row-of blocksOf
+      → EndsIn trace (labelIn trace n) ssrc (rowBytes (labelIn trace n) ssrc (recordsTotals (together (blocksOf trace .others))))
+  unfolding blocksOf
   last-row some a = go (blocksOf trace .others) refl some (octets-blocks trace o) a
     where
       go : (bs : List (List ℕ)) → blocksOf trace .others ≡ bs → 1 ≤ length bs → Each Octets bs → AllArrivals form ssrc bs
-          → EndsIn trace (rowBytes (take n (bodyOf (blocksOf trace .zeroth))) ssrc (recordsTotals (together bs)))
+          → EndsIn trace (labelIn trace n) ssrc (rowBytes (labelIn trace n) ssrc (recordsTotals (together bs)))
       go [] e some o a = absurd (omega arith)
       go (b ∷ bs) e some o a = by-blocks b bs e o a

@@ -26,6 +26,7 @@ pub mod Witnesses
 pub mod Uses
 pub mod WitnessesBreaker
 pub mod WitnessesBetween
+pub mod BetweenCalls
 pub mod WitnessesSources
 pub mod WitnessesPieces
 pub mod FedTables

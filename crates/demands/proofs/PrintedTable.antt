@@ -10,6 +10,7 @@ use Rattle.format.specs.Blocks.{bodyAt}
 use Rattle.format.specs.declared.Form.{Form}
 use Rattle.source.specs.declared.Source.{Source}
 use Rattle.source.specs.declared.BlockCount.{BlockCount}
+use Rattle.source.specs.declared.Totals.{Totals}
 use Rattle.source.specs.Record.{freshRecord, sound}
 use Rattle.source.specs.Totals.{withBlock}
 use Rattle.source.proofs.Facts.{fresh-sound}
@@ -32,7 +33,7 @@ use Rattle.convert.proofs.Steps.{start-label, next-by}
 use Rattle.convert.proofs.Whole.{rest, rest-goes, printed-started}
 use Rattle.demands.specs.Calls.{TruePacket, run, AnsweredFrom, arrivals, Steady, Described}
 use Rattle.demands.specs.TableRow.{countRow}
-use Rattle.demands.specs.PrintedTable.{inRecord, ofArrival, recordsBy, together, AllArrivals, Holds, rows, EndsIn, TableHoldsCount, SameLastRow}
+use Rattle.demands.specs.PrintedTable.{inRecord, ofArrival, recordsBy, together, AllArrivals, Holds, rows, rowsThen, EndsIn, TableHoldsCount, SameLastRow}
 use Rattle.demands.proofs.Members.{Marks}
 use Rattle.demands.proofs.Order.{same-perm, perm-length}
 use Rattle.demands.proofs.Runs.{run-sound}
@@ -73,12 +74,14 @@ module _ (form : Form) (zeroth label : List ℕ) (ssrc : ℕ) (label-is : take (
         steady = rw all (steady-front us vs (subst Steady whole (d .steady)));
       }
 
+  row-counts : (us vs : List TruePacket) → us ++ vs ≡ ps → Marks us → rowBytes label ssrc (with us .totals) ≡ countRow label ssrc us 0 0
+  row-counts us vs e mu =
+      demand3 us (front-described us vs e mu) .row label ssrc 0 0 ok (omega arith) (omega arith) .bytes
+      ∙ ap (λ (l : List TruePacket). countRow label ssrc l 0 0) (all-arrivals us mu)
+
   row-is : (us vs : List TruePacket) → us ++ vs ≡ ps → Marks us → rowOf (with us) zeroth ≡ countRow label ssrc us 0 0
   unfolding rowOf
-  row-is us vs e mu =
-      ap (λ (l : List ℕ). rowBytes l ssrc (record { source = run us; jumped = 0; restarts = 0 })) label-is
-      ∙ demand3 us (front-described us vs e mu) .row label ssrc 0 0 ok (omega arith) (omega arith) .bytes
-      ∙ ap (λ (l : List TruePacket). countRow label ssrc l 0 0) (all-arrivals us mu)
+  row-is us vs e mu = ap (λ (l : List ℕ). rowBytes l ssrc (with us .totals)) label-is ∙ row-counts us vs e mu
 
   -- a block of `vs` leads from `us` to `us ++ vs`
   next-is : (us vs ws : List TruePacket) → us ++ (vs ++ ws) ≡ ps → (b : List ℕ) (n : ℕ) → blockOf b ≡ Arrivals form n ssrc
@@ -95,18 +98,19 @@ module _ (form : Form) (zeroth label : List ℕ) (ssrc : ℕ) (label-is : take (
   -- the last row of some blocks, behind those of `us`
   Last : List (List ℕ) → List TruePacket → Type 0
   Last [] us = us ≡ ps
-  Last (b ∷ bs) us = (front : List (List ℕ)) × (joined (rows label ssrc ps (length us) (b ∷ bs)) ≡ joined front ++ countRow label ssrc ps 0 0)
+  Last (b ∷ bs) us = (front : List Totals) × (joined (rows label ssrc ps (length us) (b ∷ bs)) ≡ rowsThen label ssrc front (countRow label ssrc ps 0 0))
 
   record Rows (i : ℕ) (bs : List (List ℕ)) (us : List TruePacket) : Type 0 where
     lines : rest i bs (with us) zeroth ≡ toOutput (joined (rows label ssrc ps (length us) bs))
     last : Last bs us
 
-  last-next : (b : List ℕ) (bs : List (List ℕ)) (us next : List TruePacket) → length us + countIn b ≡ length next → take (length next) ps ≡ next → Last bs next → Last (b ∷ bs) us
+  last-next : (b : List ℕ) (bs : List (List ℕ)) (us next : List TruePacket) → length us + countIn b ≡ length next → take (length next) ps ≡ next
+      → rowBytes label ssrc (with next .totals) ≡ countRow label ssrc next 0 0 → Last bs next → Last (b ∷ bs) us
   unfolding rows Last
-  last-next b [] us next n t l = ([], rw (n, t, l) (append-nil (countRow label ssrc ps 0 0)))
-  last-next b (c ∷ cs) us next n t l =
+  last-next b [] us next n t r l = ([], rw (n, t, l) (append-nil (countRow label ssrc ps 0 0)))
+  last-next b (c ∷ cs) us next n t r l =
       let row : List ℕ = countRow label ssrc next 0 0 in
-      (row ∷ l .0, rw (n, t, l .1) (sym (append-assoc row (joined (l .0)) (countRow label ssrc ps 0 0))))
+      (with next .totals ∷ l .0, rw (n, t, l .1, r) (sym (append-assoc row (joined (map (rowBytes label ssrc) (l .0))) (countRow label ssrc ps 0 0))))
 
   rest-rows : (i : ℕ) (bs : List (List ℕ)) (us vs : List TruePacket) → us ++ vs ≡ ps → Marks us → AllArrivals form ssrc bs → map inRecord (together bs) ≡ map ofArrival vs → Rows i bs us
   unfolding rows walk closed Last
@@ -129,7 +133,7 @@ module _ (form : Form) (zeroth label : List ℕ) (ssrc : ℕ) (label-is : take (
             rest-goes zeroth i b bs (with us) (next-is us (s .front) (s .back) parts b n is first)
             ∙ ap₂ (λ (row : List ℕ) (p : Printed). both (toOutput row) p) (row-is next (s .back) whole mn) (more .lines)
             ∙ rw (long, cut);
-        last = last-next b bs us next long cut (more .last);
+        last = last-next b bs us next long cut (row-counts next (s .back) whole mn) (more .last);
       }
 
 -- ---- the theorems
@@ -151,7 +155,7 @@ module _ (trace label : List ℕ) (ssrc : ℕ) (ps : List TruePacket) (d : Descr
   all-lines = printed-started trace _ (start-label (blocksOf trace .zeroth) (h .zeroth)) ∙ ap (both (toOutput headBytes)) (all-rows .lines)
 
   last-line : (bs : List (List ℕ)) → printed trace ≡ toOutput (headBytes ++ joined (rows label ssrc ps 0 bs))
-      → Last (h .form) (blocksOf trace .zeroth) label ssrc held-label label-ok ps held-marks d bs [] → 1 ≤ length ps → EndsIn trace (countRow label ssrc ps 0 0)
+      → Last (h .form) (blocksOf trace .zeroth) label ssrc held-label label-ok ps held-marks d bs [] → 1 ≤ length ps → EndsIn trace label ssrc (countRow label ssrc ps 0 0)
   unfolding Last
   last-line [] lines last some = absurd (omega (arith, ap length last))
   last-line (b ∷ bs) lines last some = (last .0, lines ∙ ap (λ (l : List ℕ). toOutput (headBytes ++ l)) (last .1))
@@ -178,5 +182,5 @@ same-last-row trace other label ssrc ps qs d e h k same first some =
     row-of other label ssrc qs e k ∙ ap (λ (s : Source). rowBytes label ssrc (record { source = s; jumped = 0; restarts = 0 })) (sym end) ∙ sym (row-of trace label ssrc ps d h) in
     let more : 1 ≤ length qs = omega (arith, perm-length (same-perm ps qs same)) in (
       table-holds-count trace label ssrc ps d h .last some,
-      subst (EndsIn other) row (table-holds-count other label ssrc qs e k .last more),
+      subst (EndsIn other label ssrc) row (table-holds-count other label ssrc qs e k .last more),
     )

@@ -26,6 +26,7 @@ met-between = record {
   ce = refl;
   duplicates = refl;
   lost = refl;
+  tellable = record { fewMarked = omega arith; someExpected = leZ-yes tt; fewExpected = ltZ-yes tt; someLost = leZ-yes tt; fewLost = ltZ-yes tt };
   jumps = refl;
   far = refl;
   typed = refl;

@@ -3,11 +3,12 @@ use mathlib.Core.Path.{_≡_}
 use mathlib.Core.Bool.{false}
 use mathlib.Core.List.{[], _∷_}
 use Prim.Native.Nat.{ℕ}
-use lib.IntN.{ℤ, pos, _+ℤ_, _-ℤ_}
+use lib.IntN.{pos, _+ℤ_, _-ℤ_}
 use Rattle.source.specs.declared.Source.{Source}
 use Rattle.source.specs.declared.Arrival.the-variants.{Accepted}
 use Rattle.source.specs.Record.{distinct, freshRecord, fresh, lost}
 use Rattle.source.specs.Arrivals.{after}
+use Rattle.source.specs.Between.{expected}
 use Rattle.report.specs.Carried.{highestOf, countsOf}
 use Rattle.rtcp.specs.declared.Feedback.{Feedback}
 use Rattle.between.specs.declared.Between.{Between}
@@ -29,15 +30,15 @@ BetweenReports =
     (later earlier : Source) (sender : ℕ) → Told (truthOf later) (truthOf earlier) → Ahead (truthOf later) (truthOf earlier)
     → TrueCounts (truthOf later) (truthOf earlier) (betweenOf (feedbackFrom sender later) (feedbackFrom sender earlier))
 
--- the packets expected so far: those lost, and the different ones that came (RFC 6679, section 5.1)
-abbrev pub expectedBy : Source → ℤ
-expectedBy s = lost s +ℤ pos (distinct s)
+-- the packets expected so far are those lost and the different ones that came (RFC 6679, section 5.1)
+abbrev pub ExpectedInAll : Type 0
+ExpectedInAll = (s : Source) → expected s ≡ lost s +ℤ pos (distinct s)
 
 -- E is how many more are expected, of two records that have counted from the same base; the fresh record has no highest number
 abbrev pub ExpectedBetween : Type 0
 ExpectedBetween =
     (later earlier : Source) → fresh later ≡ false → fresh earlier ≡ false → later .base ≡ earlier .base
-    → later .highest .0 -ℤ earlier .highest .0 ≡ expectedBy later -ℤ expectedBy earlier
+    → later .highest .0 -ℤ earlier .highest .0 ≡ expected later -ℤ expected earlier
 
 abbrev pub second : Source
 second = after (answerTo (Accepted freshRecord) ((65534, 2) ∷ (65535, 2) ∷ []))

@@ -23,13 +23,17 @@ use Rattle.demands.specs.PrintedTable.{inRecord, EndsIn}
 unfoldable pub recordsTotals : List Record → Totals
 recordsTotals records = withBlock freshTotals (countAll (map inRecord records) freshRecord 0 0)
 
+-- a trace's label of n bytes
+abbrev pub labelIn : List ℕ → ℕ → List ℕ
+labelIn trace n = take n (bodyOf (blocksOf trace .zeroth))
+
 -- the row of a trace's label and SSRC with the totals over the records of all its blocks
 abbrev pub lastRow : List ℕ → Form → ℕ → ℕ → List ℕ
-lastRow trace form n ssrc = rowBytes (take n (bodyOf (blocksOf trace .zeroth))) ssrc (recordsTotals (recordsTaken form ssrc (blocksOf trace .others)))
+lastRow trace form n ssrc = rowBytes (labelIn trace n) ssrc (recordsTotals (recordsTaken form ssrc (blocksOf trace .others)))
 
 -- where no block is refused and there is an arrivals block, what ecntable prints ends in that row, for the trace and for what ecnforms makes of it
 abbrev pub BothForms : Type 0
 BothForms =
     (trace : List ℕ) (form : Form) (n ssrc : ℕ) → Below 256 trace → blockOf (blocksOf trace .zeroth) ≡ Label form n ssrc → converted trace .err ≡ []
     → 1 ≤ length (blocksOf trace .others)
-    → EndsIn trace (lastRow trace form n ssrc) × EndsIn (converted trace .out) (lastRow trace form n ssrc)
+    → EndsIn trace (labelIn trace n) ssrc (lastRow trace form n ssrc) × EndsIn (converted trace .out) (labelIn trace n) ssrc (lastRow trace form n ssrc)

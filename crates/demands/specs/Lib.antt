@@ -11,6 +11,7 @@ pub mod LinesAreTable
 pub mod Examples
 pub mod BetweenReports
 pub mod OwnReports
+pub mod BetweenCalls
 pub mod EachSource
 pub mod WorseLoss
 pub mod Witnesses

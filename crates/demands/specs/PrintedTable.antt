@@ -6,13 +6,14 @@ use lib.ListN.{length, take}
 use Rattle.format.specs.Forms.{shapeOf}
 use Rattle.format.specs.declared.Form.{Form}
 use Rattle.source.specs.Blocks.{Packet}
+use Rattle.source.specs.declared.Totals.{Totals}
 use Rattle.trace.specs.Layout.{bodyOf}
 use Rattle.trace.specs.Reading.{countIn, blockOf}
 use Rattle.trace.specs.Theorems.{recordsIn}
 use Rattle.trace.specs.declared.Block.{Block}
 use Rattle.trace.specs.declared.Block.the-variants.{Label, Arrivals, Refused}
 use Rattle.trace.specs.declared.Record.{Record}
-use Rattle.table.specs.Lines.{headBytes}
+use Rattle.table.specs.Lines.{headBytes, rowBytes}
 use Rattle.walk.specs.Blocks.{blocksOf, joined}
 use Rattle.walk.specs.Programs.{toOutput}
 use Rattle.convert.specs.Tables.{printed}
@@ -59,15 +60,19 @@ unfoldable pub rows : List ℕ → ℕ → List TruePacket → ℕ → List (Lis
 rows label ssrc ps k [] = []
 rows label ssrc ps k (b ∷ bs) = countRow label ssrc (take (k + countIn b) ps) 0 0 ∷ rows label ssrc ps (k + countIn b) bs
 
--- the head line, `front` rows, and the row `row` as the last
-abbrev pub EndsIn : List ℕ → List ℕ → Type 0
-EndsIn trace row = (front : List (List ℕ)) × (printed trace ≡ toOutput (headBytes ++ (joined front ++ row)))
+-- rows of a label and an SSRC, one for each of the totals in `front`, and `row` as the last
+abbrev pub rowsThen : List ℕ → ℕ → List Totals → List ℕ → List ℕ
+rowsThen label ssrc front row = joined (map (rowBytes label ssrc) front) ++ row
+
+-- what is printed is the head line, such rows, and `row` as the last
+abbrev pub EndsIn : List ℕ → List ℕ → ℕ → List ℕ → Type 0
+EndsIn trace label ssrc row = (front : List Totals) × (printed trace ≡ toOutput (headBytes ++ rowsThen label ssrc front row))
 
 pub record Table (trace label : List ℕ) (ssrc : ℕ) (ps : List TruePacket) : Type 0 where
   -- nothing is printed but the head line and one row per block
   pub lines : printed trace ≡ toOutput (headBytes ++ joined (rows label ssrc ps 0 (blocksOf trace .others)))
   -- the last has the values of the count over all arrivals, where there are some
-  pub last : 1 ≤ length ps → EndsIn trace (countRow label ssrc ps 0 0)
+  pub last : 1 ≤ length ps → EndsIn trace label ssrc (countRow label ssrc ps 0 0)
 
 abbrev pub TableHoldsCount : Type 0
 TableHoldsCount = (trace label : List ℕ) (ssrc : ℕ) (ps : List TruePacket) → Described ps → Holds trace label ssrc ps → Table trace label ssrc ps
@@ -77,4 +82,4 @@ abbrev pub SameLastRow : Type 0
 SameLastRow =
     (trace other label : List ℕ) (ssrc : ℕ) (ps qs : List TruePacket) → Described ps → Described qs → Holds trace label ssrc ps → Holds other label ssrc qs
     → SameArrivals ps qs → baseOf ps ≡ baseOf qs → 1 ≤ length ps
-    → EndsIn trace (countRow label ssrc ps 0 0) × EndsIn other (countRow label ssrc ps 0 0)
+    → EndsIn trace label ssrc (countRow label ssrc ps 0 0) × EndsIn other label ssrc (countRow label ssrc ps 0 0)

@@ -16,6 +16,7 @@ use Rattle.source.specs.Arrivals.{extended, first, distance, remembering, arriv
 use Rattle.source.specs.Blocks.{Packet}
 use Rattle.source.specs.Between.{Leads, came, withMark, arrivedBefore}
 use Rattle.demands.specs.Between.{lostBetween}
+use Rattle.demands.specs.BetweenCalls.{Tellable}
 use Rattle.demands.specs.Examples.{c1}
 
 abbrev pub wire : ℕ → Wire
@@ -66,6 +67,8 @@ pub record MetBetween : Type 0 where
   pub ce : came (withMark 3) earlier onward ≡ 0
   pub duplicates : came arrivedBefore earlier onward ≡ 1
   pub lost : lostBetween earlier onward later ≡ negsuc 0
+  -- ReportsTellCalls
+  pub tellable : Tellable earlier onward later
   -- RefusalKeeps: a jump, which is 7; SecondRestarts, TypedStays, RestartsAfresh: the number after it
   pub jumps : arrival earlier (wire 30000) 2 ≡ Refused Jump (remembering earlier (wire 30001))
   pub far : reachOf (distance (earlier .highest) (wire 30001)) ≡ reach.Jump
