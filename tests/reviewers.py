@@ -49,7 +49,8 @@ def stated(crate, theorem, proof):
     call = re.fullmatch(r"`(\w+)::(\w+)` is `(\w+)`", theorem)
     if call:
         owner, function, definition = call.groups()
-        cites = any(name == function and re.search(rf"\bensures\b.*\b{definition}\b", text) for name, text in promises.public_functions(crate))
+        equals = rf"\bensures \{{ λ (\w+)\. ⌜ \1 ≡ {definition}\b"
+        cites = any(name == function and re.search(equals, text) for name, text in promises.public_functions(crate))
         return definition if cites and proof == os.path.join(crate, "proofs", owner, function, "Proof.antt") else None
     found = re.search(rf"^pub {re.escape(theorem.strip('`'))} : (\w+)$", read(proof), re.M)
     return found and found.group(1)

@@ -1,5 +1,6 @@
 // Which of the breaker's calls a packet is for (RFC 8083, section 5; document 02, requests L2 and L4), and what is kept of its receiver.
 ghost use mathlib.Core.Path.{_≡_};
+ghost use Rattle.between.specs.Differences.{betweenAs};
 ghost use Rattle.between.specs.PacketCalls.{countersGiven, sinceKept, ecnReportOf, keptAfter, countsSince, highestIn, callOf, callFor};
 use crate::Between;
 use crate::counters;
@@ -66,6 +67,7 @@ impl Kept {
     // L, C and E since an earlier report.
     pub fn since(self, earlier: Kept) -> Between
         ensures { λ r. ⌜ r ≡ sinceKept self earlier ⌝ }
+        ensures { λ r. ⌜ betweenAs r ≡ betweenAs (sinceKept self earlier) ⌝ }
     {
         let new = counters_of(self.ce, self.lost);
         let old = counters_of(earlier.ce, earlier.lost);

@@ -3,7 +3,7 @@
 // their differences are the true ones where these are in range and the receiver did not begin to count anew in between. The later report stands
 // first, as in "the later counter minus the earlier one".
 ghost use mathlib.Core.Path.{_≡_};
-ghost use Rattle.between.specs.Differences.{signalsOf, expectingOf, betweenOf};
+ghost use Rattle.between.specs.Differences.{signalsOf, expectingOf, betweenAs, betweenOf};
 use answers::Refusal;
 use breaker::EcnCounts;
 use format::Counts;
@@ -39,6 +39,7 @@ impl Signals {
     // (RFC 6679, section 5.2).
     pub fn expecting(self, later: u32, earlier: u32) -> Between
         ensures { λ r. ⌜ r ≡ expectingOf self later earlier ⌝ }
+        ensures { λ r. ⌜ betweenAs r ≡ betweenAs (expectingOf self later earlier) ⌝ }
     {
         let expected = since::since32(later, earlier);
         if BACK <= expected {
@@ -65,6 +66,7 @@ pub fn counters(later: Counts, earlier: Counts) -> Signals
 // L, C and E between two feedbacks.
 pub fn feedbacks(later: Feedback, earlier: Feedback) -> Between
     ensures { λ r. ⌜ r ≡ betweenOf later earlier ⌝ }
+    ensures { λ r. ⌜ betweenAs r ≡ betweenAs (betweenOf later earlier) ⌝ }
 {
     let new = later.counts;
     let old = earlier.counts;

@@ -1,4 +1,5 @@
 pub mod Answers
+pub mod Numbered
 pub mod Limits
 pub mod FractionLost
 pub mod Windows

@@ -1,6 +1,7 @@
 // The sender's circuit breaker (document 01, "The breaker"; 02, requests L2, L4 and L9; RFC 8083, sections 4.1 to 4.3 and 5).
 ghost use mathlib.Core.Path.{_≡_};
 ghost use Rattle.breaker.specs.Answers.{reasonNumber, answers, stops};
+ghost use Rattle.breaker.specs.Numbered.{stepAs};
 ghost use Rattle.breaker.specs.Rules.{stored};
 ghost use Rattle.breaker.specs.Calls.{fresh, unstarted, preset, startOf, reportOf, early, timed, tickOf, holding, heardOf};
 ghost use Rattle.breaker.specs.Private.{Opens};
@@ -158,6 +159,7 @@ impl Breaker {
     // A breaker that runs from `time` on, with the answer Go. Refused with 10, the record is all zero, which every call refuses with 9.
     pub fn start(settings: Settings, time: u64) -> Step
         ensures { λ r. ⌜ r ≡ startOf settings time ⌝ }
+        ensures { λ r. ⌜ stepAs r ≡ stepAs (startOf settings time) ⌝ }
     {
         if !limits::settings_ok(settings) {
             return Breaker::unstarted();
@@ -171,6 +173,7 @@ impl Breaker {
     // A start with the preset settings.
     pub fn start_preset(time: u64) -> Step
         ensures { λ r. ⌜ r ≡ startOf preset time ⌝ }
+        ensures { λ r. ⌜ stepAs r ≡ stepAs (startOf preset time) ⌝ }
     {
         Breaker::start(Breaker::PRESET, time)
     }
@@ -178,6 +181,7 @@ impl Breaker {
     // A report: refused with 9, answered by the stop, refused with 10 or 11, or judged by the rules.
     pub fn report(self, r: Report) -> Step
         ensures { λ s. ⌜ s ≡ reportOf self r ⌝ }
+        ensures { λ s. ⌜ stepAs s ≡ stepAs (reportOf self r) ⌝ }
     {
         if let Opening::Answered(answer) = self.opening() {
             return self.answered(answer);
@@ -197,6 +201,7 @@ impl Breaker {
     // A tick: refused with 9, answered by the stop, refused with 10 or 11, or tested for the timeout.
     pub fn tick(self, time: u64) -> Step
         ensures { λ s. ⌜ s ≡ tickOf self time ⌝ }
+        ensures { λ s. ⌜ stepAs s ≡ stepAs (tickOf self time) ⌝ }
     {
         self.timed(time, self.heard)
     }
@@ -204,6 +209,7 @@ impl Breaker {
     // A packet without SR or RR is heard: as a tick, but the timeout is measured from this time on.
     pub fn heard(self, time: u64) -> Step
         ensures { λ s. ⌜ s ≡ heardOf self time ⌝ }
+        ensures { λ s. ⌜ stepAs s ≡ stepAs (heardOf self time) ⌝ }
     {
         self.timed(time, time)
     }

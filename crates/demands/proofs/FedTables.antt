@@ -3,14 +3,12 @@ use mathlib.Core.Path.{_≡_, refl, sym, ap, ap₂, _∙_}
 use mathlib.Core.List.{List, [], _∷_, _++_, append-nil}
 use mathlib.Core.Option.{Option, none}
 use Prim.Native.Nat.{ℕ, suc, _≤_}
-use lib.ListN.{length, drop}
-use lib.Seq.{drop-append-seam}
 use Rattle.format.specs.declared.Form.{Form}
 use Rattle.table.specs.Lines.{headBytes}
 use Rattle.trace.specs.Places.{laterOf}
 use Rattle.trace.proofs.Placed.{own-later}
 use Rattle.walk.specs.Blocks.{blocksOf, joined}
-use Rattle.walk.specs.Programs.{Printed, toOutput, Ending, turned, onward, walk, walked}
+use Rattle.walk.specs.Programs.{toOutput, Ending, turned, onward, walk, walked}
 use Rattle.walk.specs.Steps.{Next, goes}
 use Rattle.convert.specs.declared.Run.{Run}
 use Rattle.convert.specs.declared.Begin.{Begin}
@@ -23,6 +21,7 @@ use Rattle.convert.proofs.FeedPrints.{feeds-print}
 use Rattle.convert.proofs.Steps.{start-label, next-by}
 use Rattle.demands.specs.PrintedTable.{AllArrivals, Holds}
 use Rattle.demands.specs.FedTables.{FedHoldsCount}
+use Rattle.demands.proofs.OneRow.{after-head}
 use Rattle.demands.proofs.PrintedTable.{table-holds-count}
 
 -- no block of such a trace is refused
@@ -40,10 +39,6 @@ walked-none trace label ssrc h =
     let bs = blocksOf trace in
     ap (λ (r : Begin). onward (turned 0 (begun (bs .zeroth) r)) (walk ecntable 1 (bs .others)) .ended) (start-label (bs .zeroth) (h .zeroth))
     ∙ walk-none (h .form) ssrc 1 (bs .others) (record { run = _; zeroth = bs .zeroth }) refl refl (h .others)
-
--- what stands after the head line
-after-head : (a b : List ℕ) → toOutput (headBytes ++ a) ≡ toOutput (headBytes ++ b) → a ≡ b
-after-head a b e = sym (drop-append-seam headBytes a) ∙ ap (λ (q : Printed). drop (length headBytes) (q .out)) e ∙ drop-append-seam headBytes b
 
 pub fed-holds-count : FedHoldsCount
 fed-holds-count rooms lent xs label ssrc ps f o few enough d h =

@@ -7,6 +7,7 @@ pub mod Runs
 pub mod Demand
 pub mod Traces
 pub mod PrintedTable
+pub mod OneRow
 pub mod LastRow
 pub mod BothForms
 pub mod Fields

@@ -34,11 +34,12 @@ use Rattle.mixed.proofs.Restored.{Good}
 use Rattle.mixed.proofs.Kept.{fresh-good, counted-good}
 use Rattle.mixed.proofs.Onward.{rest, rest-goes, begun, printed-started}
 use Rattle.demands.specs.PrintedTable.{recordsBy, together, AllArrivals}
-use Rattle.demands.specs.BothForms.{recordsTotals}
+use Rattle.demands.specs.BothForms.{labelIn, recordsTotals}
 use Rattle.demands.specs.OneStream.{OneStream}
 use Rattle.demands.specs.Witnesses.{text, whole}
 use Rattle.demands.proofs.Traces.{records-counted}
 use Rattle.demands.proofs.LastRow.{totals-parts, last-row}
+use Rattle.demands.proofs.OneRow.{one-last-row}
 use Rattle.demands.proofs.Witnesses.{met}
 
 none-counted : recordsTotals [] ≡ freshTotals
@@ -118,4 +119,8 @@ one-stream trace form n ssrc o label a some =
 
 -- the hypotheses are met
 used : Unit {0}
-used = let streams = one-stream whole (met .held .form) (length text) 1 (met .whole-bytes) (met .held .zeroth) (met .held .others) (met .some-blocks) in tt
+used =
+    let streams = one-stream whole (met .held .form) (length text) 1 (met .whole-bytes) (met .held .zeroth) (met .held .others) (met .some-blocks) in
+    let totals = recordsTotals (together (blocksOf whole .others)) in
+    let last = one-last-row whole (labelIn whole (length text)) 1 totals totals (accepted (blocksOf whole .zeroth) (met .held .zeroth) .label) (streams .1) (streams .1) in
+    tt

@@ -21,6 +21,7 @@ use Rattle.trace.proofs.Theorems.{one-check, spaced-reads}
 use Rattle.answers.specs.Texts.{codes}
 use Rattle.table.proofs.RowFits.{row-fits}
 use Rattle.table.proofs.NumberLines.{number-fits}
+use Rattle.table.proofs.RefusedLines.{refused-fits}
 use Rattle.table.proofs.RowSplits.{row-splits}
 use Rattle.table.proofs.Splitting.{line-splits}
 use Rattle.walk.proofs.Walks.{nothing-follows}
@@ -66,6 +67,7 @@ used =
     let refused = profiles-agree (take 6 (receiverReport 5)) 1 .refused PacketSize (λ e. let z : _≡_ {A = ℕ} 0 1 = cc in absurd (omega arith)) (met .rr-cut) in
     let fits = row-fits text 1 (record { source = run c1Packets; jumped = 3; restarts = 2 }) (met .ssrcs .1) (met .row-accepted) in
     let number = number-fits 3 (omega arith) in
+    let refused-line = refused-fits 14 3 (omega arith) (omega arith) in
     let room = room-is-exact none (feedbackBytes 9 1 (run c1Packets)) (replicate 31 0) 32 (met .room) in
     let room-given = room .given (replicate 32 0) refl in
     let room-changed = room .changed (replicate 32 0) refl in

@@ -10,7 +10,7 @@ use Rattle.numbers.specs.Since.{since}
 use Rattle.roots.specs.Fractions.{whole, _times_}
 use Rattle.roots.specs.Theorems.{seconds}
 use Rattle.roots.proofs.Floors.{one-floor, never-fall}
-use Rattle.roots.proofs.Losses.{greater-loss-triggers, loss-grows, loss-at-most}
+use Rattle.roots.proofs.Losses.{greater-loss-triggers, loss-is-floor, loss-grows, loss-at-most}
 use Rattle.roots.proofs.Sizes.{factors-fit}
 use Rattle.roots.proofs.Equation.{squared-throughput}
 use Rattle.roots.proofs.Exact.{exact-triggers-too, full-example}
@@ -91,5 +91,6 @@ roots-used =
     let greater = greater-loss-triggers 31607 100 256 512 1000 (omega arith) (full-example .4) in
     let grows = loss-grows 640000 700000 10000 (omega arith) in
     let most = loss-at-most 640000 10000 (omega arith) in
+    let whole = loss-is-floor 640000 10000 (omega arith) in
     let fit = factors-fit 125000000 60000 1024 65535 (omega arith) (omega arith) (omega arith) (omega arith) in
     tt

@@ -17,7 +17,7 @@ abbrev pub lostBetween : Source → List Packet → Source → ℤ
 lostBetween s ps t = expected t -ℤ expected s -ℤ pos (came isNew s ps)
 
 -- from a report on s and a report on t, the calls `ps` later
-pub record Told (s : Source) (ps : List Packet) (t : Source) : Type 0 where
+pub record Tells (s : Source) (ps : List Packet) (t : Source) : Type 0 where
   pub ect0 : came (withMark 2) s ps < 2 ^ 32 → since 32 (countsOf t .ect0) (countsOf s .ect0) ≡ came (withMark 2) s ps
   pub ect1 : came (withMark 1) s ps < 2 ^ 32 → since 32 (countsOf t .ect1) (countsOf s .ect1) ≡ came (withMark 1) s ps
   pub ce : came (withMark 3) s ps < 2 ^ 16 → since 16 (countsOf t .ce) (countsOf s .ce) ≡ came (withMark 3) s ps
@@ -27,4 +27,4 @@ pub record Told (s : Source) (ps : List Packet) (t : Source) : Type 0 where
       → signed 16 (since 16 (countsOf t .lost) (countsOf s .lost)) ≡ lostBetween s ps t
 
 abbrev pub TellsBetween : Type 0
-TellsBetween = (s t : Source) (ps : List Packet) → Leads s ps t → Told s ps t
+TellsBetween = (s t : Source) (ps : List Packet) → Leads s ps t → Tells s ps t

@@ -39,11 +39,11 @@ pub data Given : Type 0 where
 
 -- ---- what comes of it
 
-pub data Outcome : Type 0 where
+pub data Result : Type 0 where
   -- the last refusal's number or 0; highest, ECT(0), ECT(1), CE, not-ECT, lost, duplicates
-  counted : ℕ → List ℤ → Outcome
-  written : List ℕ → Outcome
-  answered : List Answer → Outcome
+  counted : ℕ → List ℤ → Result
+  written : List ℕ → Result
+  answered : List Answer → Result
 
 -- the last answer, which is the first refusal
 abbrev pub answerTo : Arrival → List Seen → Arrival
@@ -55,7 +55,7 @@ answerTo (Refused refusal s) (x ∷ xs) = Refused refusal s
 abbrev pub values : Source → List ℤ
 values s = s .highest .0 ∷ pos (s .ect0) ∷ pos (s .ect1) ∷ pos (s .ce) ∷ pos (s .notect) ∷ lost s ∷ pos (s .duplicates) ∷ []
 
-abbrev pub countedOf : Arrival → Outcome
+abbrev pub countedOf : Arrival → Result
 countedOf (Accepted s) = counted 0 (values s)
 countedOf (Restarted s) = counted 0 (values s)
 countedOf (Refused refusal s) = counted (numberOf refusal) (values s)
@@ -69,7 +69,7 @@ abbrev pub reportsUpTo : ℕ → ℕ → ℕ → ℕ → ℕ → List Call → L
 reportsUpTo zero fraction rtt size rate later = reportNumber 0 fraction rtt size rate ∷ later
 reportsUpTo (suc n) fraction rtt size rate later = reportsUpTo n fraction rtt size rate (reportNumber (suc n) fraction rtt size rate ∷ later)
 
-abbrev pub outcome : Given → Outcome
+abbrev pub outcome : Given → Result
 outcome (arrivals xs) = countedOf (answerTo (Accepted freshRecord) xs)
 outcome (feedback sender media xs) = written (feedbackBytes sender media (after (answerTo (Accepted freshRecord) xs)))
 outcome (summary media xs) = written (summaryBytes media (after (answerTo (Accepted freshRecord) xs)))
@@ -81,7 +81,7 @@ outcome (reports k fraction rtt size rate) =
 
 pub record Example : Type 0 where
   pub given : Given
-  pub outcome : Outcome
+  pub outcome : Result
 
 abbrev pub c1 : List Seen
 c1 = (65534, 2) ∷ (65535, 2) ∷ (0, 3) ∷ (0, 3) ∷ (3, 1) ∷ []

@@ -1,5 +1,6 @@
 -- Demand 3 in what ecntable prints (document 01, "Trace file" and "Table").
 use mathlib.Core.Path.{_≡_}
+use mathlib.Core.Bool.{true}
 use mathlib.Core.List.{List, [], _∷_, _++_, map}
 use Prim.Native.Nat.{ℕ, _+_, _≤_}
 use lib.ListN.{length, take}
@@ -7,6 +8,7 @@ use Rattle.format.specs.Forms.{shapeOf}
 use Rattle.format.specs.declared.Form.{Form}
 use Rattle.source.specs.Blocks.{Packet}
 use Rattle.source.specs.declared.Totals.{Totals}
+use Rattle.trace.specs.Contents.{labelOk}
 use Rattle.trace.specs.Layout.{bodyOf}
 use Rattle.trace.specs.Reading.{countIn, blockOf}
 use Rattle.trace.specs.Theorems.{recordsIn}
@@ -83,3 +85,9 @@ SameLastRow =
     (trace other label : List ℕ) (ssrc : ℕ) (ps qs : List TruePacket) → Described ps → Described qs → Holds trace label ssrc ps → Holds other label ssrc qs
     → SameArrivals ps qs → baseOf ps ≡ baseOf qs → 1 ≤ length ps
     → EndsIn trace label ssrc (countRow label ssrc ps 0 0) × EndsIn other label ssrc (countRow label ssrc ps 0 0)
+
+-- and there is one last row: a table that ends in two rows of totals ends in the same row
+abbrev pub OneLastRow : Type 0
+OneLastRow =
+    (trace label : List ℕ) (ssrc : ℕ) (t u : Totals) → labelOk label ≡ true → EndsIn trace label ssrc (rowBytes label ssrc t)
+    → EndsIn trace label ssrc (rowBytes label ssrc u) → rowBytes label ssrc t ≡ rowBytes label ssrc u

@@ -22,12 +22,12 @@ use Rattle.demands.specs.Examples.{c1}
 abbrev pub wire : ℕ → Wire
 wire number = record { 0 = number }
 
-abbrev pub seen : ℕ → ℕ → Packet
-seen number mark = record { wire = wire number; mark = mark }
+abbrev pub packetOf : ℕ → ℕ → Packet
+packetOf number mark = record { wire = wire number; mark = mark }
 
 -- after C1's calls: a jump, a duplicate, the next number, a mark above 3, and a number that was lost
 abbrev pub onward : List Packet
-onward = seen 30000 2 ∷ seen 65535 2 ∷ seen 4 1 ∷ seen 5 4 ∷ seen 1 0 ∷ []
+onward = packetOf 30000 2 ∷ packetOf 65535 2 ∷ packetOf 4 1 ∷ packetOf 5 4 ∷ packetOf 1 0 ∷ []
 
 -- C1's record, and that after them
 abbrev pub earlier : Source
@@ -58,7 +58,7 @@ later = record {
 
 pub record MetBetween : Type 0 where
   -- GrowsByBetween
-  pub c1-leads : Leads freshRecord (map (λ x. seen (x .0) (x .1)) c1) earlier
+  pub c1-leads : Leads freshRecord (map (λ x. packetOf (x .0) (x .1)) c1) earlier
   pub leads : Leads earlier onward later
   -- TellsBetween
   pub notect : came (withMark 0) earlier onward ≡ 1

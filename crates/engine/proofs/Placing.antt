@@ -214,3 +214,12 @@ found-at top b ps e = go (within top ps) refl
     go false w =
         let no : At b ≡ Outside = e ∙ rw w refl in
         let z : _≡_ {A = ℕ} 0 1 = cc in absurd (omega arith)
+
+pub found-none : (top : ℕ) (ps : List Packet) → Outside ≡ foundIn top ps → within top ps ≡ false
+found-none top ps e = go (within top ps) refl
+  where
+    go : (t : Bool) → within top ps ≡ t → t ≡ false
+    go false w = refl
+    go true w =
+        let no : Outside ≡ At (pack 64 (hits top ps)) = e ∙ rw w refl in
+        let z : _≡_ {A = ℕ} 0 1 = cc in absurd (omega arith)

@@ -92,11 +92,12 @@ scannedOnto s n scan shifted = record {
 abbrev pub topOf : Source → ℕ
 topOf s = natAbs (s .highest .0) % 65536 + ahead
 
--- what an answer to a part says: the record behind the packets, all of which lie in its window; that a mark is above 3; or that none is, and nothing is counted
+-- what an answer to a part says: the record behind the packets, all of which lie in its window; that a mark is above 3; or that none is, but some number
+-- lies outside the window, and nothing is counted
 abbrev pub PartIs : Source → List Packet → Part → Type 0
 PartIs s ps (part.Counted t) = (marksFit ps ≡ true) × (within (topOf s) ps ≡ true) × (t ≡ settled (topOf s) ahead s ps)
 PartIs s ps part.Misfit = marksFit ps ≡ false
-PartIs s ps (part.Outside ordered) = marksFit ps ≡ true
+PartIs s ps (part.Outside ordered) = (marksFit ps ≡ true) × (within (topOf s) ps ≡ false)
 
 -- a record that has counted and can count n arrivals more
 pub record Roomy (s : Source) (n : ℕ) : Type 0 where

@@ -1,6 +1,7 @@
 // The arrivals of a block counted many at once (document 02, L8), with the answer that `Source::count_block` gives record by record.
 ghost use mathlib.Core.Path.{_≡_};
 ghost use Rattle.source.specs.Blocks.{blockCount};
+ghost use Rattle.source.specs.Numbered.{countAs};
 
 mod lean;
 mod limits;
@@ -21,6 +22,7 @@ use source::Source;
 // Counts the arrivals of one block, as `Source::count_block` does. Refusals: 9 malformed record, 10 records outside the limits.
 pub fn count_block(s: Source, records: &[u8], width: usize) -> BlockCount
     ensures { λ r. ⌜ r ≡ blockCount s width (now (records .entry)) ⌝ }
+    ensures { λ r. ⌜ countAs r ≡ countAs (blockCount s width (now (records .entry))) ⌝ }
 {
     if !s.is_sound() {
         return BlockCount::Refused(Refusal::Malformed, s);

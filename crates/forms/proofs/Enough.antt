@@ -29,9 +29,10 @@ use Rattle.walk.specs.Endings.{refusalIn}
 use Rattle.walk.specs.Steps.{Next, goes, refuses}
 use Rattle.walk.proofs.Pieces.{whole-many}
 use Rattle.forms.specs.Packing.{full, left}
-use Rattle.forms.specs.Conversions.{toShape, heldIn, nextOf}
+use Rattle.forms.specs.Conversions.{toShape, sound, heldIn, nextOf, callNext, bytesIn}
 use Rattle.forms.specs.Converted.{Kept, keptOf, taken, told, ecnforms}
 use Rattle.forms.specs.Pieces.{endOf, BlocksHaveRoom, EndHasRoom}
+use Rattle.forms.specs.Theorems.{BlocksAreFew}
 use Rattle.forms.proofs.Held.{is-sound}
 use Rattle.forms.proofs.Packed.{full-fits, length-left, length-full}
 use Rattle.forms.proofs.Whole.{to, brings, few-brought}
@@ -107,6 +108,33 @@ blocks-have-room p part piece room e g few h =
     enough-first (p .conversion .form) (length (wholeIn piece)) room (length (k .held)) (omega (arith, held, s .few)) (omega (arith, many, few)) h in
     let all = all-taken ecnforms EnoughFor enough-turn (p .block) (wholeIn piece) k room start in
     rw (took-by p part piece room e) (λ r. all r ∙ many)
+
+-- ---- one block
+
+-- a block of n records, and those that are held, fill at most two others
+few-full : (form : Form) (held n k : ℕ) → held < shapeOf (otherForm form) .most → n ≤ shapeOf form .most → k * shapeOf (otherForm form) .most ≤ held + n → k ≤ 2
+few-full One held n k h f g = omega arith
+few-full Two held n k h f g = omega arith
+
+pub blocks-are-few : BlocksAreFew
+unfolding callNext
+blocks-are-few c part b = go (sound c part) refl
+  where
+    Few : Next (List Record) → Type 0
+    Few next = (k : ℕ) × (k ≤ 2) × (length (bytesIn c part next) ≡ k * blockBytes)
+
+    by-next : sound c part ≡ true → (next : Next (List Record)) → nextOf (c .form) (c .ssrc) b ≡ next → Few next
+    by-next s (refuses refusal) e = (0, omega arith, refl)
+    by-next s (goes records) e =
+        let rs = heldIn c part ++ records in
+        let fit = full-fits (toShape c) rs in
+        let held = length-recordsIn (toShape c) (c .held) part in
+        let few = few-full (c .form) (length (heldIn c part)) (length records) (full (toShape c) rs) (omega (arith, held, is-sound s .few)) (few-brought (brings (c .form) (c .ssrc) b e)) (omega (arith, fit, length-append (heldIn c part) records)) in
+        (full (toShape c) rs, few, length-full (toShape c) (c .ssrc) (fits (otherForm (c .form)) .room) (full (toShape c) rs) rs fit)
+
+    go : (t : Bool) → sound c part ≡ t → Few (cond t (nextOf (c .form) (c .ssrc) b) (refuses Malformed))
+    go true s = by-next s (nextOf (c .form) (c .ssrc) b) refl
+    go false s = (0, omega arith, refl)
 
 -- ---- the end
 

@@ -101,6 +101,10 @@ abbrev pub BlocksRoomIsExact : Type 0
 BlocksRoomIsExact =
     (c : Conversion) (part : List ℕ) (next : Next (List Record)) (old : List ℕ) (n : ℕ) → answerOf c part next old ≡ answer.Room n → RoomForBlocks c part next n
 
+-- a call for a block writes 0, 512 or 1,024 bytes, or asks for so many: the blocks that are full with its records are at most two
+abbrev pub BlocksAreFew : Type 0
+BlocksAreFew = (c : Conversion) (part b : List ℕ) → (k : ℕ) × (k ≤ 2) × (length (bytesIn c part (callNext c part b)) ≡ k * blockBytes)
+
 -- ---- a trace that is converted whole
 
 -- each block holds arrivals of this form and SSRC, with times that the other form has bytes for

@@ -3,7 +3,7 @@ use mathlib.Core.Path.{_≡_, refl, sym, _∙_, ap}
 use mathlib.Core.Bool.{true, false, true≢false}
 use mathlib.Core.Logic.{⊎-elim}
 use Prim.Native.Nat.{ℕ, _+_, _*_, _^_, _<_, _≤_}
-use native.Mathlib.Nat.{mul-le-mul, mul-le-mul-left, mul-le-mul-right, mul-lt-mul-of-pos-left, mul-lt-mul-of-pos-right, mul-pos, div-mul-le-self, eq-zero-or-pos}
+use native.Mathlib.Nat.{mul-le-mul, mul-le-mul-left, mul-le-mul-right, mul-lt-mul-of-pos-left, mul-lt-mul-of-pos-right, mul-pos, eq-zero-or-pos}
 use native.Mathlib.Omega.{arith}
 use borrow.Author.Tests.{lt-ltb, ltb-true}
 use lib.Dec.{ltb}
@@ -13,7 +13,7 @@ use Rattle.roots.specs.FullCondition.{lossOf, scaledDenominator, conditi
 use Rattle.roots.specs.Theorems.{exactCondition, ExactTriggersToo, NotConversely, FullExample}
 use Rattle.roots.proofs.Squares.{square-above, Under, multiple, sum}
 use Rattle.roots.proofs.Floors.{computed, roots-are-floors}
-use Rattle.roots.proofs.Losses.{never-at-zero, loss-none}
+use Rattle.roots.proofs.Losses.{never-at-zero, loss-is-floor, loss-none}
 use Rattle.roots.proofs.Equation.{left, right, one-square}
 
 -- p = P / D is at least n / 1024, and a and b are not above the scaled roots at n
@@ -88,11 +88,10 @@ exact-triggers-too rate Tr P s W t = ⊎-elim (λ e. absurd (true≢false (sym t
 
     some : 0 < W → exactCondition rate Tr P s W ≡ true
     some h =
-        let rounded : n * (256 * W) ≤ 1024 * P = omega (arith, div-mul-le-self (4 * P) W) in
         let floors = roots-are-floors n in
         one-square rate Tr P s W
         ∙ passed (low rate Tr P s (256 * W)) (high rate Tr P s (256 * W))
-        (exact-square n (256 * W) P (roundTripRoot n) (timeoutRoot n) rounded (floors .0 .low) (floors .1 .low) (rate * Tr) s (omega arith) (ltb-true (10000 * s * 2 ^ 50) (rate * Tr * scaledDenominator n) t))
+        (exact-square n (256 * W) P (roundTripRoot n) (timeoutRoot n) (loss-is-floor P W h .0) (floors .0 .low) (floors .1 .low) (rate * Tr) s (omega arith) (ltb-true (10000 * s * 2 ^ 50) (rate * Tr * scaledDenominator n) t))
 
 -- ---- the examples of docs/BREAKER.md
 

@@ -2,13 +2,18 @@
 use mathlib.Core.Path.{_≡_, ap}
 use mathlib.Core.Logic.{⊎-elim}
 use Prim.Native.Nat.{ℕ, _*_, _/_, _^_, _<_, _≤_}
-use native.Mathlib.Nat.{add-le-add, mul-le-mul, mul-le-mul-left, mul-le-mul-right, lt-of-lt-of-le, eq-zero-or-pos, div-le-of-le-mul, le-div-iff-mul-le, div-mul-le-self, div-zero}
+use native.Mathlib.Nat.{add-le-add, mul-le-mul, mul-le-mul-left, mul-le-mul-right, lt-of-lt-of-le, eq-zero-or-pos, div-le-of-le-mul, le-div-iff-mul-le, div-mul-le-self, lt-div-mul-add, div-zero}
 use native.Mathlib.Omega.{arith}
 use borrow.Author.Tests.{lt-ltb, le-ltb, ltb-true}
 use Rattle.roots.specs.Roots.{scaledRoot}
 use Rattle.roots.specs.FullCondition.{lossOf, scaledDenominator}
-use Rattle.roots.specs.Theorems.{NeverAtZero, GreaterLossTriggers, LossGrows, LossAtMost}
+use Rattle.roots.specs.Theorems.{NeverAtZero, GreaterLossTriggers, LossIsFloor, LossGrows, LossAtMost}
 use Rattle.roots.proofs.Floors.{one-floor, never-fall}
+
+-- ---- the floor
+
+pub loss-is-floor : LossIsFloor
+loss-is-floor P W h = (omega (arith, div-mul-le-self (4 * P) W), omega (arith, lt-div-mul-add {a = 4 * P} h))
 
 -- ---- at 0
 

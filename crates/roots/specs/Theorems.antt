@@ -1,7 +1,7 @@
 -- What holds of the two roots, and what the full condition means (document 02, L9).
 use mathlib.Core.Path.{_≡_}
 use mathlib.Core.Bool.{Bool, true, false}
-use Prim.Native.Nat.{ℕ, _*_, _^_, _<_, _≤_}
+use Prim.Native.Nat.{ℕ, _+_, _*_, _^_, _<_, _≤_}
 use Rattle.roots.specs.Fractions.{Fraction, whole, _plus_, _times_, _over_, square, _equals_, above}
 use Rattle.roots.specs.FullThroughput.{roundTripRadicand, timeoutRadicand, denominator, throughput, ratio, throughputSquared}
 use Rattle.roots.specs.Roots.{scaledRoot, loss, roundTripRoot, timeoutRoot, Floor}
@@ -104,6 +104,10 @@ NeverAtZero = (rate Tr n s : ℕ) → (conditionAt rate 0 n s ≡ false) × (con
 -- where it holds, it holds at every greater n
 abbrev pub GreaterLossTriggers : Type 0
 GreaterLossTriggers = (rate Tr m n s : ℕ) → m ≤ n → conditionAt rate Tr m s ≡ true → conditionAt rate Tr n s ≡ true
+
+-- over some time, n is the floor of 1024 · p with p = P / (256 · W): n ≤ 1024 · p < n + 1, both sides times 256 · W
+abbrev pub LossIsFloor : Type 0
+LossIsFloor = (P W : ℕ) → 0 < W → (lossOf P W * (256 * W) ≤ 1024 * P) × (1024 * P < (lossOf P W + 1) * (256 * W))
 
 -- n grows with P, and is at most 1,020 where each fraction f is at most 255
 abbrev pub LossGrows : Type 0

@@ -6,3 +6,4 @@ pub mod ReportBlocks
 pub mod EcnReports
 pub mod Compound
 pub mod Theorems
+pub mod Numbered

@@ -4,6 +4,7 @@ ghost use mathlib.Core.Path.{_≡_};
 ghost use mathlib.Core.List.{flatMap};
 ghost use Rattle.rtcp.specs.Packets.{firstFault};
 ghost use Rattle.rtcp.specs.Compound.{packets, checksOf, found, unlessFaulty, reading};
+ghost use Rattle.rtcp.specs.Numbered.{readingAs};
 use crate::ecn::first_feedback;
 use crate::ecn::first_summary;
 use crate::header::block_at;
@@ -154,6 +155,7 @@ fn read_packets(bytes: &[u8], media: u32, profile: Profile) -> Reading
 // What the compound in `bytes` says of the source `media`, or its first fault.
 pub fn read_compound(bytes: &[u8], media: u32, profile: Profile) -> Reading
     ensures { λ r. ⌜ r ≡ reading (now (bytes .entry)) media profile ⌝ }
+    ensures { λ r. ⌜ readingAs r ≡ readingAs (reading (now (bytes .entry)) media profile) ⌝ }
 {
     if bytes.len() == 0 {
         return Reading::Refused(Refusal::Incomplete);

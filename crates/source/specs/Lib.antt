@@ -3,6 +3,7 @@ pub mod Distances
 pub mod Record
 pub mod Arrivals
 pub mod Blocks
+pub mod Numbered
 pub mod Totals
 pub mod Between
 pub mod Theorems

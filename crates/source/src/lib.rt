@@ -3,6 +3,7 @@ ghost use mathlib.Core.Path.{_≡_};
 ghost use Rattle.source.specs.Record.{freshRecord, sound, lostAnswer};
 ghost use Rattle.source.specs.Arrivals.{arrival};
 ghost use Rattle.source.specs.Blocks.{blockCount};
+ghost use Rattle.source.specs.Numbered.{arrivalAs, countAs, lostAs};
 ghost use Rattle.source.specs.Totals.{freshTotals, withBlock};
 
 mod base;
@@ -108,6 +109,7 @@ impl Source {
     // that has the remembered number restarts the record.
     pub fn arrive(self, wire: Wire, mark: u8) -> Arrival
         ensures { λ r. ⌜ r ≡ arrival self wire mark ⌝ }
+        ensures { λ r. ⌜ arrivalAs r ≡ arrivalAs (arrival self wire mark) ⌝ }
     {
         if !soundness::is_sound(self) {
             return Arrival::Refused(Refusal::Malformed, self);
@@ -135,6 +137,7 @@ impl Source {
     // last four of each the wire number (2 bytes), the mark and a zero. Refusals: 9 malformed record, 10 records outside these limits.
     pub fn count_block(self, records: &[u8], width: usize) -> BlockCount
         ensures { λ r. ⌜ r ≡ blockCount self width (now (records .entry)) ⌝ }
+        ensures { λ r. ⌜ countAs r ≡ countAs (blockCount self width (now (records .entry))) ⌝ }
     {
         if !soundness::is_sound(self) {
             return BlockCount::Refused(Refusal::Malformed, self);
@@ -148,6 +151,7 @@ impl Source {
     // The packets lost so far: highest - base + 1 - distinct, 0 in the fresh record. Refusal: 9 malformed record.
     pub fn lost(self) -> Lost
         ensures { λ r. ⌜ r ≡ lostAnswer self ⌝ }
+        ensures { λ r. ⌜ lostAs r ≡ lostAs (lostAnswer self) ⌝ }
     {
         if !soundness::is_sound(self) {
             return Lost::Refused(Refusal::Malformed);

@@ -9,7 +9,9 @@ use Rattle.answers.proofs.Stores.{sets-step}
 use Rattle.table.specs.Decimal.{decimal}
 use Rattle.answers.specs.Texts.{codes}
 use Rattle.table.specs.Lines.{refusedLine}
+use Rattle.table.specs.Theorems.{RefusedFits}
 use Rattle.table.proofs.Backwards.{store-end}
+use Rattle.table.proofs.Digits.{length-most, length-u64}
 
 module _ (n b : ℕ) where
   pub length-refused : length (refusedLine n b) ≡ 8 + length (decimal n) + (9 + length (decimal b))
@@ -30,3 +32,6 @@ module _ (n b : ℕ) where
       store-end two size 13 10 (omega arith)
       ∙ sets-step one middle (codes " block " ++ decimal b) (13 ∷ 10 ∷ []) refl e₂ (omega arith)
       ∙ sets-step old 0 (codes "refused " ++ decimal n) ((codes " block " ++ decimal b) ++ (13 ∷ 10 ∷ [])) parts e₁ (omega arith)
+
+pub refused-fits : RefusedFits
+refused-fits number block h k = omega (arith, length-refused number block, length-most 2 number (omega arith), length-u64 block k)

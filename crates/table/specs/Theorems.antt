@@ -13,7 +13,7 @@ use Rattle.trace.specs.Contents.{labelOk}
 use Rattle.table.specs.Decimal.{decimal, signed, numberIn, signedIn}
 use Rattle.table.specs.Field.{asField, line}
 use Rattle.table.specs.Rfc4180.{split}
-use Rattle.table.specs.Lines.{labelName, names, headBytes, rowFault, rowBytes, numberLine}
+use Rattle.table.specs.Lines.{labelName, names, headBytes, rowFault, rowBytes, refusedLine, numberLine}
 
 -- a text that a field can hold: bytes 32 to 126, CR and LF
 unfoldable pub plain : List ℕ → Bool
@@ -83,3 +83,10 @@ numberMost = 22
 
 abbrev pub NumberFits : Type 0
 NumberFits = (n : ℕ) → n < 2 ^ 64 → length (numberLine n) ≤ numberMost
+
+-- nor is the line of a refused block: two words of 8 and 7 bytes, at most 3 and 20 digits, and CR LF
+abbrev pub refusedMost : ℕ
+refusedMost = 40
+
+abbrev pub RefusedFits : Type 0
+RefusedFits = (number block : ℕ) → number < 256 → block < 2 ^ 64 → length (refusedLine number block) ≤ refusedMost

@@ -1,5 +1,7 @@
 -- `engine::count_block` meets its contract. Assumes nothing.
 use borrow.Author.Needs.{needs}
+use Rattle.answers.proofs.Numbers.{numbered}
+use Rattle.source.specs.Numbered.{countAs}
 use mathlib.Core.Path.{_≡_, sym, _∙_}
 use native.Mathlib.Omega.{arith}
 use denote.Ref.{now}
@@ -11,13 +13,14 @@ use Rattle.engine.proofs.count_block.Tie as tie
 
 returns : tie.Need-returns
 unfolding blockCount
-returns c = rw (was-false (c .before .is-sound .ensures) (c .if1 .taken))
+returns c = numbered countAs (rw (was-false (c .before .is-sound .ensures) (c .if1 .taken)))
 
 returns-2 : tie.Need-returns-2
 unfolding blockCount
 returns-2 c =
-    let a = c .before .before .before .before .before .args in
-    rw (was-true (c .before .before .before .is-sound .ensures) (c .before .before .if1 .left), no-block (a .width) (now (a .records)) (sym (c .before .records-in .ensures) ∙ c .if2 .taken))
+    numbered countAs
+    (let a = c .before .before .before .before .before .args in
+    rw (was-true (c .before .before .before .is-sound .ensures) (c .before .before .if1 .left), no-block (a .width) (now (a .records)) (sym (c .before .records-in .ensures) ∙ c .if2 .taken)))
 
 has-room-requires : tie.Need-has-room-requires
 has-room-requires c κs =
@@ -41,6 +44,6 @@ count-block-spec =
     returns-2
     has-room-requires
     (λ c κs. search needs)
-    (λ c. search needs)
+    (λ c. c .count-block .ensures)
     count-requires
-    (λ c. search needs))
+    (λ c. numbered countAs (c .count .ensures)))

@@ -16,12 +16,12 @@ use Rattle.table.proofs.write_row.Statement.{statement}
 use Rattle.table.proofs.write_row.Tie as tie
 
 known : (c : tie.After-known-told) → Counted (c .before .before .before .before .before .before .before .args .t .source) (c .before .lost2 .given .0 .0)
-known c = lost-packets (c .before .before .before .before .before .before .before .args .t .source) (sym (c .before .before .before .lost .ensures) ∙ c .before .lost2 .given .1)
+known c = lost-packets (c .before .before .before .before .before .before .before .args .t .source) (sym (c .before .before .before .lost .ensures .0) ∙ c .before .lost2 .given .1)
 
 returns : tie.Need-returns
 returns c =
     let a = c .before .before .before .before .before .before .args in
-    wrote-refused (rowBytes (now (a .label)) (a .ssrc) (a .t)) (now (a .out)) (fault-record (now (a .label)) (a .t) (lost-refused (a .t .source) (sym (c .before .before .lost .ensures) ∙ c .enum-told .given .1)))
+    wrote-refused (rowBytes (now (a .label)) (a .ssrc) (a .t)) (now (a .out)) (fault-record (now (a .label)) (a .t) (lost-refused (a .t .source) (sym (c .before .before .lost .ensures .0) ∙ c .enum-told .given .1)))
 
 returns-2 : tie.Need-returns-2
 returns-2 c =

@@ -6,12 +6,12 @@ use Rattle.between.proofs.calls.counts_since.Tie as tie
 
 returns-3 : tie.Need-returns-3
 returns-3 c =
-    let counts = sym (c .before .before .before .since .ensures) ∙ c .before .counts .given .1 in
+    let counts = sym (c .before .before .before .since .ensures .0) ∙ c .before .counts .given .1 in
     rw (c .before .before .before .before .before .before .before .before .later .given .1, c .before .before .before .before .before .earlier .given .1, counts)
 
 returns-4 : tie.Need-returns-4
 returns-4 c =
-    let back = sym (c .before .before .since .ensures) ∙ c .enum-told3 .given .1 in
+    let back = sym (c .before .before .since .ensures .0) ∙ c .enum-told3 .given .1 in
     rw (c .before .before .before .before .before .before .before .later .given .1, c .before .before .before .before .earlier .given .1, back)
 
 pub counts-since-spec : {M : Type 1} → statement M

@@ -1,5 +1,7 @@
 -- `breaker::Breaker::report` meets its contract. Assumes nothing.
 use borrow.Author.Needs.{needs}
+use Rattle.answers.proofs.Numbers.{numbered}
+use Rattle.breaker.specs.Numbered.{stepAs}
 use mathlib.Core.Path.{ap, _∙_, subst}
 use mathlib.Core.Bool.{not}
 use borrow.Author.Tests.{lt-ltb, le-ltb, le-leb, lt-leb}
@@ -17,28 +19,31 @@ opens c = subst (Opens _) (c .enum-told .given .1) (c .before .before .opening .
 
 returns : tie.Need-returns
 unfolding reportOf
-returns c = c .answered .ensures ∙ subst (Opens _) (c .before .before .answer .given .1) (c .before .before .before .before .opening .ensures) _
+returns c = numbered stepAs (c .answered .ensures ∙ subst (Opens _) (c .before .before .answer .given .1) (c .before .before .before .before .opening .ensures) _)
 
 returns-2 : tie.Need-returns-2
 unfolding reportOf
 returns-2 c =
-    open-goes _ _ (opens (c .before .before .before))
-    (cond-ends _ _ _ _ (ap not (was-false (c .before .before .report-ok .ensures) (c .before .if1 .taken))) (c .answered2 .ensures))
+    numbered stepAs
+    (open-goes _ _ (opens (c .before .before .before))
+    (cond-ends _ _ _ _ (ap not (was-false (c .before .before .report-ok .ensures) (c .before .if1 .taken))) (c .answered2 .ensures)))
 
 returns-3 : tie.Need-returns-3
 unfolding reportOf
 returns-3 c =
-    open-goes _ _ (opens (c .before .before .before .before .before .before))
+    numbered stepAs
+    (open-goes _ _ (opens (c .before .before .before .before .before .before))
     (cond-goes _ _ _ _ (ap not (was-true (c .before .before .before .before .before .report-ok .ensures) (c .before .before .before .before .if1 .left)))
-    (cond-ends _ _ _ _ (le-leb _ _ (c .before .if2 .taken)) (c .answered3 .ensures)))
+    (cond-ends _ _ _ _ (le-leb _ _ (c .before .if2 .taken)) (c .answered3 .ensures))))
 
 returns-4 : tie.Need-returns-4
 unfolding reportOf
 returns-4 c =
-    open-goes _ _ (opens (c .before .before .before .before .before .before .before .before .before))
+    numbered stepAs
+    (open-goes _ _ (opens (c .before .before .before .before .before .before .before .before .before))
     (cond-goes _ _ _ _ (ap not (was-true (c .before .before .before .before .before .before .before .before .report-ok .ensures) (c .before .before .before .before .before .before .before .if1 .left)))
     (cond-goes _ _ _ _ (lt-leb _ _ (c .before .before .before .before .if2 .left))
-    (cond-ends _ _ _ _ (lt-ltb _ _ (c .before .if3 .taken)) (c .answered4 .ensures))))
+    (cond-ends _ _ _ _ (lt-ltb _ _ (c .before .if3 .taken)) (c .answered4 .ensures)))))
 
 ruled-requires : tie.Need-ruled-requires
 ruled-requires c κs =
@@ -53,11 +58,12 @@ ruled-requires c κs =
 returns-5 : tie.Need-returns-5
 unfolding reportOf
 returns-5 c =
-    open-goes _ _ (opens (c .before .before .before .before .before .before .before .before .before))
+    numbered stepAs
+    (open-goes _ _ (opens (c .before .before .before .before .before .before .before .before .before))
     (cond-goes _ _ _ _ (ap not (was-true (c .before .before .before .before .before .before .before .before .report-ok .ensures) (c .before .before .before .before .before .before .before .if1 .left)))
     (cond-goes _ _ _ _ (lt-leb _ _ (c .before .before .before .before .if2 .left))
     (cond-goes _ _ _ _ (le-ltb _ _ (c .before .if3 .left))
-    (c .ruled .ensures))))
+    (c .ruled .ensures)))))
 
 pub report-spec : {M : Type 1} → statement M
 report-spec =

@@ -33,7 +33,7 @@ returns-3 c =
     let a = c .before .before .before .before .before .before .before .before .args in
     let reduce = le-leb (a .reduce) 1 (c .before .before .before .before .before .before .if1 .left) in
     let full = le-leb (a .full) 1 (c .before .before .before .before .before .if2 .left) in
-    start-is (now (a .breaker)) (cond-goes _ _ _ _ (ap not reduce) (cond-goes _ _ _ _ (ap not full) (c .before .before .before .before .start .ensures))) (c .before .before .put-front .ensures)
+    start-is (now (a .breaker)) (cond-goes _ _ _ _ (ap not reduce) (cond-goes _ _ _ _ (ap not full) (c .before .before .before .before .start .ensures .0))) (c .before .before .put-front .ensures)
 
 pub flasknib-breaker-start-spec : {M : Type 1} → statement M
 flasknib-breaker-start-spec =

@@ -27,7 +27,7 @@ returns-2 c =
     let a = c .before .before .before .before .before .before .before .before .before .before .before .args in
     let given = c .before .before .before .before .before .before .before .before .record-in .ensures in
     let fit = was-true (ap (λ (g : Loaded). g .ok) given) (c .before .before .before .before .before .before .if1 .left) in
-    let made = c .before .before .before .before .tick .ensures ∙ ap (λ (g : Loaded). tickOf (g .breaker) (a .time)) given in
+    let made = c .before .before .before .before .tick .ensures .0 ∙ ap (λ (g : Loaded). tickOf (g .breaker) (a .time)) given in
     call-made _ (now (a .breaker)) fit made (c .before .before .put-back .ensures)
 
 pub flasknib-breaker-tick-spec : {M : Type 1} → statement M

@@ -27,7 +27,7 @@ returns-2 c =
     let a = c .before .before .before .before .before .before .before .before .before .before .before .args in
     let given = c .before .before .before .before .before .before .before .before .record-in .ensures in
     let fit = was-true (ap (λ (g : Loaded). g .ok) given) (c .before .before .before .before .before .before .if1 .left) in
-    let made = c .before .before .before .before .report .ensures ∙ ap (λ (g : Loaded). reportOf (g .breaker) (record { time = a .time; highest = a .highest; loss = a .loss; rtt = a .rtt; size = a .size; rate = a .rate })) given in
+    let made = c .before .before .before .before .report .ensures .0 ∙ ap (λ (g : Loaded). reportOf (g .breaker) (record { time = a .time; highest = a .highest; loss = a .loss; rtt = a .rtt; size = a .size; rate = a .rate })) given in
     call-made _ (now (a .breaker)) fit made (c .before .before .put-back .ensures)
 
 pub take-report-spec : {M : Type 1} → statement M

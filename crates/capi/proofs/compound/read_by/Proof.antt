@@ -16,7 +16,7 @@ returns-2 : tie.Need-returns-2
 unfolding readingBy
 returns-2 c =
     let a = c .before .before .before .before .args in
-    rw (le-leb _ _ (c .before .before .if1 .left)) (c .read-compound .ensures ∙ ap (reading (now (a .bytes)) (a .media)) (c .before .profile-of .ensures))
+    rw (le-leb _ _ (c .before .before .if1 .left)) (c .read-compound .ensures .0 ∙ ap (reading (now (a .bytes)) (a .media)) (c .before .profile-of .ensures))
 
 pub read-by-spec : {M : Type 1} → statement M
 read-by-spec = tie.close (tie.spec returns (λ c κs. search needs) (λ c κs. search needs) returns-2)

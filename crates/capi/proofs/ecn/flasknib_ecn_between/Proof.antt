@@ -15,21 +15,21 @@ returns : tie.Need-returns
 returns c =
     let a = c .before .before .before .before .before .before .args in
     let g = c .before .before .c .given in
-    rw (sym (c .before .before .before .before .since .ensures) ∙ g .1)
+    rw (sym (c .before .before .before .before .since .ensures .0) ∙ g .1)
     (gives refusalCode (wrote-short (ecnWords (g .0 .0)) (now (a .counts)) refl (c .if1 .taken) refl) refl)
 
 returns-2 : tie.Need-returns-2
 returns-2 c =
     let a = c .before .before .before .before .before .before .args in
     let told = sinceKept (reportGiven (a .later-highest) (a .later-ce) (a .later-lost)) (reportGiven (a .earlier-highest) (a .earlier-ce) (a .earlier-lost)) in
-    let is = sym (c .before .before .before .before .since .ensures) ∙ c .before .before .refusal .given .1 in
+    let is = sym (c .before .before .before .before .since .ensures .0) ∙ c .before .before .refusal .given .1 in
     gives refusalCode (wrote-refused (betweenWords told) (now (a .counts)) (ap betweenFault is)) (c .number .ensures)
 
 returns-3 : tie.Need-returns-3
 returns-3 c =
     let a = c .before .before .before .before .before .before .before .before .before .before .args in
     let g = c .before .before .before .before .before .before .c .given in
-    rw (sym (c .before .before .before .before .before .before .before .before .since .ensures) ∙ g .1)
+    rw (sym (c .before .before .before .before .before .before .before .before .since .ensures .0) ∙ g .1)
     (gives refusalCode (wrote-all (ecnWords (g .0 .0)) (now (a .counts)) refl (c .before .before .before .before .if1 .left) refl (c .before .before .store .ensures)) refl)
 
 pub flasknib-ecn-between-spec : {M : Type 1} → statement M

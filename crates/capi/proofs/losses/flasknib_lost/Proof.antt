@@ -38,7 +38,7 @@ returns-2 c =
     let a = c .before .before .before .before .before .before .before .before .before .before .before .args in
     let e = sym (c .before .before .before .before .before .before .before .before .load .ensures) ∙ c .before .before .before .before .before .before .source .given .1 in
     let g = c .before .before .lost2 .given in
-    let told = sym (c .before .before .before .before .lost .ensures) ∙ g .1 in
+    let told = sym (c .before .before .before .before .lost .ensures .0) ∙ g .1 in
     gives {answer = Room 1} refusalCode (held-wrote (now (a .words)) fault word (now (a .found)) e (rw told (wrote-short (lostWords (g .0 .0)) (now (a .found)) refl (c .if1 .taken) refl))) refl
 
 returns-3 : tie.Need-returns-3
@@ -46,7 +46,7 @@ returns-3 c =
     let a = c .before .before .before .before .before .before .before .before .before .before .before .before .before .before .before .args in
     let e = sym (c .before .before .before .before .before .before .before .before .before .before .before .before .load .ensures) ∙ c .before .before .before .before .before .before .before .before .before .before .source .given .1 in
     let g = c .before .before .before .before .before .before .lost2 .given in
-    let told = sym (c .before .before .before .before .before .before .before .before .lost .ensures) ∙ g .1 in
+    let told = sym (c .before .before .before .before .before .before .before .before .lost .ensures .0) ∙ g .1 in
     let stored = c .before .before .store .ensures ∙ ap (λ (lost : ℤ). sets (now (a .found)) 0 (lostWords lost)) (seen-is (g .0 .0) (search needs)) in
     gives {answer = Length 1} refusalCode (held-wrote (now (a .words)) fault word (now (a .found)) e (rw told (wrote-all (lostWords (g .0 .0)) (now (a .found)) refl (c .before .before .before .before .if1 .left) refl stored))) refl
 
@@ -54,7 +54,7 @@ returns-4 : tie.Need-returns-4
 returns-4 c =
     let a = c .before .before .before .before .before .before .before .before .before .before .before .args in
     let e = sym (c .before .before .before .before .before .before .before .before .load .ensures) ∙ c .before .before .before .before .before .before .source .given .1 in
-    let told = sym (c .before .before .before .before .lost .ensures) ∙ c .before .before .refusal .given .1 in
+    let told = sym (c .before .before .before .before .lost .ensures .0) ∙ c .before .before .refusal .given .1 in
     gives refusalCode (held-wrote (now (a .words)) fault word (now (a .found)) e (wrote-refused _ (now (a .found)) (ap lostFault told))) (c .number .ensures)
 
 pub flasknib-lost-spec : {M : Type 1} → statement M

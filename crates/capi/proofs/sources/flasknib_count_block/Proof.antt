@@ -22,7 +22,7 @@ mul-result : tie.Need-mul-result
 mul-result c =
     let a = c .before .before .before .before .before .before .before .before .before .before .before .before .before .before .before .args in
     let e = sym (c .before .before .before .before .before .before .before .before .before .before .before .load .ensures) ∙ c .before .before .before .before .before .before .before .before .before .source .given .1 in
-    let f = sym (c .before .before .before .before .before .before .before .count-block .ensures) ∙ c .before .before .before .before .before .next .given .1 in
+    let f = sym (c .before .before .before .before .before .before .before .count-block .ensures .0) ∙ c .before .before .before .before .before .next .given .1 in
     let jumps = few-jumps _ (a .width) (now (a .records)) f in
     let restarts = few-restarts _ (a .width) (now (a .records)) f in
     record { fits = omega (arith, restarts) }
@@ -31,7 +31,7 @@ add-result : tie.Need-add-result
 add-result c =
     let a = c .before .before .before .before .before .before .before .before .before .before .before .before .before .before .before .args in
     let e = sym (c .before .before .before .before .before .before .before .before .before .before .before .load .ensures) ∙ c .before .before .before .before .before .before .before .before .before .source .given .1 in
-    let f = sym (c .before .before .before .before .before .before .before .count-block .ensures) ∙ c .before .before .before .before .before .next .given .1 in
+    let f = sym (c .before .before .before .before .before .before .before .count-block .ensures .0) ∙ c .before .before .before .before .before .next .given .1 in
     let jumps = few-jumps _ (a .width) (now (a .records)) f in
     let restarts = few-restarts _ (a .width) (now (a .records)) f in
     record { fits = omega (arith, restarts, jumps) }
@@ -40,7 +40,7 @@ cast-result : tie.Need-cast-result
 cast-result c =
     let a = c .before .before .before .before .before .before .before .before .before .before .before .before .before .before .before .args in
     let e = sym (c .before .before .before .before .before .before .before .before .before .before .before .load .ensures) ∙ c .before .before .before .before .before .before .before .before .before .source .given .1 in
-    let f = sym (c .before .before .before .before .before .before .before .count-block .ensures) ∙ c .before .before .before .before .before .next .given .1 in
+    let f = sym (c .before .before .before .before .before .before .before .count-block .ensures .0) ∙ c .before .before .before .before .before .next .given .1 in
     let jumps = few-jumps _ (a .width) (now (a .records)) f in
     let restarts = few-restarts _ (a .width) (now (a .records)) f in
     record { sfits = omega (arith, restarts, jumps) }
@@ -49,7 +49,7 @@ returns-2 : tie.Need-returns-2
 returns-2 c =
     let a = c .before .before .before .before .before .before .before .before .before .before .before .before .before .before .before .args in
     let e = sym (c .before .before .before .before .before .before .before .before .before .before .before .load .ensures) ∙ c .before .before .before .before .before .before .before .before .before .source .given .1 in
-    let f = sym (c .before .before .before .before .before .before .before .count-block .ensures) ∙ c .before .before .before .before .before .next .given .1 in
+    let f = sym (c .before .before .before .before .before .before .before .count-block .ensures .0) ∙ c .before .before .before .before .before .next .given .1 in
     let jumps = few-jumps _ (a .width) (now (a .records)) f in
     let restarts = few-restarts _ (a .width) (now (a .records)) f in
     let w = counts-next (now (a .words)) (a .width) (now (a .records)) _ e f in
@@ -60,7 +60,7 @@ returns-3 : tie.Need-returns-3
 returns-3 c =
     let a = c .before .before .before .before .before .before .before .before .before .before .before .before .args in
     let e = sym (c .before .before .before .before .before .before .before .before .load .ensures) ∙ c .before .before .before .before .before .before .source .given .1 in
-    let f = sym (c .before .before .before .before .count-block .ensures) ∙ c .before .before .refusal .given .1 in
+    let f = sym (c .before .before .before .before .count-block .ensures .0) ∙ c .before .before .refusal .given .1 in
     let w = counts-refused (now (a .words)) (a .width) (now (a .records)) _ e f in
     record { answers = seen-is (c .minus2 .result) (search needs) ∙ c .minus2 .ensures ∙ w .answers; stores = w .stores }
 

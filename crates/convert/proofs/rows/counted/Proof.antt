@@ -42,7 +42,7 @@ returns c =
     let b = now (s .args .block) in
     let wide = c .before .before .before .width in
     let size : 8 + s .args .n * wide .result - 8 ≡ s .args .n * wide .result = omega arith in
-    let count = c .before .count-block .ensures ∙ ap (λ (k : ℕ). blockCount (run .totals .source) (wide .result) (take k (drop 8 b))) size
+    let count = c .before .count-block .ensures .0 ∙ ap (λ (k : ℕ). blockCount (run .totals .source) (wide .result) (take k (drop 8 b))) size
     ∙ ap (λ (w : ℕ). blockCount (run .totals .source) w (take (s .args .n * w) (drop 8 b))) (wide .ensures) in
     λ i. record { form = run .form; length = run .length; ssrc = run .ssrc; totals = (c .with-block .ensures ∙ ap (withBlock (run .totals)) count) i }
 

@@ -11,7 +11,7 @@ use Rattle.convert.proofs.soundness.are_sound.Statement.{statement}
 use Rattle.convert.proofs.soundness.are_sound.Tie as tie
 
 returns : tie.Need-returns
-returns c = let t = c .before .before .before .before .args .t in all-false (soundTotals t) 0 (lost-refused (t .source) (sym (c .before .before .lost .ensures) ∙ c .enum-told2 .given .1))
+returns c = let t = c .before .before .before .before .args .t in all-false (soundTotals t) 0 (lost-refused (t .source) (sym (c .before .before .lost .ensures .0) ∙ c .enum-told2 .given .1))
 
 returns-2 : tie.Need-returns-2
 returns-2 c = let t = c .before .before .before .before .before .before .args .t in all-false (soundTotals t) 1 (lt-leb (t .jumped) mostTold (c .if1 .taken))
@@ -19,7 +19,7 @@ returns-2 c = let t = c .before .before .before .before .before .before .args .t
 returns-3 : tie.Need-returns-3
 returns-3 c =
     let t = c .before .before .before .before .before .before .before .args .t in
-    totals-last t (lost-packets (t .source) (sym (c .before .before .before .before .before .lost .ensures) ∙ c .before .before .before .enum-told .given .1) .good) (c .before .if1 .left)
+    totals-last t (lost-packets (t .source) (sym (c .before .before .before .before .before .lost .ensures .0) ∙ c .before .before .before .enum-told .given .1) .good) (c .before .if1 .left)
 
 pub are-sound-spec : {M : Type 1} → statement M
 are-sound-spec = tie.close (tie.spec (λ c κs. search needs) (λ c. search needs) (λ c. search needs) returns returns-2 returns-3)

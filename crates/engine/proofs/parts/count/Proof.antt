@@ -55,7 +55,7 @@ recent-of c = let k = c .count .ok in omega (arith, k)
 fits : (c : tie.After-known-told2 Inv-loop μ-loop) → marksFit (held (c .before .before .before .before .before .before .before .before .before .args .width) (bytes (c .before .before .before .before .before))) ≡ true
 fits c =
     let a = c .before .before .before .before .before .before .before .before .before .args in
-    subst (PartIs (c .before .before .before .before .before .before .before .loop .next) (held (a .width) (bytes (c .before .before .before .before .before)))) (c .before .ordered .given .1) (given (c .before .before .before) .0)
+    subst (PartIs (c .before .before .before .before .before .before .before .loop .next) (held (a .width) (bytes (c .before .before .before .before .before)))) (c .before .ordered .given .1) (given (c .before .before .before) .0) .0
 
 loop-holds : tie.Need-loop-holds Inv-loop μ-loop
 loop-holds c =

@@ -1,16 +1,20 @@
 -- `engine::stretches::count_part` meets its contract. Assumes nothing.
 use borrow.Author.Needs.{needs}
-use mathlib.Core.Path.{_≡_, sym, ap, _∙_}
+use mathlib.Core.Bool.{false}
+use mathlib.Core.Path.{_≡_, sym, ap, ap₂, subst, _∙_}
 use native.Mathlib.Omega.{arith}
-use Prim.Native.Nat.{_+_, _-_, _/_}
+use Prim.Native.Nat.{ℕ, _+_, _-_, _/_, _%_, _≤_}
+use lib.IntN.{natAbs}
 use lib.ListN.{length}
 use denote.Ref.{now}
 use Rattle.numbers.specs.BigEndian.{word}
 use Rattle.numbers.proofs.BigEndian.{Octets}
+use Rattle.numbers.proofs.Signed.{seen-is}
 use Rattle.source.proofs.Packets.{all-left, room-left}
-use Rattle.engine.specs.Windows.{held, turned}
+use Rattle.engine.specs.Windows.{held, within, turned}
+use Rattle.engine.specs.Settled.{topOf}
 use Rattle.engine.proofs.Counts.{part-some, misfit-of}
-use Rattle.engine.proofs.InRow.{packets-wired}
+use Rattle.engine.proofs.InRow.{packets-wired, first-outside}
 use Rattle.engine.proofs.Marked.{no-fours, some-fours}
 use Rattle.engine.proofs.stretches.count_part.Statement.{statement}
 use Rattle.engine.proofs.stretches.count_part.Tie as tie
@@ -24,6 +28,21 @@ first-is c =
     let a = c .before .before .args in
     let e : 0 + (a .width - 4) ≡ a .width - 4 = omega arith in
     c .number .ensures .0 ∙ ap (word 2 (now (a .records))) e
+
+-- the top of the record's window
+top-is : (c : tie.After-magnitude) → c .magnitude .result % 65536 + 40 ≡ topOf (c .before .before .before .before .before .args .s)
+top-is c =
+    let z = c .before .before .before .before .before .args .s .highest .0 in
+    ap (λ (m : ℕ). m % 65536 + 40) (c .magnitude .ensures ∙ ap natAbs (seen-is z (search needs)))
+
+-- the first number lies outside it
+outside : (c : tie.Then1) → within (topOf (c .before .before .before .before .before .before .args .s)) (held (c .before .before .before .before .before .before .args .width) (now (c .before .before .before .before .before .before .args .records))) ≡ false
+outside c =
+    let p = c .before .before .before .before .before .before in
+    let first = first-is (c .before .before .before .before) in
+    let far : 64 ≤ (topOf (p .args .s) + 65536 - word 2 (now (p .args .records)) (p .args .width - 4)) % 65536 =
+    subst (λ (x : ℕ). 64 ≤ x) (ap₂ (λ (top first : ℕ). (top + 65536 - first) % 65536) (top-is (c .before)) first) (c .if1 .taken) in
+    first-outside (topOf (p .args .s)) (p .args .width) (now (p .args .records)) (p .args .n) (p .pre .0) far
 
 number-requires : tie.Need-number-requires
 number-requires c κs =
@@ -56,7 +75,7 @@ returns-2 : tie.Need-returns-2
 returns-2 c =
     let a = c .before .before .before .before .before .before .before .before .args in
     let s = now (a .records) in
-    (no-fours (held (a .width) s) (omega (arith, c .if2 .left, c .before .fours .ensures)), packets-wired (a .width) (length s / a .width) s (octets (c .before .before .before .before .before .before .before)))
+    ((no-fours (held (a .width) s) (omega (arith, c .if2 .left, c .before .fours .ensures)), outside (c .before .before)), packets-wired (a .width) (length s / a .width) s (octets (c .before .before .before .before .before .before .before)))
 
 mul-turned : tie.Need-mul-turned
 mul-turned c = search needs

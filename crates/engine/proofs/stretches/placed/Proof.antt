@@ -9,7 +9,7 @@ use Rattle.numbers.proofs.Signed.{seen-is}
 use Rattle.source.proofs.Facts.{facts, some-has-counted}
 use Rattle.engine.specs.Windows.{held, turned, foundIn}
 use Rattle.engine.specs.Settled.{topOf, ShiftedBy}
-use Rattle.engine.proofs.Placing.{scan-fit, scan-of, scan-strays, found-at, up-few, more-few, settled-is}
+use Rattle.engine.proofs.Placing.{scan-fit, scan-of, scan-strays, found-at, found-none, up-few, more-few, settled-is}
 use Rattle.engine.proofs.stretches.placed.Statement.{statement}
 use Rattle.engine.proofs.stretches.placed.Tie as tie
 
@@ -28,8 +28,10 @@ find-requires c κs =
 
 returns : tie.Need-returns
 returns c =
-    let p = c .before .before .before .before .before .before .before .before in
-    scan-fit (p .args .width) (now (p .args .records)) (p .args .n) (turned (p .args .first)) (p .pre .0 .0) (p .args .scan) (p .pre .1 .1)
+    let p = c .before .before .before .before .before .before .before .before in (
+      scan-fit (p .args .width) (now (p .args .records)) (p .args .n) (turned (p .args .first)) (p .pre .0 .0) (p .args .scan) (p .pre .1 .1),
+      found-none (topOf (p .args .s)) (held (p .args .width) (now (p .args .records))) (sym (c .before .enum-told .given .1) ∙ told (c .before .before .before)),
+    )
 
 moved-on-requires : tie.Need-moved-on-requires
 moved-on-requires c κs =

@@ -33,7 +33,7 @@ returns c =
     let b = now (a .block) in
     let wide = c .before .before .before .width in
     let size : 8 + a .n * wide .result - 8 ≡ a .n * wide .result = omega arith in
-    let count = c .before .count-block .ensures ∙ ap (λ (k : ℕ). blockCount (a .totals .source) (wide .result) (take k (drop 8 b))) size
+    let count = c .before .count-block .ensures .0 ∙ ap (λ (k : ℕ). blockCount (a .totals .source) (wide .result) (take k (drop 8 b))) size
     ∙ ap (λ (w : ℕ). blockCount (a .totals .source) w (take (a .n * w) (drop 8 b))) (wide .ensures) in
     c .with-block .ensures ∙ ap (withBlock (a .totals)) count
 

@@ -11,7 +11,7 @@ use Rattle.report.proofs.carried.of.Statement.{statement}
 use Rattle.report.proofs.carried.of.Tie as tie
 
 known : (c : tie.After-highest) → Counted (c .before .before .before .before .before .args .s) (c .before .before .lost2 .given .0 .0)
-known c = lost-packets (c .before .before .before .before .before .args .s) (sym (c .before .before .before .before .lost .ensures) ∙ c .before .before .lost2 .given .1)
+known c = lost-packets (c .before .before .before .before .before .args .s) (sym (c .before .before .before .before .lost .ensures .0) ∙ c .before .before .lost2 .given .1)
 
 counts-requires : tie.Need-counts-requires
 counts-requires c κs =
@@ -20,7 +20,7 @@ counts-requires c κs =
 
 returns : tie.Need-returns
 unfolding carriedOf
-returns c = rw (lost-refused (c .before .before .before .args .s) (sym (c .before .before .lost .ensures) ∙ c .enum-told .given .1))
+returns c = rw (lost-refused (c .before .before .before .args .s) (sym (c .before .before .lost .ensures .0) ∙ c .enum-told .given .1))
 
 returns-2 : tie.Need-returns-2
 unfolding carriedOf

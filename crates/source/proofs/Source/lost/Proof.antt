@@ -2,6 +2,8 @@
 use borrow.Author.Needs.{needs}
 use mathlib.Core.Path.{sym, ap, _∙_}
 use Rattle.answers.proofs.Conditions.{was-false, was-true}
+use Rattle.answers.proofs.Numbers.{numbered}
+use Rattle.source.specs.Numbered.{lostAs}
 use Rattle.source.proofs.Facts.{sound-has-counted}
 use Rattle.numbers.proofs.Signed.{seen-is}
 use Rattle.source.specs.declared.Lost.the-variants.{Packets}
@@ -11,12 +13,12 @@ use Rattle.source.proofs.Source.lost.Tie as tie
 
 returns : tie.Need-returns
 unfolding lostAnswer
-returns c = rw (was-false (c .before .is-sound .ensures) (c .if1 .taken))
+returns c = numbered lostAs (rw (was-false (c .before .is-sound .ensures) (c .if1 .taken)))
 
 returns-2 : tie.Need-returns-2
 unfolding lostAnswer lost
 returns-2 c =
-    rw (was-true (c .before .before .before .is-sound .ensures) (c .before .before .if1 .left), sym (c .before .is-fresh .ensures) ∙ c .if2 .taken)
+    numbered lostAs (rw (was-true (c .before .before .before .is-sound .ensures) (c .before .before .if1 .left), sym (c .before .is-fresh .ensures) ∙ c .if2 .taken))
 
 packets-requires : tie.Need-packets-requires
 packets-requires c κs =
@@ -27,7 +29,7 @@ packets-requires c κs =
 returns-3 : tie.Need-returns-3
 unfolding lostAnswer
 returns-3 c =
-    rw (was-true (c .before .before .before .before .is-sound .ensures) (c .before .before .before .if1 .left)) (ap Packets (seen-is (c .packets .result) (search needs) ∙ c .packets .ensures))
+    numbered lostAs (rw (was-true (c .before .before .before .before .is-sound .ensures) (c .before .before .before .if1 .left)) (ap Packets (seen-is (c .packets .result) (search needs) ∙ c .packets .ensures)))
 
 pub lost-spec : {M : Type 1} → statement M
 lost-spec =

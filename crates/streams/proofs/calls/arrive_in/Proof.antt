@@ -66,7 +66,7 @@ returns-3 c =
     let f = c .before .before .before .before .before .before .before .before .find in
     arrived-put (a .t) (a .n) (s .pre) (long s) (a .ssrc) (f .result) (f .ensures .0) (a .wire) (a .mark) (c .before .before .before .before .before .before .before .if1 .left)
     (was-true (c .before .before .before .before .before .before .has-room .ensures) (c .before .before .before .before .before .if2 .left))
-    (c .before .before .before .before .record-at .ensures) (c .before .before .before .arrive .ensures) (c .before .before .after .ensures) (c .before .put-at .ensures) (c .told .ensures)
+    (c .before .before .before .before .record-at .ensures) (c .before .before .before .arrive .ensures .0) (c .before .before .after .ensures) (c .before .put-at .ensures) (c .told .ensures)
 
 pub arrive-in-spec : {M : Type 1} → statement M
 arrive-in-spec =

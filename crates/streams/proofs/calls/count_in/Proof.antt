@@ -50,7 +50,7 @@ returns c =
     let a = s .args in
     let f = c .before .before .before .before .before .find in
     counted-limits (a .t) (a .n) (s .pre) (long s) (a .ssrc) (f .result) (f .ensures .0) (a .width) (now (a .records)) (c .before .before .before .before .record-at .ensures)
-    (sym (c .before .before .before .count-block .ensures) ∙ c .before .refusal .given .1)
+    (sym (c .before .before .before .count-block .ensures .0) ∙ c .before .refusal .given .1)
 
 returns-2 : tie.Need-returns-2
 returns-2 c =
@@ -59,7 +59,7 @@ returns-2 c =
     let f = c .before .before .before .before .before .before .find in
     c .settled .ensures
     ∙ counted-put (a .t) (a .n) (s .pre) (long s) (a .ssrc) (f .result) (f .ensures .0) (a .width) (now (a .records)) (c .before .before .before .before .before .record-at .ensures)
-    (sym (c .before .before .before .before .count-block .ensures) ∙ c .before .before .source .given .1)
+    (sym (c .before .before .before .before .count-block .ensures .0) ∙ c .before .before .source .given .1)
 
 pub count-in-spec : {M : Type 1} → statement M
 count-in-spec =
