@@ -28,6 +28,7 @@ pub mod Uses
 pub mod WitnessesBreaker
 pub mod WitnessesBetween
 pub mod BetweenCalls
+pub mod NumberedAnswers
 pub mod WitnessesSources
 pub mod WitnessesPieces
 pub mod FedTables

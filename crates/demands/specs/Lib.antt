@@ -12,6 +12,7 @@ pub mod Examples
 pub mod BetweenReports
 pub mod OwnReports
 pub mod BetweenCalls
+pub mod Numbered
 pub mod EachSource
 pub mod WorseLoss
 pub mod Witnesses
