@@ -123,6 +123,7 @@ impl Source {
     // Counts one arrival, as `arrive` does: the call for a record that stands in a table.
     pub fn arrive_in_table(self, wire: Wire, mark: u8) -> Arrival
         ensures { λ r. ⌜ r ≡ arrival self wire mark ⌝ }
+        ensures { λ r. ⌜ arrivalAs r ≡ arrivalAs (arrival self wire mark) ⌝ }
     {
         if !soundness::is_sound(self) {
             return Arrival::Refused(Refusal::Malformed, self);
