@@ -25,6 +25,7 @@ import tracemalloc
 import types
 import typing
 import unittest
+import unittest.mock
 from array import array
 
 TOP = pathlib.Path(__file__).resolve().parent.parent
@@ -41,7 +42,7 @@ sys.dont_write_bytecode = True  # the repository may not be ours to write to
 sys.path[:0] = [str(PACKAGE), str(TOP / "tests")]
 import flasknib  # noqa: E402
 from flasknib import Arrival, Breaker, Feed, Mark, Refused, Source, Sources, header  # noqa: E402
-from flasknib import _lend  # noqa: E402
+from flasknib import _lend, _library  # noqa: E402
 import writer  # noqa: E402
 
 LABEL, BLOCK = flasknib.write_label(1, b"ward 3", 7), header.BLOCK_BYTES
@@ -254,6 +255,69 @@ class Worked(Tried):
             self.assertTrue(self.stops(rate + 1, **settings))
 
 
+def receiver_report(*block: int) -> bytes:
+    """An RR of SSRC 9, with a report block about SSRC 1 if there are words for it."""
+    words = [0x80C90001 + (0x01000006 if block else 0), 9, *([1, *block] if block else [])]
+    return b"".join(word.to_bytes(4, "big") for word in words)
+
+
+class Packets(Tried):
+    """What a packet says, and which of the breaker's calls it is for."""
+
+    SENDING = {"rtt": 100, "size": 1000, "rate": 1000}
+
+    def test_report_block(self):
+        found = flasknib.read_compound(receiver_report(0x40FFFFFF, 70000, 5, 6, 7), 1)
+        self.assertEqual(found.report, flasknib.ReportBlock(fraction=64, lost=-1, highest=70000, jitter=5, lsr=6, dlsr=7))
+        self.assertEqual((found.feedback, found.summary, found.sr_or_rr, len(found.words)), (None, None, True, header.COMPOUND_WORDS))
+
+    def test_summary_entry(self):
+        source = counted(C1)
+        extended = (0x80CF0007).to_bytes(4, "big") + (9).to_bytes(4, "big") + source.summary(1)
+        found = flasknib.read_compound(receiver_report() + extended, 1)
+        self.assertEqual(found.summary, flasknib.Summary(ect0=2, ect1=1, ce=2, not_ect=0, lost=2, duplicates=1))
+
+    def same(self, given: list, calls: list) -> None:
+        """The breaker ends in the same words by packets, and by the calls that they are for."""
+        by_packets, by_calls = Breaker(0), Breaker(0)
+        for at, (packet, call) in enumerate(zip(given, calls), 1):
+            by_packets.packet(packet, 1, 1000 * at, **self.SENDING)
+            call(by_calls, 1000 * at)
+            self.assertEqual(by_packets.words, by_calls.words)
+
+    def test_reports_and_heard_packets(self):
+        report = lambda breaker, time: breaker.report(time, 70000, 64, **self.SENDING)  # noqa: E731
+        self.same([receiver_report(0x40000003, 70000, 0, 0, 0), receiver_report()], [report, Breaker.heard])
+
+    def test_reports_with_counts(self):
+        """Lost, and found again: the second interval has losses, the third a negative number of them."""
+        sources, packets, calls = Sources(), [], []
+        for numbers, lost, marked in (([10, 11], 0, 0), ([20, 21], 8, 2), ([12, 13, 14, 22], -3, 4)):
+            for number in numbers:
+                sources.arrive(1, number, Mark.CE)
+            expected = numbers[-1] - (0, 11, 21)[len(calls)] if calls else 0
+            packets.append(sources.compound(9))
+            counts = numbers[-1], lost, marked, expected
+            calls.append(lambda breaker, time, counts=counts: breaker.report_ecn(time, *counts, **self.SENDING))
+        self.same(packets, calls)
+        first, second, third = (flasknib.read_compound(packet, 1).feedback for packet in packets)
+        self.assertEqual(flasknib.ecn_between(second, first), flasknib.Between(8, 2, 10))
+        self.assertEqual(flasknib.ecn_between(third, second), flasknib.Between(-3, 4, 1))
+        self.refuses(10, flasknib.ecn_between, first, second)
+        self.assertEqual((flasknib.since16(3, 65535), flasknib.since32(0, 1), flasknib.lost_since(0, 3)), (4, 2**32 - 1, -3))
+
+    def test_attributes(self):
+        Method, Mode, Ect = flasknib.Method, flasknib.Mode, flasknib.Ect
+        given = flasknib.Attribute((Method.LEAP, Method.RTP, Method.ICE), Mode.READONLY, Ect.RANDOM)
+        line = flasknib.offer(*given)
+        self.assertEqual((line, flasknib.read_attribute(line)), (b"a=ecn-capable-rtp: leap,rtp,ice mode=readonly; ect=random", given))
+        self.assertEqual(flasknib.answer(given, given), None)
+        self.assertEqual(flasknib.answer(line, flasknib.Attribute((Method.ICE,))), b"a=ecn-capable-rtp: ice")
+        for methods, mode, ect, number in (([], 0, 0, 10), ([1] * 9, 0, 0, 10), ([4], 0, 0, 9), ([1], 4, 0, 9), ([1], 0, 4, 9)):
+            self.refuses(number, flasknib.offer, methods, mode, ect)
+        self.refuses(10, flasknib.answer, flasknib.Attribute((1,) * 9), given)
+
+
 class Samples(Tried):
     def test_tables(self):
         """Byte for byte, in one stretch and in stretches of several sizes."""
@@ -312,6 +376,11 @@ class Samples(Tried):
         found = flasknib.streams(SAMPLES / "streams/scanners.trace")
         self.assertEqual([tuple(row) for row in found], self.values(SAMPLES / "streams/scanners.csv")[0])
         self.assertEqual(self.refuses(13, flasknib.streams, LABEL + ARRIVALS + bytes(512)).block, 2)
+        zeroth = bytearray(LABEL)
+        run = flasknib.Streams(zeroth)
+        zeroth[8:14] = b"ward 4"
+        run.block(ARRIVALS)
+        self.assertEqual((len(run), run.rows()[0].label), (1, "ward 3"))
         many = LABEL + b"".join(flasknib.write_arrivals(1, [0], [0], [0], ssrc) for ssrc in range(17))
         self.assertEqual(self.refuses(15, flasknib.streams, many).block, 17)
         self.assertEqual(len(flasknib.streams(many[:-512])), 16)
@@ -421,6 +490,13 @@ class Given(Tried):
         tracemalloc.stop()
         self.assertLess(most, 1_000_000)
 
+    def test_no_address_is_null(self):
+        """Also of what is empty, whatever the object says."""
+        for empty in (b"", bytearray(), memoryview(b""), array("B")):
+            self.refuses(1, flasknib.read_block, empty)
+        with unittest.mock.patch.object(_lend, "get_buffer"):
+            self.assertNotIn(_lend.read(bytearray()).at, (0, None))
+
     def test_memory_is_given_back(self):
         held = bytearray(LABEL)
         flasknib.read_block(held)
@@ -469,6 +545,8 @@ class Given(Tried):
         times, numbers = array("Q", [5, 2**48 - 1]), array("H", [1, 65535])
         for marks in (b"\0\3", bytearray(b"\0\3"), (0, 3), array("B", [0, 3]), [Mark.NOT_ECT, Mark.CE]):
             self.assertEqual(flasknib.write_arrivals(2, times, numbers, marks, 7), wanted)
+        for text in (b"", b"ward 3"):
+            self.refuses(14, lambda: list(flasknib.records(flasknib.write_label(2, text, 7))))
         records = [flasknib.Record(5, 1, 0), flasknib.Record(2**48 - 1, 65535, 3)]
         self.assertEqual(list(flasknib.records(wanted)), records)
         self.assertEqual(flasknib.write_records(2, wanted[8:28], 7), wanted)
@@ -637,6 +715,14 @@ class Refusing(Tried):
             again = self.refuses(13, call)
             self.assertEqual((again.block, again.table), (3, b""))
 
+    def test_words_that_are_no_feed(self):
+        for words in ([2**64 - 1] * 18, [0] * 17, [5] * 18):
+            for stretch in (b"", b"x", LABEL):
+                refused = self.refuses(9, Feed.of(words).feed, stretch)
+                self.assertEqual((refused.block, refused.table), (None, b""))
+            self.refuses(9, Feed.of(words).close)
+        self.refuses(9, Feed.of([0] * 18, bytes(1023)).feed, b"")
+
     def test_a_long_stretch(self):
         """Longer than what is taken at a time, refused in the middle: all rows before it, once."""
         blocks = [flasknib.write_arrivals(1, [n], [n], [n % 4], 7) for n in range(500)]
@@ -698,6 +784,14 @@ class States(Tried):
             sources.count_block(ssrc, bytes.fromhex("75300200 75310300"), 4)
         self.assertEqual([(ssrc, source.ce) for ssrc, source in sources], [(10, 1), (20, 1), (30, 1)])
         self.refuses(10, sources.place, 3)
+        self.refuses(16, list, Sources.of([*sources.words, 0]))
+        words = list(sources.words)
+        words[header.PLACE_SOURCE + header.SOURCE_REMEMBERED] = 2**17
+        self.refuses(9, list, Sources.of(words))
+        strays = bytes.fromhex("75300200 86c40200 98580200")
+        self.assertEqual(counted([(5, 0)]).count_block(strays, 4), (3, 0))
+        sources.count_block(10, strays[:4], 4)
+        self.assertEqual(sources.count_block(10, strays[4:], 4), (2, 0))
 
     def test_threads(self):
         """A call is whole: threads that share a source lose no packet."""
@@ -713,6 +807,7 @@ class States(Tried):
         for thread in threads:
             thread.join()
         self.assertEqual((source.ce, source.duplicates), (4 * count, 4 * count - 1))
+        self.assertIsInstance(_library.library, _lend.ctypes.PyDLL)  # which holds the lock
 
 
 class Whole(Tried):

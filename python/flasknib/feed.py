@@ -87,19 +87,23 @@ class Feed(State):
         return b"".join(rows)
 
     def _fed(self, part: memoryview) -> bytes:
-        out = bytearray(header.ROW_MOST_BYTES * ((self.kept_bytes + len(part)) // BLOCK))
+        out = bytearray(header.ROW_MOST_BYTES * ((len(part) + BLOCK - 1) // BLOCK))
         answer = header.feed(self._words, self._kept, part, out)
         refusal, length = taken_apart(answer) if answer < 0 else (0, answer)
-        if refusal and refusal != self.refusal:
+        if refusal and not self._is_kept(refusal):
             raise Refused(refusal)
         table = bytes(memoryview(out)[:length])
         if refusal:
             raise Refused(refusal, block=self.blocks, table=table)
         return table
 
+    def _is_kept(self, refusal: int) -> bool:
+        """Whether it is the refusal of a block; 9 comes first, and never is."""
+        return refusal != header.REFUSAL_MALFORMED and refusal == self.refusal
+
     def close(self) -> None:
         """Ends the trace, or asks how it would end here. Refused with 1 if it ends in the middle of a block or is empty, or with the
         refusal that is kept. If nothing is refused nothing has changed, and feeding may go on."""
         answer = header.feed_close(self._words, self._kept)
         if answer:
-            raise Refused(answer, block=self.blocks if answer == self.refusal else None)
+            raise Refused(answer, block=self.blocks if self._is_kept(answer) else None)

@@ -62,12 +62,11 @@ impl Feed {
 
     fn part(&mut self, part: &[u8], table: &mut Vec<u8>) -> Result<()> {
         let held = table.len();
-        let rows = (self.words[header::UPLOAD_KEPT] as usize).saturating_add(part.len()) / BLOCK_BYTES;
-        table.resize(held + ROW_MOST_BYTES * rows.min(STRETCH / BLOCK_BYTES + 1), 0);
+        table.resize(held + ROW_MOST_BYTES * part.len().div_ceil(BLOCK_BYTES), 0); // at most so many blocks are completed
         let answer = header::feed(&mut self.words, &mut self.kept, part, &mut table[held..]);
         let (number, length) = if answer < 0 { taken_apart(answer) } else { (0, answer as usize) };
         let of_block = number != 0 && u64::from(number) == self.words[header::UPLOAD_REFUSAL];
-        table.truncate(held + if number == 0 || of_block { length } else { 0 });
+        table.truncate(held + length);
         if of_block {
             return Err(Refused::of(number).at(self.blocks()));
         }

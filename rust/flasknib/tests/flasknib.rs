@@ -2,8 +2,8 @@
 //! --test from anywhere below the repository.
 use flasknib::{
     answer, ecn_between, head_line, header, read_attribute, read_block, read_compound, record_at, refused_line, rows, salvage, space_label,
-    write_arrivals, write_label, write_records, Answer, Arrival, Attribute, Breaker, Counted, Ect, Error, Feed, Form, Forms, Kind, Mark, Method,
-    Mode, Profile, Reason, Record, Refusal, Refused, Row, Sending, Settings, Source, Sources, Streams,
+    write_arrivals, write_label, write_records, Answer, Arrival, Attribute, Between, Breaker, Counted, Ect, Error, Feed, Form, Forms, Kind, Mark,
+    Method, Mode, Profile, Reason, Record, Refusal, Refused, Row, Sending, Settings, Source, Sources, Streams,
 };
 use std::io::{self, Read};
 use std::path::PathBuf;
@@ -104,18 +104,71 @@ fn a_path_that_marks_every_packet() {
     let mut answers = vec![];
     for second in 1..=4u16 {
         (0..125).for_each(|n| assert_eq!(sources.arrive(1, 125 * second + n, Mark::Ce), Ok(Arrival::Counted)));
-        let compound = sources.compound(9).unwrap();
-        answers.push(breaker.packet(&compound, 1, 1000 * u64::from(second), SENDING).unwrap());
-        let before = breaker.clone();
+        let (compound, before) = (sources.compound(9).unwrap(), breaker.clone());
         assert_eq!(refused(breaker.packet(&compound[..compound.len() - 1], 1, 9000, SENDING)), 4);
-        if second < 4 {
-            assert_eq!(refused(breaker.packet(&compound, 1, 1000 * u64::from(second), SENDING)), 11);
+        if second > 1 {
+            assert_eq!(refused(breaker.packet(&compound, 1, 1000 * u64::from(second - 1), SENDING)), 11);
         }
         assert_eq!(breaker, before);
+        answers.push(breaker.packet(&compound, 1, 1000 * u64::from(second), SENDING).unwrap());
+        assert_ne!(breaker.kept(), before.kept());
     }
     assert_eq!(answers, [Answer::Go, Answer::Go, Answer::Go, Answer::Stop(Reason::Congestion)]);
     assert_eq!(breaker.tick(1), Ok(Answer::Stop(Reason::Congestion)));
     assert_eq!(Breaker::of(*breaker.words(), *breaker.kept()), breaker);
+}
+
+/// An RR of SSRC 9, with a report block about SSRC 1.
+fn receiver_report(block: Option<[u32; 5]>) -> Vec<u8> {
+    let words = match block {
+        None => vec![0x80C9_0001, 9],
+        Some(block) => [&[0x81C9_0007, 9, 1][..], &block].concat(),
+    };
+    words.iter().flat_map(|word: &u32| word.to_be_bytes()).collect()
+}
+
+#[test]
+fn what_a_packet_says() {
+    let read = read_compound(&receiver_report(Some([0x40FF_FFFF, 70000, 5, 6, 7])), 1, Profile::Compound).unwrap();
+    let report = read.report().unwrap();
+    assert_eq!((report.fraction, report.lost, report.highest), (64, -1, 70000));
+    assert_eq!((report.jitter, report.lsr, report.dlsr, read.feedback(), read.words().len()), (5, 6, 7, None, header::COMPOUND_WORDS));
+    let extended = [&receiver_report(None)[..], &[0x80, 0xCF, 0, 7, 0, 0, 0, 9], &counted(&C1).summary(1).unwrap()].concat();
+    let summary = read_compound(&extended, 1, Profile::Compound).unwrap().summary().unwrap();
+    assert_eq!((summary.ect0, summary.ect1, summary.ce, summary.not_ect, summary.lost, summary.duplicates), (2, 1, 2, 0, 2, 1));
+    assert_eq!(refused(read_compound(&extended[8..], 1, Profile::Compound)), 3);
+    assert!(!read_compound(&extended[8..], 1, Profile::ReducedSize).unwrap().sr_or_rr());
+    assert_eq!((flasknib::since16(3, 65535), flasknib::since32(0, 1), flasknib::lost_since(0, 3)), (4, u32::MAX, -3));
+}
+
+#[test]
+fn which_call_a_packet_is_for() {
+    let (mut sources, mut packets) = (Sources::default(), vec![]);
+    for numbers in [&[10, 11][..], &[20, 21], &[12, 13, 14, 22]] {
+        numbers.iter().for_each(|&number| assert_eq!(sources.arrive(1, number, Mark::Ce), Ok(Arrival::Counted)));
+        packets.push(sources.compound(9).unwrap());
+    }
+    packets.push(receiver_report(Some([0x4000_0003, 70000, 0, 0, 0])));
+    packets.push(receiver_report(None));
+    let counts = |lost, marked, expected| Between { lost, marked, expected };
+    let slow = Sending { rtt: 70_000, rate: 200_000_000, ..SENDING };
+    let limits = Sending { rtt: 60_000, rate: 125_000_000, ..SENDING };
+    for (given, taken) in [(SENDING, SENDING), (slow, limits)] {
+        let settings = Settings { k: 32, timeout: 600_000, ..Settings::default() };
+        let (mut by_packets, mut by_calls) = (Breaker::start(0, settings).unwrap(), Breaker::start(0, settings).unwrap());
+        for (packet, at) in packets.iter().zip(1..) {
+            let time = 1000 * at;
+            let answer = match at {
+                1 => by_calls.report_ecn(time, 11, counts(0, 0, 0), taken),
+                2 => by_calls.report_ecn(time, 21, counts(8, 2, 10), taken),
+                3 => by_calls.report_ecn(time, 22, counts(-3, 4, 1), taken),
+                4 => by_calls.report(time, 70000, 64, taken),
+                _ => by_calls.heard(time),
+            };
+            assert_eq!(by_packets.packet(packet, 1, time, given), answer);
+            assert_eq!(by_packets.words(), by_calls.words());
+        }
+    }
 }
 
 #[test]
@@ -143,6 +196,11 @@ fn several_sources() {
     assert_eq!((refused(sources.arrive(7, 1, Mark::Ce)), refused(sources.place(2))), (15, 10));
     assert_eq!(refused(Sources::new(17).arrive(7, 1, Mark::Ce)), 16);
     assert_eq!(Sources::of(sources.words()), sources);
+    assert_eq!(refused(Sources::of(&sources.words()[1..]).all()), 16);
+    let mut words = sources.words().to_vec();
+    words[header::PLACE_SOURCE + header::SOURCE_REMEMBERED] = 1 << 17;
+    assert_eq!(refused(Sources::of(&words).all()), 9);
+    assert_eq!(sources.clone().count_block(100, &[0x75, 0x30, 2, 0, 0x86, 0xC4, 2, 0], 4), Ok(Counted { jumps: 2, restarts: 0 }));
     let compound = sources.compound(9).unwrap();
     let read = read_compound(&compound, 900, Profile::Compound).unwrap();
     let feedback = read.feedback().unwrap();
@@ -163,6 +221,10 @@ fn offers_and_answers() {
     assert_eq!(answer(&offer, &ours).unwrap().unwrap().line().unwrap(), b"a=ecn-capable-rtp: ice mode=setonly; ect=1");
     assert_eq!(answer(&read_attribute(b"a=ecn-capable-rtp: ice mode=setonly").unwrap(), &ours), Ok(None));
     assert_eq!(refused(read_attribute(b"a=ecn-capable-rtp: ice rtp ect=0 mode=setread")), 18);
+    for (mode, ect) in [(Mode::SetOnly, Ect::Zero), (Mode::ReadOnly, Ect::One), (Mode::SetRead, Ect::Random), (Mode::Absent, Ect::Absent)] {
+        let each = Attribute { methods: vec![Method::Leap, Method::Rtp, Method::Ice], mode, ect };
+        assert_eq!(read_attribute(&each.line().unwrap()), Ok(each));
+    }
     let plain = |count| Attribute { methods: vec![Method::Rtp; count], mode: Mode::Absent, ect: Ect::Absent };
     assert_eq!((refused(plain(0).line()), refused(plain(9).line()), refused(answer(&plain(9), &ours))), (10, 10, 10));
     assert_eq!(plain(1).line().unwrap(), b"a=ecn-capable-rtp: rtp");
@@ -257,6 +319,10 @@ fn a_refused_block_is_repeated() {
     assert_eq!(table, b"ward 3,7,12,3,0,0,0,0,0,0,0\r\n");
     assert_eq!((refused(feed.feed(b"", &mut table)), refused(feed.close()), table.len()), (13, 13, 29));
     assert_eq!(Feed::of(*feed.words(), *feed.kept()), feed);
+    for word in [5, u64::MAX] {
+        let mut wrong = Feed::of([word; header::UPLOAD_WORDS], [0; header::UPLOAD_KEPT_BYTES]);
+        assert_eq!((refused(wrong.feed(&given, &mut table)), refused(wrong.close()), table.len()), (9, 9, 29));
+    }
     let long = trace(&(0..500).map(|n| (n, 1)).collect::<Vec<_>>());
     assert_eq!(table_of(&long, 1 << 20), table_of(&long, 700));
 }
@@ -297,7 +363,8 @@ fn refusals() {
     assert!(text.starts_with("refused 13 block 5: "));
     let error: Box<dyn std::error::Error + Send + Sync> = short.into();
     assert!(error.downcast_ref::<Refused>().is_some());
-    assert_eq!(refused(Source::of([1, 0, 0, 0, 0, 0, 0, 0, 0, 0]).lost()), 9);
+    let malformed = Source::of([1, 0, 0, 0, 0, 0, 0, 0, 0, 0]);
+    assert_eq!((refused(malformed.lost()), malformed.row(b"", 1, 0, 0).unwrap_err().size), (9, None));
     assert_eq!(refused(Source::default().arrive(1, 4)), 10);
 }
 
