@@ -75,8 +75,8 @@ case " $* " in *" tests/$BROKEN/main.rs "*) exit 1 ;; esac
 printf '#!/bin/sh\\necho built' >"$out" && chmod +x "$out"
 """
 RT = 'case $1 in check) exit "$CHECK" ;; staticlib) echo built >target/staticlib/libcapi.a; exit "$LIBRARY" ;; esac\n'
-OVER_PROGRAMS = {"program", "tables", "faults", "package", "installation", "wheel", "tools"}
-OVER_LIBRARY = {"compare", "header", "languages", "capture", "dissector", "received", "examples", "rust", "package", "installation", "wheel", "tools"}
+OVER_PROGRAMS = {"program", "tables", "faults", "package", "installation", "wheel", "tools", "commands"}
+OVER_LIBRARY = {"compare", "header", "languages", "capture", "dissector", "received", "examples", "rust", "package", "installation", "wheel", "tools", "commands"}
 # What fails (rustc is missing, the source of a part, the programs, the library), and the parts that must fail for it.
 FAILING = {
     "no compiler": (None, 0, 0, {"program", "tables", "compare", "header", "capture", "dissector", "received", "examples", "rust"}),

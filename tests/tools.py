@@ -30,6 +30,7 @@ import writer  # noqa: E402
 from ecnlib import bars, make  # noqa: E402
 from ecnlib.blocks import FORMS, Record, header, records_in  # noqa: E402
 from ecnlib.common import Ended  # noqa: E402
+from ecnlib.main import COMMANDS  # noqa: E402
 
 ECN, BIN, SAMPLES = TOP / "tools/ecn", TOP / "target/bin", TOP / "samples"
 BUILT = tempfile.TemporaryDirectory()
@@ -245,7 +246,7 @@ class Table(Tried):
             self.assertIn("4 blocks, 0 refused", self.ecn("look", path, "--streams", "--brief").stdout)
 
     def test_help(self):
-        for command in ([], ["table"], ["look"], ["make"], ["label"], ["salvage"], ["plot"], ["answer"]):
+        for command in ([], *([name] for name in COMMANDS)):
             self.assertIn("xit status", self.ecn(*command, "--help").stdout)
         self.ecn("table", SAMPLES / "c1.trace", status=2)
         self.assertEqual(subprocess.run([ECN, "--help"], env=OURS, stdout=subprocess.DEVNULL).returncode, 0)
@@ -658,7 +659,7 @@ class Make(Tried):
             (head + "0,1\n", ["--ssrc", "1"], "mark ''"),
             ("time,number\n", ["--ssrc", "1"], "no column mark"),
             ("", ["--ssrc", "1"], "no column time and no column number"),
-            ("time;number;mark\n", ["--ssrc", "1"], "no column mark; commas separate the columns"),
+            ("time:number:mark\n", ["--ssrc", "1"], "no column mark; commas, semicolons or tabs separate the columns"),
             ("SSRC,ssrc,Time," + head + "1,2,0,0,1,2\n", [], "line 1: more than one column time and more than one column ssrc"),
             (head + "0,5,1,2\n", ["--ssrc", "1"], "line 2: 1 more than the 3 fields of the head line"),
             ('time,number,mark,note\n0,1,2,"a\n1,2,2,b\n', ["--ssrc", "1"], "line 3: unexpected end of data"),
@@ -1184,11 +1185,11 @@ class Pages(Tried):
             self.assertEqual(found | bar.counts, found | {"restarts": bar.counts["restarts"]})
 
 
-def main(names: list) -> int:
+def main(names: list, module: str = __name__, what: str = "tools/ecn and its pages") -> int:
     while os.open(os.devnull, os.O_RDWR) < 2:
         pass  # where a standard stream is closed, no other file takes its number
-    loader = unittest.defaultTestLoader
-    suite = loader.loadTestsFromNames(names, sys.modules[__name__]) if names else loader.loadTestsFromModule(sys.modules[__name__])
+    loader, own = unittest.defaultTestLoader, sys.modules[module]
+    suite = loader.loadTestsFromNames(names, own) if names else loader.loadTestsFromModule(own)
     result = unittest.TextTestRunner(stream=io.StringIO()).run(suite)
     wrong = result.failures + result.errors
     for test, why in wrong:
@@ -1196,7 +1197,7 @@ def main(names: list) -> int:
     for test, why in result.skipped:
         print(f"tools: {test.id()} skipped: {why}")
     library, streams = "with and without the library" if LIBRARY else "without the library", "ecnstreams" if STREAMS else "no ecnstreams"
-    print(f"tools: {result.testsRun} tests of tools/ecn and its pages, {library}, {streams}")
+    print(f"tools: {result.testsRun} tests of {what}, {library}, {streams}")
     print(f"{result.testsRun - len(wrong) - len(result.skipped)} passed, {len(wrong)} failed")
     return 1 if wrong else 0
 

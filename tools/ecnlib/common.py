@@ -89,6 +89,13 @@ def file_name(text: str) -> str:
     return text
 
 
+def whole(text: str) -> int:
+    """An argument that is a whole number."""
+    if not (text.isascii() and text.isdecimal() and len(text) < 20):
+        raise argparse.ArgumentTypeError(f"{text!r} is no whole number from 0 on")
+    return int(text)
+
+
 def many(count: int, word: str) -> str:
     return f"{count:,} {word}" + ("" if count == 1 else "s")
 

@@ -1,18 +1,37 @@
 """ecn: what the proved programs cannot do themselves. It runs them on traces, shows a trace, makes one from a CSV file,
-copies one with no line break in its label, saves what is left of a damaged one, draws a table, and answers an offer.
+copies one with no line break in its label, saves what is left of a damaged one, draws a table, answers an offer, and
+replays a link's reports through the circuit breaker.
 
 Every count and every verdict is a proved program's or the proved library's; the script moves bytes and draws. As a
 file's name `-` is standard input or output. Exit status: 0 all is well; 1 a block of a trace, or what was given, is
 refused; 2 a read or a write failed, a program is missing, or the arguments are wrong.
 """
 import argparse
+import difflib
 import importlib
+import os
 import sys
 
-from . import endings
+from . import endings, programs
 from .common import FAILED, Ended, fill_streams, printing, tell
+from .library import package, version
 
-COMMANDS = ("table", "look", "make", "label", "salvage", "plot", "answer")
+COMMANDS = ("table", "look", "make", "label", "salvage", "plot", "answer", "breaker")
+BY_LIBRARY = ("plot", "answer", "breaker")  # they run no program
+
+
+class Version(argparse.Action):
+    """Prints the version, and where the library and a program of it are found."""
+
+    def __call__(self, parser, namespace, values, option=None) -> None:
+        print(f"ecn {version()}")
+        flasknib = package()
+        print(f"library: {flasknib.library_path if flasknib else 'none'}")
+        try:
+            print(f"programs: {os.path.dirname(programs.program('ecntable', None))}")
+        except Ended:
+            print("programs: none")
+        parser.exit()
 
 
 class Parser(argparse.ArgumentParser):
@@ -22,7 +41,13 @@ class Parser(argparse.ArgumentParser):
 
 def arguments(words: list) -> argparse.ArgumentParser:
     """Those of the command that is named, which alone is loaded; where none is, of all."""
+    if not words:
+        raise Ended(FAILED, "say what to do, as: ecn table night1.trace -o night1.csv; ecn --help lists the commands")
+    if not words[0].startswith("-") and words[0] not in COMMANDS:
+        near = "".join(f"did you mean ecn {name}? " for name in difflib.get_close_matches(words[0], COMMANDS, 1))
+        raise Ended(FAILED, f"there is no command {words[0]}; {near}ecn --help lists the commands")
     parser = Parser(prog="ecn", description=__doc__, formatter_class=argparse.RawDescriptionHelpFormatter)
+    parser.add_argument("--version", action=Version, nargs=0, help="print the version, and where the library and the programs are")
     commands = parser.add_subparsers(dest="command", required=True, metavar="COMMAND")
     for name in [name for name in COMMANDS if name in words[:1]] or COMMANDS:
         command = importlib.import_module(f".{name}", __package__)
@@ -30,7 +55,7 @@ def arguments(words: list) -> argparse.ArgumentParser:
         own = commands.add_parser(name, help=short, description=command.__doc__, formatter_class=explained)
         command.add_arguments(own)
         own.set_defaults(run=command.run)
-        if name not in ("plot", "answer"):
+        if name not in BY_LIBRARY:
             own.add_argument("--bin", metavar="FOLDER", help="where the proved programs are (else $ECN_BIN, beside this script, the path)")
     return parser
 

@@ -17,11 +17,9 @@ break, or the program refuses the trace; 2 a read or a write failed, the program
 arguments are wrong.
 """
 import argparse
-import csv
-import io
 from typing import BinaryIO, Iterator, List, NamedTuple, Optional
 
-from . import files, programs
+from . import files, programs, sheets
 from .blocks import BLOCK, FORMS, MARKS, RETIRED, Form, Record, header
 from .common import REFUSED, WELL, Ended, file_name, many, refused_words, tell
 from .library import file_of, package
@@ -47,49 +45,21 @@ def number(text: str) -> int:
     return int(text, 0)
 
 
-def number_in(text: str, limit: int, where: str) -> int:
-    if not (text.isascii() and text.isdecimal() and len(text) < 100 and int(text) < limit):
-        raise Ended(REFUSED, f"{where} {text!r} is no whole number from 0 to {limit - 1}")
-    return int(text)
-
-
-def arrival_in(row: dict, form: Form, ssrc: Optional[int], where: str) -> Arrival:
+def arrival_in(row: sheets.Cells, form: Form, ssrc: Optional[int]) -> Arrival:
     """The arrival in a row of the CSV file."""
-    limits = {"time": 256**form.time, "number": 2**16} | ({} if ssrc is not None else {"ssrc": 2**32})
-    values = {name: number_in((row[name] or "").strip(), limit, f"{where}: {name}") for name, limit in limits.items()}
-    mark = (row["mark"] or "").strip().lower()
+    source = row.number("ssrc", 2**32) if ssrc is None else ssrc
+    time, number = row.number("time", 256**form.time), row.number("number", 2**16)
+    mark = row.cells["mark"].lower()
     if mark not in MARK_NAMES:
-        raise Ended(REFUSED, f"{where}: mark {mark!r} is not 0 to 3, nor one of {', '.join(MARKS)}")
-    return Arrival(values.get("ssrc", ssrc), Record(values["time"], values["number"], MARK_NAMES[mark]))
+        raise Ended(REFUSED, f"{row.where}: mark {mark!r} is not 0 to 3, nor one of {', '.join(MARKS)}")
+    return Arrival(source, Record(time, number, MARK_NAMES[mark]))
 
 
-def head_of(rows: csv.DictReader, name: str, ssrc: Optional[int]) -> None:
-    """Reads the head line, which has each column that is used once."""
-    rows.fieldnames = [column.strip().lower() for column in rows.fieldnames or []]
-    missing = [column for column in COLUMNS[:3] if column not in rows.fieldnames]
-    if missing:
-        hint = "; commas separate the columns" if len(rows.fieldnames) == 1 else ""
-        raise Ended(REFUSED, f"{name}, line 1: no column {' and no column '.join(missing)}{hint}")
-    twice = [column for column in COLUMNS if rows.fieldnames.count(column) > 1]
-    if twice:
-        raise Ended(REFUSED, f"{name}, line 1: more than one column {' and more than one column '.join(twice)}")
-    if ("ssrc" in rows.fieldnames) == (ssrc is not None):
-        raise Ended(REFUSED, f"{name}: give the source once, by a column ssrc or by --ssrc")
-
-
-def arrivals_in(text: io.TextIOBase, name: str, form: Form, ssrc: Optional[int]) -> Iterator[Arrival]:
-    rows = csv.DictReader(text, strict=True)
-    try:
-        head_of(rows, name, ssrc)
-        for row in rows:
-            where = f"{name}, line {rows.line_num}"
-            if None in row:
-                raise Ended(REFUSED, f"{where}: {len(row[None])} more than the {many(len(rows.fieldnames), 'field')} of the head line")
-            yield arrival_in(row, form, ssrc, where)
-    except csv.Error as error:
-        raise Ended(REFUSED, f"{name}, line {rows.reader.line_num}: {error}") from error
-    except UnicodeDecodeError as error:
-        raise Ended(REFUSED, f"{name}: this is no text in UTF-8") from error
+def arrivals_in(rows: sheets.Sheet, form: Form, ssrc: Optional[int]) -> Iterator[Arrival]:
+    rows.need(*COLUMNS[:3], known=COLUMNS)
+    if ("ssrc" in rows.columns) == (ssrc is not None):
+        raise Ended(REFUSED, f"{rows.name}: give the source once, by a column ssrc or by --ssrc")
+    return (arrival_in(row, form, ssrc) for row in rows)
 
 
 def label_fault(number: int, label: bytes) -> Ended:
@@ -179,8 +149,8 @@ def run(options: argparse.Namespace) -> int:
     made = Made(Writer(FORMS[options.form], options.label))
     made.writer.zeroth(0)  # a label that is refused is told before the CSV file is read
     with files.Output(options.out, files.identities([options.csv])) as trace:
-        with io.TextIOWrapper(io.BufferedReader(files.Input(options.csv)), "utf-8-sig", newline="") as text:
-            made.write(arrivals_in(text, files.shown(options.csv), made.form, options.ssrc), options.ssrc, trace)
+        with sheets.opened(options.csv) as rows:
+            made.write(arrivals_in(rows, made.form, options.ssrc), options.ssrc, trace)
         trace.flush()
         program = made.taken(trace.file, options.bin)
         trace.commit()
