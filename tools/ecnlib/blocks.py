@@ -1,6 +1,6 @@
 """The bytes of a trace, as docs/TRACE.md has them. Whether a block is sound is not said here: that is the proved reader's to say."""
 import struct
-from typing import Iterator, NamedTuple
+from typing import BinaryIO, Iterator, NamedTuple
 
 BLOCK = 512
 MARKS = ("not-ECT", "ECT(1)", "ECT(0)", "CE")
@@ -28,6 +28,12 @@ class Header(NamedTuple):
     kind: int
     count: int
     ssrc: int
+
+
+def blocks_in(trace: BinaryIO) -> Iterator[bytes]:
+    """The blocks of a trace from where it stands; of an empty one, one of no bytes."""
+    yield trace.read(BLOCK)
+    yield from iter(lambda: trace.read(BLOCK), b"")
 
 
 def header(block: bytes) -> Header:

@@ -49,3 +49,10 @@ def leave() -> None:
     """Ends by the signal that came, as its sender expects."""
     signal.signal(came[0], signal.SIG_DFL)
     os.kill(os.getpid(), came[0])
+
+
+def unwatch() -> None:
+    """In a process that works for this one: a signal ends it at once."""
+    for each in ENDINGS:
+        if signal.getsignal(each) == note:
+            signal.signal(each, signal.SIG_DFL)

@@ -21,7 +21,7 @@ from collections import Counter
 from typing import BinaryIO, Iterator, NamedTuple, Optional
 
 from . import programs
-from .blocks import BLOCK, FORMS, MARKS, check, header, label_in, records_in
+from .blocks import BLOCK, FORMS, MARKS, blocks_in, check, header, label_in, records_in
 from .common import FAILED, REFUSALS, REFUSED, WELL, Ended, file_name, many, printing
 from .files import Input
 from .library import file_of, package
@@ -33,6 +33,7 @@ def add_arguments(parser: argparse.ArgumentParser) -> None:
     parser.add_argument("trace", type=file_name, metavar="TRACE", help="the trace's file")
     parser.add_argument("--brief", action="store_true", help="one line for each block, without its label or records")
     parser.add_argument("--block", type=asked_range, metavar="I[-J]", help="these blocks alone, counted from 0; I is a block of the trace")
+    parser.add_argument("--refused", action="store_true", help="only the blocks that are refused or not judged")
     parser.add_argument("--streams", action="store_true", help="ask ecnstreams in place of ecntable: arrivals blocks may differ in SSRC")
 
 
@@ -44,13 +45,6 @@ def asked_range(text: str) -> range:
     if last < first:
         raise argparse.ArgumentTypeError(f"{text} ends before it begins")
     return range(first, last + 1)
-
-
-def blocks_in(trace: BinaryIO) -> Iterator[bytes]:
-    """The blocks of a trace; of an empty one, one of no bytes."""
-    trace.seek(0)
-    yield trace.read(BLOCK)
-    yield from iter(lambda: trace.read(BLOCK), b"")
 
 
 def pieces_from(trace: BinaryIO, first: int) -> Iterator[bytes]:
@@ -172,6 +166,11 @@ def lines(index: int, block: bytes, verdict: Verdict, brief: bool) -> Iterator[s
     yield f"block {index}: {verdict.words} ({raw})"
 
 
+def asked_for(options: argparse.Namespace, index: int, verdict: Verdict) -> bool:
+    refused_only = options.refused and verdict.kind not in (Kind.REFUSED, Kind.OPEN)
+    return not refused_only and (options.block is None or index in options.block)
+
+
 def run(options: argparse.Namespace) -> int:
     if options.trace == "-":
         raise Ended(FAILED, "look reads a trace more than once, and standard input can be read only once: give the trace's file")
@@ -182,11 +181,12 @@ def run(options: argparse.Namespace) -> int:
         if options.block and options.block[0] >= max(1, count):
             raise Ended(FAILED, f"{options.trace} has no block {options.block[0]}: it has {many(count, 'block')}, counted from 0")
         judge, kinds = Judge(trace, options.streams, options.bin), Counter()
+        trace.seek(0)
         with printing():
             for index, block in enumerate(blocks_in(trace)):
                 verdict = judge.verdict(index, block)
                 kinds[verdict.kind] += 1
-                if options.block is None or index in options.block:
+                if asked_for(options, index, verdict):
                     print(*lines(index, block, verdict, options.brief), sep="\n")
             print(judge.summary(count, kinds))
     return REFUSED if kinds[Kind.REFUSED] or kinds[Kind.OPEN] else WELL

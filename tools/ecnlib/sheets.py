@@ -2,7 +2,7 @@
 import contextlib
 import csv
 import io
-from typing import Iterable, Iterator, List, NamedTuple, Sequence, Tuple
+from typing import Container, Iterable, Iterator, List, NamedTuple, Sequence, Tuple
 
 from .common import REFUSED, Ended, many
 from .files import Input, shown
@@ -88,9 +88,9 @@ def opened(path: str) -> Iterator[Sheet]:
         yield Sheet(text, shown(path))
 
 
-def aligned(rows: Sequence[Tuple[str, ...]], left: int) -> Iterator[str]:
-    """Rows as lines for people: so many columns stand at the left of their place, the others, which are numbers, at the right."""
+def aligned(rows: Sequence[Tuple[str, ...]], right: Container[int]) -> Iterator[str]:
+    """Rows as lines for people; the columns at these places are numbers, and stand at the right."""
     widths = [max(map(len, column)) for column in zip(*rows)]
     for row in rows:
-        cells = [f"{cell:<{width}}" if at < left else f"{cell:>{width}}" for at, (cell, width) in enumerate(zip(row, widths))]
+        cells = (f"{cell:>{width}}" if at in right else f"{cell:<{width}}" for at, (cell, width) in enumerate(zip(row, widths)))
         yield "  ".join(cells).rstrip()

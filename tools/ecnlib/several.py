@@ -1,0 +1,82 @@
+"""One question asked of several traces, some of them at a time. What is asked is a call of the proved library, in this process or in others."""
+import argparse
+import concurrent.futures
+import concurrent.futures.process
+import contextlib
+import functools
+import io
+import multiprocessing
+from typing import Any, Callable, Iterator, List, NamedTuple, Optional, Tuple
+
+from . import endings, files
+from .common import FAILED, WELL, Ended, file_name, tell
+from .runs import Progress, jobs
+
+
+class Outcome(NamedTuple):
+    """What came of a trace: a value, or a message; and the status."""
+
+    value: Any
+    message: Optional[str]
+    status: int
+
+
+def add_arguments(parser: argparse.ArgumentParser) -> None:
+    parser.add_argument("traces", nargs="+", type=file_name, metavar="TRACE", help="a trace of either form; - is standard input")
+    parser.add_argument("-j", "--jobs", type=jobs, default=1, metavar="N", help="how many traces are read at a time (1)")
+
+
+def add_output(parser: argparse.ArgumentParser, what: str) -> None:
+    parser.add_argument("-o", "--out", default="-", type=file_name, metavar="OUT", help=f"{what} (standard output)")
+
+
+def reading(trace: str) -> io.BufferedReader:
+    """A trace that is read from where it stands to its end."""
+    return io.BufferedReader(files.Input(trace), 1 << 18)
+
+
+def outcome(ask: Callable[[str], Any], trace: str) -> Outcome:
+    try:
+        return Outcome(ask(trace), None, WELL)
+    except Ended as ended:
+        return Outcome(None, str(ended), ended.status)
+    except OSError as error:
+        return Outcome(None, f"{files.shown(trace)}: {error.strerror}", FAILED)
+
+
+@contextlib.contextmanager
+def mapped(count: int) -> Iterator[Callable]:
+    """A map over so many processes. None of them is left, whatever happens."""
+    if count < 2:
+        yield map
+        return
+    pool = concurrent.futures.ProcessPoolExecutor(count, multiprocessing.get_context("fork"), endings.unwatch)
+    try:
+        yield pool.map
+    except concurrent.futures.process.BrokenProcessPool as error:
+        raise Ended(FAILED, "a process that read a trace has ended early") from error
+    except BaseException:
+        for child in multiprocessing.active_children():
+            child.terminate()
+        raise
+    finally:
+        pool.shutdown(cancel_futures=True)
+
+
+def asked(traces: List[str], count: int, ask: Callable[[str], Any]) -> Iterator[Tuple[str, Outcome]]:
+    """The outcome of each trace, in their order; what is wrong with one is said, and the others go on."""
+    if traces.count("-") > 1:
+        raise Ended(FAILED, "standard input can be read only once: give - once")
+    progress = Progress(traces)
+    with mapped(min(count, len(traces))) as map_of:
+        outcomes = map_of(functools.partial(outcome, ask), traces)
+        for trace in traces:
+            with endings.waiting():
+                found = next(outcomes)
+            progress.clear()
+            if found.message:
+                tell(found.message)
+            yield trace, found
+            progress.done.append(trace)
+            progress.show([])
+    progress.clear()
