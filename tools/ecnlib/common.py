@@ -14,7 +14,8 @@ REFUSALS = {
     1: "the trace is empty, or ends in the middle of a block",
     13: "the block's checksum does not fit",
     14: "the block breaks the format, or has a wrong kind, form or SSRC for its place",
-    15: "the trace has more than 16 sources",
+    15: "the trace has more than 16 sources; ecn split makes a trace of each",
+    17: "a time of 2^32 ms or more needs form 2",
 }
 
 

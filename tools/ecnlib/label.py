@@ -23,7 +23,7 @@ import re
 from typing import Optional
 
 from . import programs, runs
-from .common import FAILED, REFUSED, Ended, many, refused_words, tell
+from .common import FAILED, Ended, many, tell
 
 COPIES = runs.Kind("copy", "copies", lambda name: name)
 
@@ -40,12 +40,9 @@ class Copy(runs.Run):
     def fault(self) -> Optional[Ended]:
         refusals, rest = programs.refusals_told(self.errors)
         number = re.fullmatch(rb"(\d+)\r\n", rest)
-        where = f"{self.name}, block {refusals[0].block}" if refusals else self.name
-        fault = programs.fault_by(self.path, self.child.returncode, b"" if number else rest)
+        fault = self.told(refusals, b"" if number else rest)
         if fault:
-            return Ended(FAILED, f"{where}: {fault}")
-        if refusals:
-            return Ended(REFUSED, f"{self.name}: {refused_words(*refusals[0])}")
+            return fault
         if not number:
             return Ended(FAILED, f"{self.name}: ecnlabel told no number of bytes; the copy is not whole")
         self.replaced = int(number[1])

@@ -7,10 +7,10 @@ import subprocess
 import sys
 import tempfile
 import time
-from typing import Callable, NamedTuple, Optional
+from typing import Callable, List, NamedTuple, Optional
 
 from . import endings, files, programs
-from .common import FAILED, WELL, Ended, file_name, say, tell
+from .common import FAILED, REFUSED, WELL, Ended, file_name, refused_words, say, tell
 
 
 class Kind(NamedTuple):
@@ -64,6 +64,14 @@ class Run:
     def fault(self) -> Optional[Ended]:
         """Why the output of a run that has ended is not put in place, if it is not."""
         raise NotImplementedError
+
+    def told(self, refusals: List[programs.Refusal], rest: bytes) -> Optional[Ended]:
+        """The fault that a program tells which lists refused blocks on standard error, and the rest of what it told."""
+        where = f"{self.name}, block {refusals[0].block}" if refusals else self.name
+        fault = programs.fault_by(self.path, self.child.returncode, rest)
+        if fault:
+            return Ended(FAILED, f"{where}: {fault}")
+        return Ended(REFUSED, f"{self.name}: {refused_words(*refusals[0])}") if refusals else None
 
     def finish(self) -> Optional[int]:
         """Puts the output in place, or raises why not. Gives a status, or None for 0."""
