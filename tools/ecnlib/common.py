@@ -2,6 +2,7 @@
 import argparse
 import contextlib
 import os
+import re
 import sys
 from typing import Iterator
 
@@ -95,6 +96,15 @@ def whole(text: str) -> int:
     if not (text.isascii() and text.isdecimal() and len(text) < 20):
         raise argparse.ArgumentTypeError(f"{text!r} is no whole number from 0 on")
     return int(text)
+
+
+def ssrc(text: str) -> int:
+    """An argument that is an SSRC."""
+    digits = re.fullmatch(r"0[xX]([0-9a-fA-F]{1,8})|([0-9]{1,10})", text)
+    number = int(digits[1], 16) if digits and digits[1] else int(digits[2]) if digits else 2**32
+    if number >= 2**32:
+        raise argparse.ArgumentTypeError(f"{text!r} is no SSRC: that is a whole number from 0 to {2**32 - 1}, or 0x and up to 8 hexadecimal digits")
+    return number
 
 
 def many(count: int, word: str) -> str:

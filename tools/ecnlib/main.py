@@ -1,6 +1,7 @@
 """ecn: what the proved programs cannot do themselves. It runs them on traces, shows a trace, makes one from a CSV file,
 copies one with no line break in its label, saves what is left of a damaged one, draws a table, answers an offer, replays
-a link's reports through the circuit breaker, puts many traces into one table, and takes a trace apart.
+a link's reports through the circuit breaker, puts many traces into one table, takes a trace
+apart, and writes and reads ECN reports.
 
 Every count and every verdict is a proved program's or the proved library's; the script moves bytes and draws. As a
 file's name `-` is standard input or output. Exit status: 0 all is well; 1 a block of a trace, or what was given, is
@@ -16,8 +17,8 @@ from . import endings, programs
 from .common import FAILED, Ended, fill_streams, printing, tell
 from .library import package, version
 
-COMMANDS = ("table", "look", "make", "label", "salvage", "plot", "answer", "breaker", "summary", "check", "records", "split", "forms")
-BY_LIBRARY = ("plot", "answer", "breaker", "summary", "check", "records", "split")  # they run no program
+COMMANDS = ("table", "look", "make", "label", "salvage", "plot", "answer", "breaker", "summary", "check", "records", "split", "forms", "report", "rtcp")
+BY_LIBRARY = ("plot", "answer", "breaker", "summary", "check", "records", "split", "report", "rtcp")  # they run no program
 
 
 class Version(argparse.Action):
