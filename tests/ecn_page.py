@@ -27,8 +27,7 @@ class Page(Tried):
                     self.assertRegex(PAGE, rf"(?m)[ \"]{re.escape(option)}(?![a-z-])", f"{command} {option}")
 
     def test_help_has_an_example(self):
-        """Of each command that has come with one."""
-        for command in COMMANDS[7:]:
+        for command in COMMANDS:
             self.assertIn(f"\n    ecn {command} ", self.ecn(command, "--help").stdout)
 
     def test_version(self):

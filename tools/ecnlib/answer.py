@@ -1,5 +1,7 @@
 """Answers the ECN lines of an offer: prints the lines a=ecn-capable-rtp of the answer.
 
+    ecn answer --ours 'a=ecn-capable-rtp: ice,rtp mode=setread; ect=0' offer.sdp
+
 Our abilities are the line that we would offer. The offer is a whole SDP or the one line, in a file or on standard input. Each of its lines that
 begins with a=ecn-capable-rtp (RFC 6679) is read, answered and written by the proved library (that of $FLASKNIB_LIBRARY, or of this installation,
 or of the system); the script looks for the lines and judges nothing. The answer has the first of our methods that the offer names, our mode

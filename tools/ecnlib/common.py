@@ -4,7 +4,7 @@ import contextlib
 import os
 import re
 import sys
-from typing import Iterator
+from typing import Iterator, Optional
 
 from . import endings
 
@@ -98,11 +98,19 @@ def whole(text: str) -> int:
     return int(text)
 
 
+def ssrc_in(text: str) -> Optional[int]:
+    """The SSRC that a text says, whole or in hexadecimal; None if it is none."""
+    digits = re.fullmatch(r"0[xX]([0-9a-fA-F]{1,8})|([0-9]{1,10})", text)
+    if not digits:
+        return None
+    number = int(digits[1], 16) if digits[1] else int(digits[2])
+    return number if number < 2**32 else None
+
+
 def ssrc(text: str) -> int:
     """An argument that is an SSRC."""
-    digits = re.fullmatch(r"0[xX]([0-9a-fA-F]{1,8})|([0-9]{1,10})", text)
-    number = int(digits[1], 16) if digits and digits[1] else int(digits[2]) if digits else 2**32
-    if number >= 2**32:
+    number = ssrc_in(text)
+    if number is None:
         raise argparse.ArgumentTypeError(f"{text!r} is no SSRC: that is a whole number from 0 to {2**32 - 1}, or 0x and up to 8 hexadecimal digits")
     return number
 

@@ -1,5 +1,7 @@
 """Copies traces with one space in the place of each line break in the label, by the proved program ecnlabel.
 
+    ecn label night1.trace -o night1.copy
+
 Bytes 10 (LF) and 13 (CR) are retired: a trace that has them in its label is read as before, but no new label may have
 them. In the copy each of them is a space, the checksum of the label block is the one that fits, and every other byte
 is as it was. How many bytes were replaced is said on standard error; if there were none, the copy is the trace.

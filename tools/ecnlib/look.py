@@ -1,5 +1,8 @@
 """Shows a trace: each block with its verdict, and its records.
 
+    ecn look night1.trace --brief
+    ecn look night1.trace --refused
+
 The verdicts are the proved reader's. The library (that of $FLASKNIB_LIBRARY, or of this installation, or of the system) judges each
 block alone. The program ecntable judges each block at its place: it ends at the first block that it refuses, so it is run again on
 the trace without that block, until it refuses none, and 100 times at most. Where one of the two is missing the other's verdicts are

@@ -1,9 +1,21 @@
-"""Makes a trace from a CSV file of arrivals.
+"""Makes a trace from a CSV file of arrivals, or from what tshark prints of a capture.
 
-The CSV file has a head line that names its columns, in any order: time (whole ms), number (the sequence number of the RTP packet, 0 to
-65535) and mark (0 to 3, or not-ECT, ECT(1), ECT(0), CE). A column ssrc may say of which source each arrival is; else --ssrc does.
-Other columns are passed over. Arrivals stand in the file in the order in which they came. A trace of several sources is for ecnstreams:
-each block has arrivals of one source in their order, and blocks are written as they fill.
+    ecn make arrivals.csv --label "ward 3" --ssrc 7 -o ward3.trace
+
+    tshark -r ward3.pcap -d udp.port==5004,rtp -Y rtp -T fields -E header=y -e frame.time_relative -e rtp.seq \\
+        -e rtp.ssrc -e ip.dsfield.ecn -e ipv6.tclass.ecn | ecn make - --label "ward 3" -o ward3.trace
+
+The first line names the columns, in any order; commas, semicolons or tabs separate them. Each value stands in one of
+these columns, and others are passed over:
+
+    time    time (whole ms); or seconds, frame.time_relative, frame.time_epoch (seconds, rounded down to ms)
+    number  number, rtp.seq: the sequence number of the RTP packet, 0 to 65535
+    mark    mark, ip.dsfield.ecn, ipv6.tclass.ecn: 0 to 3; or not-ECT, ECT(1), ECT(0), CE; or notect, ect1, ect0, ce
+    source  ssrc, rtp.ssrc: whole, or 0x and hexadecimal digits; if there is no such column, --ssrc says it
+
+Arrivals stand in the file in the order in which they came. Capture at the receiver: marks are set on the way. A trace of
+several sources is for ecnstreams: each block has arrivals of one source in their order, and blocks are written as they
+fill. Form 1 has times below 2^32 ms (49 days), so frame.time_epoch needs --form 2.
 
 CSV `-` is standard input, and TRACE `-` standard output. Standard output, /dev/stdout, /dev/fd/N, a device or a pipe is written to where it
 stands and never replaced: it gets the trace when that is whole, and no byte before.
@@ -17,49 +29,21 @@ break, or the program refuses the trace; 2 a read or a write failed, the program
 arguments are wrong.
 """
 import argparse
-from typing import BinaryIO, Iterator, List, NamedTuple, Optional
+from typing import BinaryIO, Iterator, List, Optional
 
 from . import files, programs, sheets
-from .blocks import BLOCK, FORMS, MARKS, RETIRED, Form, Record, header
-from .common import REFUSED, WELL, Ended, file_name, many, refused_words, tell
+from .arrivals import Arrival, arrivals_in
+from .blocks import BLOCK, FORMS, RETIRED, Form, Record, header
+from .common import REFUSED, WELL, Ended, file_name, many, refused_words, ssrc, tell
 from .library import file_of, package
-
-COLUMNS = ("time", "number", "mark", "ssrc")
-MARK_NAMES = {name.lower(): mark for mark, name in enumerate(MARKS)} | {str(mark): mark for mark in range(4)}
-
-
-class Arrival(NamedTuple):
-    ssrc: int
-    record: Record
 
 
 def add_arguments(parser: argparse.ArgumentParser) -> None:
     parser.add_argument("csv", type=file_name, metavar="CSV", help="the arrivals; - is standard input")
     parser.add_argument("-o", "--out", required=True, type=file_name, metavar="TRACE", help="the trace; - is standard output")
     parser.add_argument("--label", default="", metavar="TEXT", help="the trace's label, 0 to 502 bytes of printable ASCII (empty)")
-    parser.add_argument("--ssrc", type=number, metavar="N", help="the source, where there is no column ssrc; 0x.. is hexadecimal")
+    parser.add_argument("--ssrc", type=ssrc, metavar="N", help="the source, if there is no column for it; 0x.. is hexadecimal")
     parser.add_argument("--form", type=int, choices=FORMS, default=1, help="1: times below 2^32 ms, 49 days (the default); 2: times below 2^48 ms")
-
-
-def number(text: str) -> int:
-    return int(text, 0)
-
-
-def arrival_in(row: sheets.Cells, form: Form, ssrc: Optional[int]) -> Arrival:
-    """The arrival in a row of the CSV file."""
-    source = row.number("ssrc", 2**32) if ssrc is None else ssrc
-    time, number = row.number("time", 256**form.time), row.number("number", 2**16)
-    mark = row.cells["mark"].lower()
-    if mark not in MARK_NAMES:
-        raise Ended(REFUSED, f"{row.where}: mark {mark!r} is not 0 to 3, nor one of {', '.join(MARKS)}")
-    return Arrival(source, Record(time, number, MARK_NAMES[mark]))
-
-
-def arrivals_in(rows: sheets.Sheet, form: Form, ssrc: Optional[int]) -> Iterator[Arrival]:
-    rows.need(*COLUMNS[:3], known=COLUMNS)
-    if ("ssrc" in rows.columns) == (ssrc is not None):
-        raise Ended(REFUSED, f"{rows.name}: give the source once, by a column ssrc or by --ssrc")
-    return (arrival_in(row, form, ssrc) for row in rows)
 
 
 def label_fault(number: int, label: bytes) -> Ended:
@@ -144,8 +128,6 @@ class Made:
 
 
 def run(options: argparse.Namespace) -> int:
-    if options.ssrc is not None and not 0 <= options.ssrc < 2**32:
-        raise Ended(REFUSED, f"the SSRC {options.ssrc} is not from 0 to {2**32 - 1}")
     made = Made(Writer(FORMS[options.form], options.label))
     made.writer.zeroth(0)  # a label that is refused is told before the CSV file is read
     with files.Output(options.out, files.identities([options.csv])) as trace:

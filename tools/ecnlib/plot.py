@@ -1,5 +1,7 @@
 """Draws a table: marks, losses and jumps for each block, as one SVG picture that opens in a browser.
 
+    ecn plot night1.csv -o night1.svg
+
 A row of ecntable is the total so far, so what a block brought is its row less the row before. Where a sender restarted (dashed line) the
 columns begin at 0 again. With more than 240 blocks a bar stands for several and shows their mean, what one of them brought on average. A
 table of ecnstreams, with one row for each source, has a bar for each. A bar's counts are shown when the pointer rests on it.

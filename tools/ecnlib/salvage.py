@@ -1,5 +1,7 @@
 """Saves what is left of damaged traces: copies the label and every sound block, by the proved program ecnsalvage.
 
+    ecn salvage night1.trace -o night1.copy
+
 A block that ecntable would refuse is left out: one whose checksum does not fit (13), one with wrong contents or of
 another form or SSRC than the label's (14), and a partial block at the end (1). The other blocks are copied in order,
 byte for byte, so ecntable accepts the copy. For each trace the blocks that were left out are listed on standard

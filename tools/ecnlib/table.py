@@ -1,5 +1,8 @@
 """Runs the proved program ecntable on traces, and puts each table in place only when it is whole.
 
+    ecn table night1.trace -o night1.csv
+    ecn table traces/*.trace -o tables/ -j 4
+
 With one trace OUT is the table's file; where OUT is a folder, ends with a slash, or there are several traces, it is a folder (made
 where it is missing) and each table is OUT/NAME.csv, NAME being the trace's file name without `.trace`. A table is written beside its
 place and renamed at the end, so OUT is whole or as it was before. For a trace that is refused nothing is put in place; run the program
