@@ -3,8 +3,12 @@ import csv
 import io
 import os
 import random
+import shutil
+import subprocess
 import sys
+import unittest
 
+import capture
 import tools
 from tools import SAMPLES, TOP, Tried, arrivals, label, needs_library
 
@@ -116,6 +120,16 @@ class Rtcp(Tried):
         self.assertEqual(self.rtcp(named).stdout.count("ECN feedback"), 2)
         (self.folder / "packet").write_bytes(bytes.fromhex(packet))
         self.assertEqual(self.ecn("rtcp", self.folder / "packet", "--media", "1", library=True).stdout.partition(": ")[2], text.partition(": ")[2])
+
+    @unittest.skipUnless(shutil.which("tshark"), "tshark is not installed")
+    def test_from_tshark(self):
+        """The line of the command's help, on a capture."""
+        packets = [bytes.fromhex("80c9000100000009" + C2)] * 3
+        capture.write_pcap(self.folder / "link.pcap", packets)
+        fields = ["tshark", "-r", self.folder / "link.pcap", "-d", f"udp.port=={capture.PORT},rtcp", "-Y", "rtcp", "-T", "fields", "-e", "udp.payload"]
+        for more in ([], ["-e", "frame.number", "-E", "header=y"]):
+            text = subprocess.run([*fields, *more], capture_output=True, text=True, check=True).stdout
+            self.assertEqual(self.rtcp(text).stdout.count("ECN feedback: sender 9, highest 65539"), 3)
 
     def test_each_cut_and_many_changes(self):
         """The refusal of each packet is that of the library, and none ends the run."""

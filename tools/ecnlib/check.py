@@ -13,8 +13,15 @@ others are refused with 14: take --streams, or split the trace with `ecn split`.
 With --csv the columns are trace, label, form, sources, blocks, refused, number, block: the last two are the first refusal
 and its block, counted from 0. A trace `-` is standard input; a trace is read once. `ecn look --refused` shows the blocks.
 
-Exit status: 0 no block is refused; 1 one is; 2 a read or a write failed, the library is not there, or the arguments are
-wrong.
+With --origin each TRACE is the origin of a table, which `ecn table --origin` wrote. The trace is looked for by its name from
+the origin's folder, or in it, and the table beside the origin. The proved program makes the table again, and a line says
+how each stands to its SHA-256 in the origin (same, differs, missing): the trace, the table, the table made again, and the
+program. Another build of the program is well if it makes the same table.
+
+    ecn check --origin night1.csv.origin
+
+Exit status: 0 no block is refused, or each table is the same; 1 one is refused, differs or is missing; 2 a read or a write failed, the library or the program is not there, or the
+arguments are wrong.
 """
 import argparse
 import csv
@@ -23,7 +30,7 @@ import io
 import json
 from typing import Any, Iterator, NamedTuple, Optional
 
-from . import files, several
+from . import files, origins, several
 from .blocks import BLOCK, FORMS, blocks_in, label_in
 from .common import REFUSALS, REFUSED, WELL, tell
 from .library import package
@@ -48,6 +55,7 @@ def add_arguments(parser: argparse.ArgumentParser) -> None:
     several.add_arguments(parser)
     several.add_output(parser, "where the lines go")
     parser.add_argument("--streams", action="store_true", help="arrivals blocks may differ in SSRC, as ecnstreams takes them")
+    parser.add_argument("--origin", action="store_true", help="TRACE is the origin of a table: make the table again and compare")
     parser.add_argument("--csv", action="store_true", help="print CSV, for programs")
 
 
@@ -104,35 +112,42 @@ def human_row(trace: str, found: Checked) -> tuple:
     return (trace, label, *known, f"{found.blocks:,}", f"{found.refused:,}", first + more)
 
 
-def human(rows: list) -> str:
-    head = ("trace", "label", "form", "sources", "blocks", "refused", "first refusal")
-    return "".join(f"{line}\n" for line in aligned([head, *(human_row(trace, found) for trace, found in rows)], {2, 3, 4, 5}))
-
-
-def machine(rows: list) -> str:
-    text = io.StringIO()
-    out = csv.writer(text)
-    out.writerow(COLUMNS)
-    out.writerows((trace, *(each.decode("ascii") if isinstance(each, bytes) else each for each in found)) for trace, found in rows)
-    return text.getvalue()
-
-
-def found_of(options: argparse.Namespace, statuses: list) -> Iterator[tuple]:
+def traces_checked(options: argparse.Namespace, statuses: list) -> Iterator[tuple]:
+    """The head line and a row for each trace."""
+    package(needed=True)
+    yield COLUMNS if options.csv else ("trace", "label", "form", "sources", "blocks", "refused", "first refusal")
     for trace, found in several.asked(options.traces, options.jobs, functools.partial(checked, streams=options.streams)):
         if found.value is None:
             statuses.append(found.status)
-        else:
-            statuses.append(REFUSED if found.value.refused else WELL)
-            if found.value.sources > 1 and not options.streams:
-                tell(f"{files.shown(trace)} has {found.value.sources} sources: check it with --streams, or split it with ecn split")
-            yield trace, found.value
+            continue
+        statuses.append(REFUSED if found.value.refused else WELL)
+        if found.value.sources > 1 and not options.streams:
+            tell(f"{files.shown(trace)} has {found.value.sources} sources: check it with --streams, or split it with ecn split")
+        label = None if found.value.label is None else found.value.label.decode("ascii")
+        yield (trace, label, *found.value[1:]) if options.csv else human_row(trace, found.value)
+
+
+def origins_checked(options: argparse.Namespace, statuses: list) -> Iterator[tuple]:
+    """The same for each origin. One is compared at a time."""
+    yield ("origin", *origins.Compared._fields)
+    for path, found in several.asked(options.traces, 1, functools.partial(origins.compared, folder=options.bin)):
+        statuses.append(found.status if found.value is None else WELL if found.value.well else REFUSED)
+        if found.value is not None:
+            yield (path, *found.value)
+
+
+def printed(rows: list, options: argparse.Namespace) -> str:
+    if not options.csv:
+        return "".join(f"{line}\n" for line in aligned(rows, () if options.origin else {2, 3, 4, 5}))
+    text = io.StringIO()
+    csv.writer(text).writerows(rows)
+    return text.getvalue()
 
 
 def run(options: argparse.Namespace) -> int:
-    package(needed=True)
     statuses = [WELL]
     with files.Output(options.out, files.identities(options.traces)) as out:
-        rows = list(found_of(options, statuses))
-        out.write((machine(rows) if options.csv else human(rows)).encode("utf-8", "surrogateescape"))
+        rows = list((origins_checked if options.origin else traces_checked)(options, statuses))
+        out.write(printed(rows, options).encode("utf-8", "surrogateescape"))
         out.commit()
     return max(statuses)

@@ -18,7 +18,7 @@ from .common import FAILED, Ended, fill_streams, printing, tell
 from .library import package, version
 
 COMMANDS = ("table", "look", "make", "label", "salvage", "plot", "answer", "breaker", "summary", "check", "records", "split", "forms", "report", "rtcp")
-BY_LIBRARY = ("plot", "answer", "breaker", "summary", "check", "records", "split", "report", "rtcp")  # they run no program
+BY_LIBRARY = ("plot", "answer", "breaker", "summary", "records", "split", "report", "rtcp")  # they run no program
 
 
 class Version(argparse.Action):

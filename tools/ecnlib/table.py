@@ -8,6 +8,9 @@ where it is missing) and each table is OUT/NAME.csv, NAME being the trace's file
 place and renamed at the end, so OUT is whole or as it was before. For a trace that is refused nothing is put in place; run the program
 itself for the rows before the refused block.
 
+With --origin a file OUT.origin is written beside each table. It says of what the table was made: the SHA-256 of the trace, the table and the
+program, the version and the command. `ecn check --origin OUT.origin` makes the table again and compares. The trace and the table are files then.
+
 A trace `-` is standard input, and OUT `-` standard output, for the table of one trace. Standard output, /dev/stdout, /dev/fd/N, a device or
 a pipe is written to where it stands and never replaced: it gets the table when that is whole, and no byte before.
 
@@ -18,9 +21,12 @@ import argparse
 import csv
 import io
 import os
+import shlex
+import stat
+import sys
 from typing import Optional
 
-from . import programs, runs
+from . import endings, files, origins, programs, runs
 from .blocks import BLOCK
 from .common import FAILED, REFUSED, Ended, refused_words
 
@@ -30,6 +36,7 @@ TABLES = runs.Kind("table", "tables", lambda name: name.removesuffix(".trace") +
 def add_arguments(parser: argparse.ArgumentParser) -> None:
     runs.add_arguments(parser, TABLES, "converted")
     parser.add_argument("--streams", action="store_true", help="take ecnstreams: arrivals blocks may differ in SSRC, and there is one row for each")
+    parser.add_argument("--origin", action="store_true", help="write OUT.origin beside each table, which says of what it was made")
 
 
 def rows_in(table: io.BufferedRandom) -> int:
@@ -72,5 +79,42 @@ class Conversion(runs.Run):
         return None if rows == read // BLOCK - 1 else Ended(FAILED, f"{self.name}: {rows} rows for {read} bytes; the table is not whole")
 
 
+class Original(Conversion):
+    """A trace, its table, and the table's origin."""
+
+    def __init__(self, path: str, trace: str, out: str, inputs: set):
+        self.out, there = out, files.found(trace)
+        if files.descriptor(trace) is not None or there and stat.S_ISFIFO(there.st_mode):
+            raise Ended(FAILED, f"{files.shown(trace)}: --origin reads a trace more than once: give the trace's file")
+        super().__init__(path, trace, out, inputs)
+        try:
+            if self.output.path is None:
+                raise Ended(FAILED, f"{self.output.name}: --origin stands beside a table: give the table's file as OUT")
+            self.before = self.state()
+            self.origin = self.opened.enter_context(files.Output(out + origins.ENDING, inputs))
+        except BaseException:
+            self.close()
+            raise
+
+    def state(self) -> tuple:
+        there = os.fstat(self.handle)
+        return there.st_size, there.st_mtime_ns
+
+    def finish(self) -> None:
+        fault = self.fault()
+        if fault:
+            raise fault
+        os.lseek(self.handle, self.began, os.SEEK_SET)
+        with open(self.handle, "rb", closefd=False) as trace, endings.waiting():
+            trace_sum = origins.sum_of(trace)
+        if self.state() != self.before:
+            raise Ended(FAILED, f"{self.name} has changed while it was read; the table is not put in place")
+        self.output.file.seek(0)
+        table_sum = origins.sum_of(self.output.file)
+        self.output.commit()
+        self.origin.write(origins.text_of(shlex.join(["ecn", *sys.argv[1:]]), self.path, (self.trace, trace_sum), (self.out, table_sum)))
+        self.origin.commit()
+
+
 def run(options: argparse.Namespace) -> int:
-    return runs.run_all(options, TABLES, "ecnstreams" if options.streams else "ecntable", Conversion)
+    return runs.run_all(options, TABLES, "ecnstreams" if options.streams else "ecntable", Original if options.origin else Conversion)
