@@ -9,6 +9,7 @@ mod random;
 mod records;
 mod rings;
 mod row;
+mod words;
 
 use arrivals::{Arrivals, LINKS, WORST};
 use breaker::{Breaker, Report};
@@ -30,6 +31,7 @@ fn lines(call: &str, input: &str, others: &[&str], units: usize, mut runs: Vec<R
     let ns = |i: usize| times[i] * 1e9 / units as f64;
     for (i, other) in others.iter().enumerate() {
         let ratio = ns(i + 1) / ns(0);
+        medians::figure("calls", call, input, ns(0), other, ns(i + 1));
         println!("| {call} | {input} | {:.1} | {other} | {:.1} | {ratio:.2} |", ns(0), ns(i + 1));
     }
 }
@@ -58,6 +60,36 @@ fn arrive_other<R: Ring>(list: &[(u16, u8)]) -> Counts {
         sum += skipped(counter.arrive(wire, mark));
     }
     (black_box(&counter).words(), sum)
+}
+
+fn arrive_checked(list: &[(u16, u8)]) -> Counts {
+    let (mut source, mut sum) = (library::Source::default(), 0);
+    for &arrival in list {
+        let (wire, mark) = black_box(arrival);
+        sum += skipped(words::arrive(&mut source, wire, mark));
+    }
+    (*black_box(&source), sum)
+}
+
+/// The library and the Rust with its checks give the same answers and words for a record with each word changed in many ways, and for other numbers of words.
+fn same_checks(record: &library::Source) {
+    let both = |words: &[u64], wire: u16, mark: u8| {
+        let (mut one, mut other) = (words.to_vec(), words.to_vec());
+        let answers = (library::arrive(&mut one, wire, mark), words::arrive(&mut other, wire, mark));
+        assert!(answers.0 == answers.1 && one == other, "the checks differ on {words:?}: {answers:?}");
+    };
+    for (i, &word) in record.iter().enumerate() {
+        let near = [0, 1, 2_999, 65_535, 65_536, 1 << 36, 1 << 48, u64::MAX >> 1, u64::MAX];
+        let ways = near.iter().flat_map(|&n| [n.wrapping_sub(1), n, n.wrapping_add(1), word.wrapping_sub(n), word.wrapping_add(n)]);
+        for value in ways.chain((0..64).map(|bit| word ^ 1 << bit)) {
+            let mut words = *record;
+            words[i] = value;
+            for (wire, mark) in [(words[1] as u16, 0), (words[1].wrapping_add(1) as u16, 3), (words[1].wrapping_add(9_000) as u16, 1), (words[9] as u16, 4)] {
+                both(&words, wire, mark);
+            }
+        }
+    }
+    (0..12).for_each(|size| both(&[0; 12][..size], 1, 1));
 }
 
 fn blocks_ours(list: &[Vec<u8>]) -> Counts {
@@ -91,15 +123,17 @@ fn counting() {
         let mut again = list.iter().copied();
         let whole: Vec<_> = (0..BLOCKS).map(|_| records::records(form::ONE, 0, &mut again)).collect();
         let answer = arrive_ours(&list);
-        let others = [arrive_other::<Hundred>(&list), arrive_other::<PowerOfTwo>(&list)];
+        same_checks(&answer.0);
+        let others = [arrive_other::<Hundred>(&list), arrive_other::<PowerOfTwo>(&list), arrive_checked(&list)];
         let in_blocks = [blocks_ours(&whole), blocks_other::<Hundred>(&whole), blocks_other::<PowerOfTwo>(&whole)];
         assert!(others.iter().chain(&in_blocks).all(|other| *other == answer), "the counts differ: {name}");
         let runs = vec![
             run(|| arrive_ours(&list)),
             run(|| arrive_other::<Hundred>(&list)),
             run(|| arrive_other::<PowerOfTwo>(&list)),
+            run(|| arrive_checked(&list)),
         ];
-        lines("arrive, a packet", name, &rings, units, runs);
+        lines("arrive, a packet", name, &[rings[0], rings[1], "the same checks on the same words"], units, runs);
         let runs = vec![
             run(|| blocks_ours(&whole)),
             run(|| blocks_other::<Hundred>(&whole)),
@@ -185,7 +219,8 @@ fn main() {
     let machine = std::env::args().nth(1).expect("the machine's word");
     let rounds = medians::setting("ROUNDS", 11);
     println!("Calls through the static library, in ns of processor time; {machine}, median of {rounds} interleaved rounds.");
-    println!("The other is inlined Rust. Ours checks the whole record's soundness on each call, the arrival call too; the rings check no record.\n");
+    println!("The other is inlined Rust. Ours checks the whole record's soundness on each call, the arrival call too; the rings check no record.");
+    println!("\"The same checks on the same words\" is Rust over the ten words with every check that ours makes.\n");
     println!("| call | input | ours | other | its time | other / ours |\n|---|---|---|---|---|---|");
     counting();
     reading();

@@ -39,7 +39,7 @@ extern "C" {
 
 pub type Source = [u64; 10];
 
-pub fn arrive(source: &mut Source, wire: u16, mark: u8) -> u8 {
+pub fn arrive(source: &mut [u64], wire: u16, mark: u8) -> u8 {
     unsafe { flasknib_arrive(source.as_mut_ptr(), source.len(), wire, mark) }
 }
 

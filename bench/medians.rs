@@ -1,4 +1,6 @@
 //! Interleaved rounds and their medians.
+use std::fs::OpenOptions;
+use std::io::Write;
 use std::time::Duration;
 
 /// A clock of the system by its number: what has passed since a fixed moment.
@@ -21,6 +23,15 @@ impl Clock {
 /// A setting from the environment, or its default.
 pub fn setting(name: &str, default: usize) -> usize {
     std::env::var(name).ok().and_then(|text| text.parse().ok()).unwrap_or(default)
+}
+
+/// Adds a figure to the file that FIGURES names, if it does: a line of JSON with the time of ours and that of the other, in one unit.
+pub fn figure(table: &str, what: &str, input: &str, ours: f64, other: &str, its: f64) {
+    if let Some(path) = std::env::var_os("FIGURES") {
+        let mut file = OpenOptions::new().append(true).create(true).open(path).expect("the file of figures");
+        let line = format!("{{\"table\": {table:?}, \"what\": {what:?}, \"input\": {input:?}, \"other\": {other:?}, \"ours\": {ours}, \"its\": {its}}}");
+        writeln!(file, "{line}").expect("room for a figure");
+    }
 }
 
 /// Runs all in turn, `rounds` times, and gives the median of each in seconds. A first round is not counted, and what is done before each run is not

@@ -96,6 +96,7 @@ fn main() -> io::Result<()> {
                     (1, _) => format!(", one block in {damaged} damaged"),
                     _ => format!(", {sources} sources"),
                 };
+                medians::figure("programs", program, &format!("{of_form}, {name}{more}"), ours, "Rust program", other);
                 println!("| {program} | {of_form}, {name}{more} | {cat:.0} | {plain:.0} | {ours:.0} | {other:.0} | {:.2} |", other / ours);
             }
         }
