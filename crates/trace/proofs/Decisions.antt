@@ -1,6 +1,6 @@
 -- How each test decides what a block is. Assumes nothing.
 use mathlib.Core.Path.{_≡_, refl, sym, ap, _∙_}
-use mathlib.Core.Bool.{Bool, true, false, not, cond, and-true}
+use mathlib.Core.Bool.{Bool, true, false, not, cond, _&&_, and-true}
 use mathlib.Core.Logic.{⊎-elim}
 use denote.Enum.Declared.{tagOf}
 use types.Run.{OneOf}
@@ -73,9 +73,9 @@ module _ (shape : Shape) (n : ℕ) (body : List ℕ) where
   unfolding arrivalsBody
   records-false i e = all-false (arrivalsConditions shape n body) i e
 
-  pub records-rest : countOk shape n ≡ true → goodRecords shape n body ≡ true → {r : Bool} → r ≡ every isZero (drop (n * width shape) body) → r ≡ arrivalsBody shape n body
+  pub records-rest : countOk shape n ≡ true → {r : Bool} → r ≡ (goodRecords shape n body && every isZero (drop (n * width shape) body)) → r ≡ arrivalsBody shape n body
   unfolding arrivalsBody
-  records-rest c e z = rw (c, e) (z ∙ sym (and-true (every isZero (drop (n * width shape) body))))
+  records-rest c e = rw c (e ∙ ap (λ (t : Bool). goodRecords shape n body && t) (sym (and-true (every isZero (drop (n * width shape) body)))))
 
 -- ---- a block with a right check, by what has been read of it
 

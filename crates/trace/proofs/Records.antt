@@ -1,8 +1,8 @@
 -- Laws of the bytes of records and of the records in bytes, over the shape: each is got back from the other, and both go piece by piece. Assumes nothing.
 use mathlib.Core.Path.{_≡_, refl, sym, ap, ap₂, _∙_}
-use mathlib.Core.Bool.{Bool, true, _&&_, and-assoc}
+use mathlib.Core.Bool.{Bool, true, false, _&&_, and-assoc}
 use mathlib.Core.List.{List, [], _∷_, _++_, append-nil, append-assoc}
-use Prim.Native.Nat.{ℕ, zero, suc, _+_, _*_, _/_, _%_, _≤_, _<_}
+use Prim.Native.Nat.{ℕ, zero, suc, _+_, _-_, _*_, _/_, _%_, _≤_, _<_}
 use native.Mathlib.Nat.{zero-add, add-zero, suc-add, add-assoc, add-comm, zero-mul, suc-mul, mul-div-cancel, div-add-mod'}
 use native.Mathlib.Omega.{arith}
 use borrow.Author.Tests.{eq-eqb, leb-true, eqb-true, lt-ltb, ltb-true}
@@ -281,6 +281,20 @@ module _ (shape : Shape) where
       let last : Bool = goodRecords shape n (drop (suc m * width shape) s) in
       rw (suc-add m n, good-add m n (drop (width shape) s), behind m s)
       (sym (and-assoc mark (nil && first) last ∙ ap (λ (t : Bool). mark && t) (and-assoc nil first last)))
+
+  -- n records whose first m are good, from a place on, or not good
+  module _ (m n : ℕ) (h : m ≤ n) where
+    good-parts : (s : List ℕ) → goodRecords shape n s ≡ (goodRecords shape m s && goodRecords shape (n - m) (drop (m * width shape) s))
+    good-parts s = let e : m + (n - m) ≡ n = omega arith in sym (ap (λ (k : ℕ). goodRecords shape k s) e) ∙ good-add m (n - m) s
+
+    pub part-good : (s : List ℕ) (at : ℕ) {next : ℕ} → next ≡ at + m * width shape → goodRecords shape m (drop at s) ≡ true
+        → goodRecords shape (n - m) (drop next s) ≡ goodRecords shape n (drop at s)
+    part-good s at {next} en e =
+        let rest : drop (m * width shape) (drop at s) ≡ drop next s = drop-drop (m * width shape) at s ∙ ap (λ (k : ℕ). drop k s) (sym en) in
+        sym (good-parts (drop at s) ∙ ap (λ (t : Bool). t && goodRecords shape (n - m) (drop (m * width shape) (drop at s))) e ∙ ap (goodRecords shape (n - m)) rest)
+
+    pub part-bad : (s : List ℕ) → goodRecords shape m s ≡ false → false ≡ goodRecords shape n s
+    part-bad s e = sym (good-parts s ∙ ap (λ (t : Bool). t && goodRecords shape (n - m) (drop (m * width shape) s)) e)
 
   -- what follows the records does not matter
   module _ (n : ℕ) (s : List ℕ) (h : suc n * width shape ≤ length s) where

@@ -3,10 +3,11 @@ use mathlib.Core.Path.{_≡_, refl, sym, ap, _∙_}
 use mathlib.Core.Bool.{Bool, true, false, _&&_, cond, and-true, and-assoc}
 use mathlib.Core.List.{List, [], _∷_, _++_}
 use Prim.Native.Nat.{ℕ, zero, suc, _+_, _-_, _*_, _/_, _≤_, _<_}
-use native.Mathlib.Nat.{add-zero, zero-add, suc-add, add-assoc, add-comm, suc-mul}
+use native.Mathlib.Nat.{add-zero, zero-add, suc-add, add-assoc, add-mul, one-mul}
 use native.Mathlib.Numerals.{add-one}
 use native.Mathlib.Omega.{arith}
 use borrow.Author.Tests.{eq-eqb, ne-eqb, leb-true, leb-false, eqb-true, eqb-false}
+use lib.Bits.{bitOr, and-le-r, or-add-and, or-shr}
 use lib.Dec.{leb, ltb, eqb, eqb·suc-zero}
 use lib.ListN.{length, drop, getD, drop-of-length-le}
 use lib.Seq.{drop-cons, drop-drop, getD-drop}
@@ -87,27 +88,42 @@ pair-fault z m h = go (leb m 3) (eqb z 0) refl refl
     go true false e k = ne-eqb ((z * 256 + m) / 4) 0 (λ n. omega (arith, eqb-false z 0 k))
     go false u e k = ne-eqb ((z * 256 + m) / 4) 0 (λ n. omega (arith, leb-false m 3 e))
 
-pub mul-turn : (left w : ℕ) → 0 < left → left * w ≡ w + (left - 1) * w
-mul-turn zero w h = absurd (omega arith)
-mul-turn (suc k) w h = let less : suc k - 1 ≡ k = omega arith in rw less (suc-mul k w ∙ add-comm (k * w) w)
+-- the first m of n things of w bytes, and those after them
+pub mul-part : (m n w : ℕ) → m ≤ n → n * w ≡ m * w + (n - m) * w
+mul-part m n w h = let e : m + (n - m) ≡ n = omega arith in sym (ap (λ (k : ℕ). k * w) e) ∙ add-mul m (n - m) w
 
--- a turn of a loop over the records
-pub records-turn : (shape : Shape) (left at sum pair : ℕ) (body : List ℕ) {next zero-at mark-at : ℕ} → 0 < left
+pub mul-turn : (left w : ℕ) → 0 < left → left * w ≡ w + (left - 1) * w
+mul-turn left w h = mul-part 1 left w h ∙ ap (λ (k : ℕ). k + (left - 1) * w) (one-mul w)
+
+-- the bits of two numbers together are none just where neither has any
+zero-or : (a b : ℕ) → eqb (bitOr a b) 0 ≡ (eqb a 0 && eqb b 0)
+zero-or a b = go (eqb a 0) refl
+  where
+    go : (t : Bool) → eqb a 0 ≡ t → eqb (bitOr a b) 0 ≡ (t && eqb b 0)
+    go true e = rw (eqb-true a 0 e)
+    go false e = ne-eqb (bitOr a b) 0 (λ z. eqb-false a 0 e (omega (arith, or-add-and a b, and-le-r a b)))
+
+-- and so it is without the two lowest
+high-or : (a b : ℕ) → eqb (bitOr a b / 4) 0 ≡ (eqb (a / 4) 0 && eqb (b / 4) 0)
+high-or a b = ap (λ (n : ℕ). eqb n 0) (or-shr a b 2) ∙ zero-or (a / 4) (b / 4)
+
+-- a turn of a loop over the records, which puts the bits of all pairs together
+pub records-turn : (shape : Shape) (left at seen pair : ℕ) (body : List ℕ) {next zero-at mark-at : ℕ} → 0 < left
     → zero-at ≡ at + (shape .time + 3) → mark-at ≡ at + (shape .time + 2) → next ≡ at + width shape → getD body mark-at 0 < 256
     → pair ≡ word 2 (getD body zero-at 0 ∷ getD body mark-at 0 ∷ []) 0
-    → (eqb (sum + pair / 4) 0 && goodRecords shape (left - 1) (drop next body)) ≡ (eqb sum 0 && goodRecords shape left (drop at body))
+    → (eqb (bitOr seen pair / 4) 0 && goodRecords shape (left - 1) (drop next body)) ≡ (eqb (seen / 4) 0 && goodRecords shape left (drop at body))
 unfolding goodRecords
-records-turn shape zero at sum pair body h ez em en o e = absurd (omega arith)
-records-turn shape (suc k) at sum pair body {next} {zero-at} {mark-at} h ez em en o e =
+records-turn shape zero at seen pair body h ez em en o e = absurd (omega arith)
+records-turn shape (suc k) at seen pair body {next} {zero-at} {mark-at} h ez em en o e =
     let z = getD body zero-at 0 in
     let m = getD body mark-at 0 in
     let rest : Bool = goodRecords shape k (drop next body) in
     let less : suc k - 1 ≡ k = omega arith in
     let number : pair ≡ z * 256 + m = e ∙ word-two (z ∷ m ∷ []) 0 in
-    rw (less, number, zero-sum sum ((z * 256 + m) / 4), pair-fault z m o, getD-drop at body (shape .time + 2) 0, getD-drop at body (shape .time + 3) 0, drop-drop (width shape) at body, ← ez, ← em, ← en)
-    (and-assoc (eqb sum 0) (isMark m && isZero z) rest ∙ ap (λ (t : Bool). eqb sum 0 && t) (and-assoc (isMark m) (isZero z) rest))
+    rw (less, number, high-or seen (z * 256 + m), pair-fault z m o, getD-drop at body (shape .time + 2) 0, getD-drop at body (shape .time + 3) 0, drop-drop (width shape) at body, ← ez, ← em, ← en)
+    (and-assoc (eqb (seen / 4) 0) (isMark m && isZero z) rest ∙ ap (λ (t : Bool). eqb (seen / 4) 0 && t) (and-assoc (isMark m) (isZero z) rest))
 
-pub records-done : (shape : Shape) (left sum n : ℕ) (s body : List ℕ) → left ≤ 0 → (eqb sum 0 && goodRecords shape left s) ≡ goodRecords shape n body → eqb sum 0 ≡ goodRecords shape n body
+pub records-done : (shape : Shape) (left seen n : ℕ) (s body : List ℕ) → left ≤ 0 → (eqb (seen / 4) 0 && goodRecords shape left s) ≡ goodRecords shape n body → eqb (seen / 4) 0 ≡ goodRecords shape n body
 unfolding goodRecords
-records-done shape zero sum n s body h e = sym (and-true (eqb sum 0)) ∙ e
-records-done shape (suc left) sum n s body h e = absurd (omega arith)
+records-done shape zero seen n s body h e = sym (and-true (eqb (seen / 4) 0)) ∙ e
+records-done shape (suc left) seen n s body h e = absurd (omega arith)

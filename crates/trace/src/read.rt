@@ -4,8 +4,8 @@ use crate::Found;
 use crate::Record;
 use crate::checksum::ones_sum;
 use crate::contents::all_allowed;
-use crate::contents::all_records;
 use crate::contents::all_zero;
+use crate::contents::good_ends;
 use crate::contents::is_count;
 use crate::fields::read_time;
 use crate::fields::time_bytes;
@@ -23,12 +23,13 @@ use format::block::SSRC;
 use numbers::big_endian::read16;
 use numbers::big_endian::read32;
 ghost use mathlib.Core.Path.{_≡_};
-ghost use Prim.Native.Nat.{_+_, _≤_};
-ghost use lib.ListN.{length};
-ghost use Rattle.format.specs.Blocks.{blockBytes, bodyBytes};
-ghost use Rattle.format.specs.Forms.{shapeOf, width};
+ghost use mathlib.Core.Bool.{_&&_};
+ghost use Prim.Native.Nat.{_+_, _*_, _≤_};
+ghost use lib.ListN.{length, drop};
+ghost use Rattle.format.specs.Blocks.{blockBytes, bodyBytes, behindTime};
+ghost use Rattle.format.specs.Forms.{Shape, shapeOf, width};
 ghost use Rattle.trace.specs.Layout.{recordAt};
-ghost use Rattle.trace.specs.Contents.{labelBody, arrivalsBody};
+ghost use Rattle.trace.specs.Contents.{every, isZero, goodRecords, labelBody, arrivalsBody};
 ghost use Rattle.trace.specs.Reading.{rightCheck, contentsOf, blockOf, faultOf, foundAt};
 
 // Whether body is that of a label of n bytes.
@@ -45,6 +46,43 @@ fn label_body(n: usize, body: &[u8]) -> bool
     all_zero(&body[n..])
 }
 
+// Whether body has n good records, `step` bytes each, and then zeros.
+fn holds_records(step: usize, n: usize, body: &[u8]) -> bool
+    requires { ⌜ (behindTime ≤ step) × (n * step ≤ length (now body)) × (length (now body) ≡ bodyBytes) ⌝ }
+    ensures { λ r. ⌜ ((shape : Shape) → step ≡ width shape → r ≡ (goodRecords shape n (now (body .entry)) && every isZero (drop (n * width shape) (now (body .entry))))) ⌝ }
+{
+    if !good_ends(step, n, body) {
+        return false;
+    }
+    all_zero(&body[n * step..])
+}
+
+// Whether body has n good records of a form and then zeros. A full block of each form has a call of its own, so that the compiler knows
+// its numbers.
+fn form_records(form: Form, n: usize, body: &[u8]) -> bool
+    requires { ⌜ (n ≤ shapeOf form .most) × (length (now body) ≡ bodyBytes) ⌝ }
+    ensures { λ r. ⌜ r ≡ (goodRecords (shapeOf form) n (now (body .entry)) && every isZero (drop (n * width (shapeOf form)) (now (body .entry)))) ⌝ }
+{
+    match form {
+        Form::One => {
+            let most = Form::One.most();
+            let width = Form::One.width();
+            if n == most {
+                return holds_records(width, most, body);
+            }
+            holds_records(width, n, body)
+        }
+        Form::Two => {
+            let most = Form::Two.most();
+            let width = Form::Two.width();
+            if n == most {
+                return holds_records(width, most, body);
+            }
+            holds_records(width, n, body)
+        }
+    }
+}
+
 // Whether body is that of n arrivals.
 fn arrivals_body(form: Form, n: usize, body: &[u8]) -> bool
     requires { ⌜ length (now body) ≡ bodyBytes ⌝ }
@@ -53,10 +91,7 @@ fn arrivals_body(form: Form, n: usize, body: &[u8]) -> bool
     if !is_count(form, n) {
         return false;
     }
-    if !all_records(form, n, body) {
-        return false;
-    }
-    all_zero(&body[n * form.width()..])
+    form_records(form, n, body)
 }
 
 // What a block with a right check is.

@@ -4,7 +4,6 @@ use mathlib.Core.Path.{_≡_, sym, ap, _∙_}
 use native.Mathlib.Omega.{arith}
 use Rattle.format.specs.Forms.{shapeOf, width}
 use Rattle.format.specs.declared.Form.{Form}
-use Rattle.format.proofs.Fits.{fits}
 use Rattle.trace.proofs.contents.all_records.Statement.{statement}
 use Rattle.trace.proofs.contents.all_records.Tie as tie
 
@@ -24,7 +23,7 @@ width-requires c κs = search needs
 good-ends-requires : tie.Need-good-ends-requires
 good-ends-requires c κs =
     let s = c .before .before .before .before in
-    (omega (arith, wide c), omega (arith, s .pre .0, fits (s .args .form) .few), rw (wide c) (s .pre .1))
+    (omega (arith, wide c), rw (wide c) (s .pre .1))
 
 enum-told-2 : tie.Need-enum-told-2
 enum-told-2 c = search needs
@@ -35,7 +34,7 @@ width-requires-2 c κs = search needs
 good-ends-requires-2 : tie.Need-good-ends-requires-2
 good-ends-requires-2 c κs =
     let s = c .before .before .before .before in
-    (omega (arith, wide-2 c), omega (arith, s .pre .0, fits (s .args .form) .few), rw (wide-2 c) (s .pre .1))
+    (omega (arith, wide-2 c), rw (wide-2 c) (s .pre .1))
 
 returns : tie.Need-returns
 returns c = c .good-ends .ensures (shapeOf (c .before .before .before .before .before .args .form)) (wide (c .before))

@@ -1,72 +1,73 @@
 -- `trace::contents::good_ends` meets its contract. Assumes nothing.
 use borrow.Author.Needs.{needs}
-use mathlib.Core.Path.{_≡_, refl, _∙_}
-use Prim.Native.Nat.{_+_, _-_, _*_, _≤_}
+use mathlib.Core.Path.{_≡_, refl, sym, ap, _∙_}
+use Prim.Native.Nat.{_+_, _*_, _≤_}
 use native.Mathlib.Omega.{arith}
-use lib.ListN.{length, drop}
+use lib.ListN.{length, drop, length-drop}
 use denote.Ref.{now}
-use mathlib.Core.Bool.{_&&_}
-use lib.Dec.{eqb}
+use Rattle.answers.proofs.Conditions.{was-true, was-false}
 use Rattle.format.specs.Forms.{Shape, width}
-use Rattle.trace.proofs.Tallies.{mul-turn, records-turn, records-done}
+use Rattle.trace.proofs.Tallies.{mul-part}
+use Rattle.trace.proofs.Decisions.{part-tail}
+use Rattle.trace.proofs.Records.{part-good, part-bad}
 use Rattle.trace.specs.Contents.{goodRecords}
 use Rattle.trace.proofs.contents.good_ends.Statement.{statement}
 use Rattle.trace.proofs.contents.good_ends.Tie as tie
 
 abbrev Inv-loop : tie.InvT-loop
-Inv-loop step n body mark sum₀ left₀ at₀ sum left at =
-    (at + left * step ≤ length body) × (left ≤ n) × (sum + 16384 * left ≤ 16384 * n)
-    × ((shape : Shape) → step ≡ width shape → (eqb sum 0 && goodRecords shape left (drop at body)) ≡ goodRecords shape n body)
+Inv-loop step n body left₀ at₀ left at =
+    (at + left * step ≤ length body) × ((shape : Shape) → step ≡ width shape → goodRecords shape left (drop at body) ≡ goodRecords shape n body)
 
 abbrev μ-loop : tie.MeasureT-loop
-μ-loop step n body mark sum₀ left₀ at₀ sum left at = left
+μ-loop step n body left₀ at₀ left at = left
 
-room : (c : tie.In-loop Inv-loop μ-loop) → c .before .loop .at + c .before .before .before .args .step ≤ length (now (c .before .before .before .args .body))
-room c = omega (arith, mul-turn (c .before .loop .left) (c .before .before .before .args .step) (c .loop-test .taken))
+room : (c : tie.In-loop Inv-loop μ-loop) → c .before .loop .at + 10 * c .before .before .before .args .step ≤ length (now (c .before .before .before .args .body))
+room c = omega (arith, mul-part 10 (c .before .loop .left) (c .before .before .before .args .step) (c .loop-test .taken))
 
 loop-holds : tie.Need-loop-holds Inv-loop μ-loop
-loop-holds c = (omega arith, search needs, search needs, λ shape e. refl)
+loop-holds c = (omega arith, λ shape e. refl)
 
-add-join16 : tie.Need-add-join16 Inv-loop μ-loop
-add-join16 c = omega (arith, room c)
+good-part-requires : tie.Need-good-part-requires Inv-loop μ-loop
+good-part-requires c κs =
+    let a = c .before .before .before .before .args in
+    (omega arith, rw (part-tail (now (a .body)) (c .before .before .loop .at), length-drop) (omega (arith, room (c .before))))
 
-add-join16-2 : tie.Need-add-join16-2 Inv-loop μ-loop
-add-join16-2 c = omega (arith, room c)
+returns : tie.Need-returns Inv-loop μ-loop
+returns c =
+    let s = now (c .before .before .before .before .before .before .args .body) in
+    let loop = c .before .before .before .before .loop in
+    λ shape e. part-bad shape 10 (loop .left) (c .before .before .before .loop-test .taken) (drop (loop .at) s)
+    (ap (goodRecords shape 10) (sym (part-tail s (loop .at))) ∙ was-false (c .before .good-part .ensures shape e) (c .if1 .taken))
+    ∙ loop .inv .1 shape e
 
-shared-slice-read-join16 : tie.Need-shared-slice-read-join16 Inv-loop μ-loop
-shared-slice-read-join16 c = omega (arith, room (c .before))
-
-add-join16-3 : tie.Need-add-join16-3 Inv-loop μ-loop
-add-join16-3 c = omega (arith, room (c .before))
-
-shared-slice-read-join16-2 : tie.Need-shared-slice-read-join16-2 Inv-loop μ-loop
-shared-slice-read-join16-2 c = omega (arith, room (c .before .before))
-
-add-sum : tie.Need-add-sum Inv-loop μ-loop
-add-sum c = omega (arith, c .join16 .ok)
+mul-at : tie.Need-mul-at Inv-loop μ-loop
+mul-at c = omega (arith, room (c .before .before .before))
 
 add-at : tie.Need-add-at Inv-loop μ-loop
 add-at c = omega (arith, room (c .before .before .before))
 
 loop-again : tie.Need-loop-again Inv-loop μ-loop
 loop-again c =
-    let loop = c .before .before .before .before .loop in
     let a = c .before .before .before .before .before .before .args in
-    let mark-at = loop .at + (a .step - 2) in
-    let turn = c .before .before .before .loop-test .taken in
-    let mark = c .before .shared-slice-known3 .given mark-at in (
-      omega (arith, mul-turn (loop .left) (a .step) turn),
-      omega arith,
-      omega (arith, c .join16 .ok),
-      λ shape e. records-turn shape (loop .left) (loop .at) (loop .sum) (c .join16 .result) (now (a .body)) {next = loop .at + a .step} {zero-at = mark-at + 1} {mark-at = mark-at} turn (omega arith) (omega arith) (omega arith) (omega (arith, mark)) (c .join16 .ensures)
-          ∙ loop .inv .3 shape e,
+    let s = now (a .body) in
+    let loop = c .before .before .before .before .loop in
+    let turn = c .before .before .before .loop-test .taken in (
+      omega (arith, mul-part 10 (loop .left) (a .step) turn),
+      λ shape e. part-good shape 10 (loop .left) turn s (loop .at) (ap (λ w. loop .at + 10 * w) e)
+          (ap (goodRecords shape 10) (sym (part-tail s (loop .at))) ∙ was-true (c .before .good-part .ensures shape e) (c .if1 .left))
+          ∙ loop .inv .1 shape e,
     )
 
-returns : tie.Need-returns Inv-loop μ-loop
-returns c =
-    let loop = c .before .loop in
-    let a = c .before .before .before .args in
-    λ shape e. records-done shape (loop .left) (loop .sum) (a .n) (drop (loop .at) (now (a .body))) (now (a .body)) (c .loop-test .left) (loop .inv .3 shape e)
+good-part-requires-2 : tie.Need-good-part-requires-2 Inv-loop μ-loop
+good-part-requires-2 c κs =
+    let a = c .before .before .before .before .args in
+    (omega arith, rw (part-tail (now (a .body)) (c .before .before .loop .at), length-drop) (omega arith))
+
+returns-2 : tie.Need-returns-2 Inv-loop μ-loop
+returns-2 c =
+    let s = now (c .before .before .before .before .before .args .body) in
+    let loop = c .before .before .before .loop in
+    λ shape e. c .good-part2 .ensures shape e ∙ ap (goodRecords shape (loop .left)) (part-tail s (loop .at)) ∙ loop .inv .1 shape e
 
 pub good-ends-spec : {M : Type 1} → statement M
 good-ends-spec =
@@ -74,18 +75,18 @@ good-ends-spec =
     (tie.spec
     Inv-loop
     μ-loop
-    (λ c. search needs)
     loop-holds
-    add-join16
-    add-join16-2
-    shared-slice-read-join16
-    add-join16-3
-    shared-slice-read-join16-2
-    (λ c κs. search needs)
+    (λ c. omega arith)
+    (λ c. omega arith)
     (λ c. search needs)
-    add-sum
-    (λ c. search needs)
+    good-part-requires
+    returns
+    mul-at
     add-at
     (λ c. search needs)
     loop-again
-    returns)
+    (λ c. omega arith)
+    (λ c. omega arith)
+    (λ c. search needs)
+    good-part-requires-2
+    returns-2)
