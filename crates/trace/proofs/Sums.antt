@@ -1,8 +1,8 @@
 -- Laws of the ones' complement sum (RFC 1071): it is the plain sum, taken around 65,535. Assumes nothing.
-use mathlib.Core.Path.{_≡_, refl, sym, ap, _∙_}
+use mathlib.Core.Path.{_≡_, refl, sym, ap, ap₂, _∙_}
 use mathlib.Core.List.{List, [], _∷_, _++_}
 use Prim.Native.Nat.{ℕ, zero, suc, _+_, _-_, _*_, _/_, _%_, _≤_, _<_}
-use native.Mathlib.Nat.{add-zero, add-suc}
+use native.Mathlib.Nat.{add-zero, add-suc, mod-add-mod}
 use native.Mathlib.Numerals.{add-one}
 use native.Mathlib.Omega.{arith}
 use lib.ListN.{length, drop, getD, drop-of-length-le}
@@ -92,9 +92,61 @@ low-turn s i h =
     let next : suc (i + 1) ≡ i + 2 = omega arith in
     rw (drop-cons s i 0 (omega arith), ← add-one i, drop-cons s (i + 1) 0 h, next)
 
+-- of two words
+low-pair : (s : List ℕ) (i : ℕ) → i + 3 < length s
+    → lowTotal (drop i s) ≡ getD s (i + 1) 0 * 256 + getD s i 0 + (getD s (i + 3) 0 * 256 + getD s (i + 2) 0) + lowTotal (drop (i + 4) s)
+low-pair s i h =
+    let place : i + 2 + 1 ≡ i + 3 = omega arith in
+    let next : i + 2 + 2 ≡ i + 4 = omega arith in
+    let first : lowTotal (drop i s) ≡ getD s (i + 1) 0 * 256 + getD s i 0 + lowTotal (drop (i + 2) s) = low-turn s i (omega arith) in
+    let second : lowTotal (drop (i + 2) s) ≡ getD s (i + 3) 0 * 256 + getD s (i + 2) 0 + lowTotal (drop (i + 4) s) =
+    low-turn s (i + 2) (omega arith) ∙ ap₂ (λ (j k : ℕ). getD s j 0 * 256 + getD s (i + 2) 0 + lowTotal (drop k s)) place next in
+    omega (arith, first, second)
+
 pub low-done : (s : List ℕ) (i sum : ℕ) → length s ≤ i → sum + lowTotal (drop i s) ≡ sum
 unfolding lowTotal
 low-done s i sum h = rw (drop-of-length-le s h) (add-zero sum)
+
+-- ---- a loop over pairs of words: their sum without what leaves its 32 bits, the sum of the upper words, and so that of the lower ones
+
+pair-more : (lowers uppers pair lower upper : ℕ) → pair ≡ upper * 65536 + lower → lowers + 65536 * uppers + pair ≡ lowers + lower + 65536 * (uppers + upper)
+pair-more lowers uppers pair lower upper e = omega arith
+
+pub record Halves (s : List ℕ) (i pairs uppers lowers : ℕ) : Type 0 where
+  pub inside : i ≤ length s
+  pub whole : i % 4 ≡ 0
+  pub few-uppers : 4 * uppers ≤ 65535 * i
+  pub few-lowers : 4 * lowers ≤ 65535 * i
+  pub wrapped : pairs ≡ (lowers + 65536 * uppers) % 4294967296
+  pub left : lowers + uppers + lowTotal (drop i s) ≡ lowTotal s
+
+module _ (s : List ℕ) (i pairs uppers lowers : ℕ) (h : Halves s i pairs uppers lowers) where
+  pub halves-turn : (pair : ℕ) → Octets s → length s % 4 ≡ 0 → i < length s
+      → pair ≡ getD s (i + 3) 0 * 16777216 + getD s (i + 2) 0 * 65536 + getD s (i + 1) 0 * 256 + getD s i 0
+      → Halves s (i + 4) ((pairs + pair) % 4294967296) (uppers + pair / 65536) (lowers + (getD s (i + 1) 0 * 256 + getD s i 0))
+  halves-turn pair o even more e =
+      let a : getD s i 0 < 256 = o i in
+      let b : getD s (i + 1) 0 < 256 = o (i + 1) in
+      let c : getD s (i + 2) 0 < 256 = o (i + 2) in
+      let d : getD s (i + 3) 0 < 256 = o (i + 3) in
+      let upper : pair / 65536 ≡ getD s (i + 3) 0 * 256 + getD s (i + 2) 0 = omega arith in
+      let room : i + 3 < length s = omega arith in
+      let lower : ℕ = getD s (i + 1) 0 * 256 + getD s i 0 in
+      let parts : lowers + 65536 * uppers + pair ≡ lowers + lower + 65536 * (uppers + pair / 65536) = pair-more lowers uppers pair lower (pair / 65536) (omega arith) in
+      record {
+        inside = omega arith;
+        whole = omega arith;
+        few-uppers = omega arith;
+        few-lowers = omega arith;
+        wrapped = ap (λ (n : ℕ). (n + pair) % 4294967296) (h .wrapped) ∙ mod-add-mod (lowers + 65536 * uppers) 4294967296 pair ∙ ap (λ (n : ℕ). n % 4294967296) parts;
+        left = omega (arith, low-pair s i room);
+      }
+
+  pub halves-lowers : i ≤ 512 → (pairs + 1099511627776 - uppers * 65536) % 4294967296 ≡ lowers
+  halves-lowers few = omega arith
+
+  pub halves-done : length s ≤ i → lowers + uppers ≡ lowTotal s
+  halves-done end = sym (low-done s i (lowers + uppers) end) ∙ h .left
 
 -- ---- a text put together
 

@@ -2,7 +2,7 @@
 use crate::Block;
 use crate::Found;
 use crate::Record;
-use crate::checksum::ones_sum;
+use crate::checksum::block_sum;
 use crate::contents::all_allowed;
 use crate::contents::all_zero;
 use crate::contents::good_ends;
@@ -128,7 +128,7 @@ fn right_check(b: &[u8]) -> bool
     requires { ⌜ length (now b) ≡ blockBytes ⌝ }
     ensures { λ r. ⌜ r ≡ rightCheck (now (b .entry)) ⌝ }
 {
-    if ones_sum(b) != 65535 {
+    if block_sum(b) != 65535 {
         return false;
     }
     read16(b, CHECK) != 65535
