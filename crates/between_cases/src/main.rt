@@ -32,8 +32,8 @@ use rtcp::Reading;
 use rtcp::read_compound;
 use source::Arrival;
 use source::Source;
-use streams::Place;
-use streams::Table;
+use sources::Place;
+use sources::Table;
 
 // The sender of our compounds, and the source that they are about.
 const SENDER: u32 = 9;

@@ -15,7 +15,7 @@ use Rattle.source.specs.declared.Arrival.the-variants.{Accepted, Refused}
 use Rattle.source.specs.Record.{freshRecord}
 use Rattle.source.specs.Arrivals.{after}
 use Rattle.lent.specs.SourceWords.{sourceWords}
-use Rattle.capi.specs.Sources.{arrivalCode}
+use Rattle.capi.specs.OneSource.{arrivalCode}
 use Rattle.capi.specs.Chains.{afterArrivals, arrivalCodes, wireFits}
 use Rattle.capi.proofs.SourceChains.{arrives-from-zero}
 use Rattle.demands.specs.Calls.{TruePacket, wireOf, call, runFrom, AnsweredFrom}

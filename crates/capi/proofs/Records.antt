@@ -24,7 +24,7 @@ use Rattle.lent.specs.declared.source_words.Loaded.the-variants.{Held, Malforme
 use Rattle.lent.specs.SourceWords.{sourceOf, loaded, sourceWords}
 use Rattle.lent.proofs.SourceLaws.{held, other}
 use Rattle.capi.proofs.Fronts.{sets-whole}
-use Rattle.capi.specs.Sources.{recordFault, arriveAnswer, arriveWords, CountsArrival, blockAnswer, blockWords, CountsBlock}
+use Rattle.capi.specs.OneSource.{recordFault, arriveAnswer, arriveWords, CountsArrival, blockAnswer, blockWords, CountsBlock}
 
 -- ---- a writer of a record
 

@@ -15,7 +15,7 @@ use Rattle.breaker.specs.Calls.{preset, startOf, reportOf, timed, tickOf, heard
 use Rattle.breaker.specs.Runs.{called, after}
 use Rattle.lent.specs.SourceWords.{sourceWith, sourceWords}
 use Rattle.lent.specs.BreakerWords.{intervalWords, breakerWords, intervalsOf, settingsOf, windowOf, breakerOf, wordsFit}
-use Rattle.capi.specs.Sources.{arriveAnswer, arriveWords}
+use Rattle.capi.specs.OneSource.{arriveAnswer, arriveWords}
 use Rattle.capi.specs.BreakerCalls.{callAnswer, callLeft}
 use Rattle.capi.specs.Chains.{arriveChain, arriveCodes, afterArrivals, someArrivals, SomeArrivals, breakerChain, breakerCodes, reportAt, someCalls, started, reported, stopped, SomeCalls}
 use Rattle.capi.proofs.SourceChains.{arrives-in-turn, arrives-from-zero}

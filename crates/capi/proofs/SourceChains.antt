@@ -17,7 +17,7 @@ use Rattle.source.proofs.Afresh.{typed-stays, refusal-keeps}
 use Rattle.lent.specs.SourceWords.{sourceOf, isSource, sourceWords}
 use Rattle.lent.proofs.SourceLaws.{held, sound-back}
 use Rattle.answers.specs.Refusals.{numberOf}
-use Rattle.capi.specs.Sources.{arrivalCode, arrivalWords, arriveAnswer, arriveWords}
+use Rattle.capi.specs.OneSource.{arrivalCode, arrivalWords, arriveAnswer, arriveWords}
 use Rattle.capi.specs.Chains.{arriveChain, arriveCodes, arrives, afterArrivals, arrivalCodes, wireFits, ArrivesInTurn, ArrivesFromZero}
 
 -- ---- one call

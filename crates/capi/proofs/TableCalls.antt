@@ -25,20 +25,20 @@ use Rattle.source.specs.declared.BlockCount.the-variants as block
 use Rattle.source.specs.Arrivals.{arrival}
 use Rattle.source.specs.Blocks.{blockCount}
 use Rattle.source.proofs.Totalled.{few-jumps, few-restarts}
-use Rattle.streams.specs.declared.Place.{Place}
-use Rattle.streams.specs.declared.Table.{Table}
-use Rattle.streams.specs.declared.Counted.{Counted}
-use Rattle.streams.specs.declared.TableArrived.{TableArrived}
-use Rattle.streams.specs.declared.TableCounted.{TableCounted}
-use Rattle.streams.specs.Places.{emptyPlace, heldOf}
-use Rattle.streams.specs.Rules.{mostPlaces, rules, allSound, fault}
-use Rattle.streams.specs.Stands.{standsAt, recordOf, newTo}
-use Rattle.streams.specs.Answers.{orElse, refusal, seatless, outside, toldUnless, blockUnless, toldBlock, arriveAnswer, arrivePlaces, countAnswer, countPlaces}
-use Rattle.streams.specs.Compounds.{compoundBytes}
-use Rattle.streams.specs.Tables as table
-use Rattle.streams.proofs.Fronts.{front-le}
-use Rattle.streams.proofs.Compounding.{compound-long}
-use Rattle.streams.proofs.Loaded.{few-lent, few-fault, arrive-long, count-long, arrived-lent, arrived-back, counted-lent, counted-back, compound-back}
+use Rattle.sources.specs.declared.Place.{Place}
+use Rattle.sources.specs.declared.Table.{Table}
+use Rattle.sources.specs.declared.Counted.{Counted}
+use Rattle.sources.specs.declared.TableArrived.{TableArrived}
+use Rattle.sources.specs.declared.TableCounted.{TableCounted}
+use Rattle.sources.specs.Places.{emptyPlace, heldOf}
+use Rattle.sources.specs.Rules.{mostPlaces, rules, allSound, fault}
+use Rattle.sources.specs.Stands.{standsAt, recordOf, newTo}
+use Rattle.sources.specs.Answers.{orElse, refusal, seatless, outside, toldUnless, blockUnless, toldBlock, arriveAnswer, arrivePlaces, countAnswer, countPlaces}
+use Rattle.sources.specs.Compounds.{compoundBytes}
+use Rattle.sources.specs.Tables as table
+use Rattle.sources.proofs.Fronts.{front-le}
+use Rattle.sources.proofs.Compounding.{compound-long}
+use Rattle.sources.proofs.Loaded.{few-lent, few-fault, arrive-long, count-long, arrived-lent, arrived-back, counted-lent, counted-back, compound-back}
 use Rattle.lent.specs.declared.table_words.Answer.the-variants.{Taken, Refused}
 use Rattle.lent.specs.TableWords.{placeWords, tableWords, placesIn, arePlaces, areWires, wordsFault, loaded}
 use Rattle.lent.proofs.PlaceRuns.{length-table}

@@ -26,7 +26,7 @@ use Rattle.table.specs.Lines.{headBytes, rowFault, rowBytes, refusedLine}
 use Rattle.lent.specs.FormWords.{isForm, formOf}
 use Rattle.lent.specs.SourceWords.{sourceOf}
 use Rattle.capi.specs.Codes.{lengthCode, refusalCode, Gives}
-use Rattle.capi.specs.Sources.{recordFault}
+use Rattle.capi.specs.OneSource.{recordFault}
 
 -- ---- flasknib_read_block
 

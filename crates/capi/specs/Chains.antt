@@ -18,7 +18,7 @@ use Rattle.breaker.specs.Runs.{Call, report, tick, heard, called, answersOf, af
 use Rattle.breaker.specs.Theorems.{Typed, numberFits}
 use Rattle.lent.specs.SourceWords.{sourceWords}
 use Rattle.lent.specs.BreakerWords.{breakerWords, breakerOf}
-use Rattle.capi.specs.Sources.{arrivalCode, arriveAnswer, arriveWords}
+use Rattle.capi.specs.OneSource.{arrivalCode, arriveAnswer, arriveWords}
 use Rattle.capi.specs.BreakerCalls.{answerCode, isRecord, callAnswer, callLeft}
 
 -- ---- arrivals: the wire number and the mark of each call

@@ -1,6 +1,6 @@
 pub mod Codes
 pub mod About
-pub mod Sources
+pub mod OneSource
 pub mod CompoundCalls
 pub mod BreakerCalls
 pub mod PacketWords

@@ -4,14 +4,14 @@ use mathlib.Core.List.{List}
 use lib.IntN.{ℤ}
 use lib.ListN.{getD}
 use lib.Seq.{sets}
-use Rattle.streams.specs.declared.Table.{Table}
-use Rattle.streams.specs.declared.TableArrived.{TableArrived}
-use Rattle.streams.specs.declared.Counted.{Counted}
-use Rattle.streams.specs.declared.Counted.the-variants.{Block, Refused}
-use Rattle.streams.specs.declared.TableCounted.{TableCounted}
-use Rattle.streams.specs.Places.{emptyPlace}
-use Rattle.streams.specs.Answers.{orElse}
-use Rattle.streams.specs.Tables.{lent, faultIn}
+use Rattle.sources.specs.declared.Table.{Table}
+use Rattle.sources.specs.declared.TableArrived.{TableArrived}
+use Rattle.sources.specs.declared.Counted.{Counted}
+use Rattle.sources.specs.declared.Counted.the-variants.{Block, Refused}
+use Rattle.sources.specs.declared.TableCounted.{TableCounted}
+use Rattle.sources.specs.Places.{emptyPlace}
+use Rattle.sources.specs.Answers.{orElse}
+use Rattle.sources.specs.Tables.{lent, faultIn}
 use Rattle.lent.specs.TableWords.{placeWords, tableWords}
 use Rattle.capi.specs.Codes.{refusalCode, Gives, Leaves}
 use Rattle.capi.specs.Tables.{arrivedCode, arrivedWords, countedCode, countedWords, unheld}

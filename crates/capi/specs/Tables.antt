@@ -9,14 +9,14 @@ use lib.ListN.{length, getD}
 use Rattle.answers.specs.declared.Refusal.{Refusal}
 use Rattle.answers.specs.declared.Refusal.the-variants.{Limits}
 use Rattle.answers.specs.Refusals.{numberOf}
-use Rattle.streams.specs.declared.Place.{Place}
-use Rattle.streams.specs.declared.Arrived.{Arrived}
-use Rattle.streams.specs.declared.Arrived.the-variants.{Accepted, Restarted, Refused}
-use Rattle.streams.specs.declared.Counted.{Counted}
-use Rattle.streams.specs.declared.Counted.the-variants.{Block, Refused as NotCounted}
-use Rattle.streams.specs.Places.{emptyPlace, heldOf}
-use Rattle.streams.specs.Answers.{orElse, arriveAnswer, arrivePlaces, countAnswer, countPlaces}
-use Rattle.streams.specs.Compounds.{compoundBytes}
+use Rattle.sources.specs.declared.Place.{Place}
+use Rattle.sources.specs.declared.Arrived.{Arrived}
+use Rattle.sources.specs.declared.Arrived.the-variants.{Accepted, Restarted, Refused}
+use Rattle.sources.specs.declared.Counted.{Counted}
+use Rattle.sources.specs.declared.Counted.the-variants.{Block, Refused as NotCounted}
+use Rattle.sources.specs.Places.{emptyPlace, heldOf}
+use Rattle.sources.specs.Answers.{orElse, arriveAnswer, arrivePlaces, countAnswer, countPlaces}
+use Rattle.sources.specs.Compounds.{compoundBytes}
 use Rattle.lent.specs.TableWords.{placeWords, tableWords, placesIn, wordsFault}
 use Rattle.capi.specs.Codes.{lengthCode, refusalCode, Gives, Leaves}
 

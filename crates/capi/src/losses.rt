@@ -4,7 +4,7 @@ use lent::lost_words;
 use lent::source_words::Loaded;
 use lent::source_words::load;
 use source::Lost;
-ghost use Rattle.capi.specs.Sources.{TellsLost};
+ghost use Rattle.capi.specs.OneSource.{TellsLost};
 
 // The packets lost. Gives 0 and 1 word at the front of `found`, or refusal 9, or 12 where `found` has no word.
 #[no_mangle]

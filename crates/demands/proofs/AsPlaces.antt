@@ -26,12 +26,12 @@ use Rattle.trace.specs.Layout.{bodyOf}
 use Rattle.trace.specs.Reading.{blockOf}
 use Rattle.trace.specs.Theorems.{recordsIn}
 use Rattle.trace.specs.declared.Block.the-variants as read
-use Rattle.streams.specs.declared.Place.{Place}
-use Rattle.streams.specs.Rules.{rising}
-use Rattle.streams.specs.Stands.{found, put}
-use Rattle.streams.specs.Answers.{outside, behind}
-use Rattle.streams.proofs.Found.{rising-rest, below-none}
-use Rattle.streams.proofs.Grown.{block-grown}
+use Rattle.sources.specs.declared.Place.{Place}
+use Rattle.sources.specs.Rules.{rising}
+use Rattle.sources.specs.Stands.{found, put}
+use Rattle.sources.specs.Answers.{outside, behind}
+use Rattle.sources.proofs.Found.{rising-rest, below-none}
+use Rattle.sources.proofs.Grown.{block-grown}
 use Rattle.mixed.specs.declared.Line.{Line}
 use Rattle.mixed.specs.Places.{foundBy, renewedBy, addedBy}
 use Rattle.mixed.specs.Blocks.{counted}

@@ -28,10 +28,10 @@ use Rattle.rtcp.specs.ReportBlocks.{reportIn}
 use Rattle.rtcp.specs.EcnReports.{counts, feedback, feedbackIn, blockAt, summaryIn}
 use Rattle.rtcp.specs.Compound.{begins, blocks, sizeChecks, checksOf, firstReport, firstFeedback, firstSummary, any, unlessFaulty, reading}
 use Rattle.rtcp.proofs.Begins.{begins-next, begins-done}
-use Rattle.streams.specs.declared.Place.{Place}
-use Rattle.streams.specs.Stands.{found}
-use Rattle.streams.specs.Compounds.{receiverReport, feedbacks}
-use Rattle.streams.proofs.Compounding.{feedback-long, report-long, feedbacks-long}
+use Rattle.sources.specs.declared.Place.{Place}
+use Rattle.sources.specs.Stands.{found}
+use Rattle.sources.specs.Compounds.{receiverReport, feedbacks}
+use Rattle.sources.proofs.Compounding.{feedback-long, report-long, feedbacks-long}
 use Rattle.demands.specs.BetweenReports.{feedbackFrom}
 use Rattle.demands.specs.EachSource.{ssrcsFit, onlyFeedback}
 use Rattle.demands.proofs.Fields.{field, Fits, counts-fit, counts-back}

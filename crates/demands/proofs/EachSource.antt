@@ -17,10 +17,10 @@ use Rattle.source.specs.Record as Record
 use Rattle.source.specs.Record.{freshRecord, sound}
 use Rattle.source.proofs.Facts.{fresh-sound}
 use Rattle.rtcp.specs.declared.MaybeFeedback.{MaybeFeedback}
-use Rattle.streams.specs.declared.Place.{Place}
-use Rattle.streams.specs.Places.{heldOf}
-use Rattle.streams.specs.Rules.{fault}
-use Rattle.streams.specs.Stands.{found, isNew, recordIn, recordOf}
+use Rattle.sources.specs.declared.Place.{Place}
+use Rattle.sources.specs.Places.{heldOf}
+use Rattle.sources.specs.Rules.{fault}
+use Rattle.sources.specs.Stands.{found, isNew, recordIn, recordOf}
 use Rattle.demands.specs.Calls.{TruePacket, runFrom, AnsweredFrom, run, arrivals}
 use Rattle.demands.specs.Count.{baseOf, highestOf, count, countsIn}
 use Rattle.demands.specs.PrintedTable.{ofArrival}

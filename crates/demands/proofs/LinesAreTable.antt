@@ -26,14 +26,14 @@ use Rattle.walk.specs.Programs.{Run, turned, onward, walk, walked}
 use Rattle.walk.specs.Steps.{Next, goes, refuses}
 use Rattle.walk.proofs.Cuts.{Each}
 use Rattle.walk.proofs.Pieces.{octets-blocks}
-use Rattle.streams.specs.declared.Place.{Place}
-use Rattle.streams.specs.Places.{emptyPlace, heldOf, restOf}
-use Rattle.streams.specs.Rules.{rising, fault}
-use Rattle.streams.specs.Stands.{found, recordIn, put, recordOf, newTo, withPlace}
-use Rattle.streams.specs.Answers.{full, refusal, countPlaces}
-use Rattle.streams.proofs.Checking.{Kept, kept, kept-rises, fault-none}
-use Rattle.streams.proofs.Loaded.{with-long}
-use Rattle.streams.proofs.Behind.{record-sound, held-behind, block-keeps-rules}
+use Rattle.sources.specs.declared.Place.{Place}
+use Rattle.sources.specs.Places.{emptyPlace, heldOf, restOf}
+use Rattle.sources.specs.Rules.{rising, fault}
+use Rattle.sources.specs.Stands.{found, recordIn, put, recordOf, newTo, withPlace}
+use Rattle.sources.specs.Answers.{full, refusal, countPlaces}
+use Rattle.sources.proofs.Checking.{Kept, kept, kept-rises, fault-none}
+use Rattle.sources.proofs.Loaded.{with-long}
+use Rattle.sources.proofs.Behind.{record-sound, held-behind, block-keeps-rules}
 use Rattle.mixed.specs.declared.Line.{Line}
 use Rattle.mixed.specs.Places.{foundBy, renewedBy, addedBy}
 use Rattle.mixed.specs.Lines.{byValue}

@@ -20,17 +20,17 @@ use Rattle.source.specs.Arrivals.{arrival, after}
 use Rattle.source.specs.Blocks.{Packet, packets, marksFit, countAll, blockCount}
 use Rattle.source.proofs.Packets.{limits as within}
 use Rattle.source.proofs.Totalled.{packets-wires, length-packets, all-counted}
-use Rattle.streams.specs.declared.Place.{Place}
-use Rattle.streams.specs.declared.Counted.{Counted}
-use Rattle.streams.specs.Places.{heldOf}
-use Rattle.streams.specs.Rules.{fault}
-use Rattle.streams.specs.Stands.{standsAt, found, put, recordIn, recordOf, newTo}
-use Rattle.streams.specs.Answers.{full, refusal, told, toldUnless, outside, behind, toldBlock, blockUnless, arriveAnswer, arrivePlaces, countAnswer, countPlaces}
-use Rattle.streams.specs.Theorems.{Arrival, answer, behindOne, seated}
-use Rattle.streams.proofs.Behind.{Free, free, record-sound, held-behind, arrive-held, counted-is, in-limits, arrival-keeps-rules, block-keeps-rules}
-use Rattle.streams.proofs.Grown.{block-grown}
-use Rattle.streams.proofs.Sorted.{found-put, all-put}
-use Rattle.streams.proofs.Orders.{step-record}
+use Rattle.sources.specs.declared.Place.{Place}
+use Rattle.sources.specs.declared.Counted.{Counted}
+use Rattle.sources.specs.Places.{heldOf}
+use Rattle.sources.specs.Rules.{fault}
+use Rattle.sources.specs.Stands.{standsAt, found, put, recordIn, recordOf, newTo}
+use Rattle.sources.specs.Answers.{full, refusal, told, toldUnless, outside, behind, toldBlock, blockUnless, arriveAnswer, arrivePlaces, countAnswer, countPlaces}
+use Rattle.sources.specs.Theorems.{Arrival, answer, behindOne, seated}
+use Rattle.sources.proofs.Behind.{Free, free, record-sound, held-behind, arrive-held, counted-is, in-limits, arrival-keeps-rules, block-keeps-rules}
+use Rattle.sources.proofs.Grown.{block-grown}
+use Rattle.sources.proofs.Sorted.{found-put, all-put}
+use Rattle.sources.proofs.Orders.{step-record}
 use Rattle.demands.specs.Calls.{TruePacket, runFrom, AnsweredFrom}
 use Rattle.demands.specs.PrintedTable.{ofArrival}
 use Rattle.demands.specs.EachSource.{ssrcsFit, Call, arrives, counts, named, Fits, behindCall, seatedBlock, seatedCall, brought, Answered}

@@ -25,14 +25,14 @@ use Rattle.rtcp.specs.Entries.{entryFor}
 use Rattle.rtcp.specs.ReportBlocks.{reportIn}
 use Rattle.rtcp.specs.EcnReports.{feedbackIn, blockAt, isSummary, summaryIn}
 use Rattle.rtcp.specs.Compound.{beginsIn, firstSummary, blocks, reading}
-use Rattle.streams.specs.declared.Place.{Place}
-use Rattle.streams.specs.Places.{emptyPlace, heldOf}
-use Rattle.streams.specs.Rules.{mostPlaces, rising, rules, fault}
-use Rattle.streams.specs.Stands.{found, isNew}
-use Rattle.streams.specs.Compounds.{receiverReport, feedbacks, compoundBytes}
-use Rattle.streams.proofs.Checking.{kept, kept-rises}
-use Rattle.streams.proofs.Found.{rising-rest, below-none}
-use Rattle.streams.proofs.Fronts.{front-le}
+use Rattle.sources.specs.declared.Place.{Place}
+use Rattle.sources.specs.Places.{emptyPlace, heldOf}
+use Rattle.sources.specs.Rules.{mostPlaces, rising, rules, fault}
+use Rattle.sources.specs.Stands.{found, isNew}
+use Rattle.sources.specs.Compounds.{receiverReport, feedbacks, compoundBytes}
+use Rattle.sources.proofs.Checking.{kept, kept-rises}
+use Rattle.sources.proofs.Found.{rising-rest, below-none}
+use Rattle.sources.proofs.Fronts.{front-le}
 use Rattle.demands.specs.RoundTrip.{xrPacket, FeedbackReadsBack, SummaryReadsBack, NothingMadeUp}
 use Rattle.demands.specs.EachSource.{ssrcsFit, onlyFeedback, CompoundReadsBack}
 use Rattle.demands.proofs.Fields.{field, Fits, counts-fit, counts-back}

@@ -14,7 +14,7 @@ use Rattle.source.proofs.Kept.{sound-stays}
 use Rattle.report.specs.Reports.{feedbackBytes}
 use Rattle.rtcp.specs.declared.Profile.{Profile}
 use Rattle.rtcp.proofs.Profiles.{profiles-agree}
-use Rattle.streams.specs.Compounds.{receiverReport}
+use Rattle.sources.specs.Compounds.{receiverReport}
 use Rattle.trace.proofs.ReadBack.{label-reads-back, arrivals-read-back}
 use Rattle.trace.proofs.Accepted.{label-is-written, arrivals-are-written}
 use Rattle.trace.proofs.Theorems.{one-check, spaced-reads}

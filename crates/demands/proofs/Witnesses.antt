@@ -27,7 +27,7 @@ use Rattle.rtcp.specs.declared.Reading.{Reading}
 use Rattle.rtcp.specs.Header.{headerAt, padding}
 use Rattle.rtcp.specs.Packets.{paddingRight, mayStand}
 use Rattle.rtcp.specs.Compound.{beginsIn, blocks, reading}
-use Rattle.streams.specs.Compounds.{receiverReport}
+use Rattle.sources.specs.Compounds.{receiverReport}
 use Rattle.trace.specs.Checksum.{words, onesAdd, onesSum}
 use Rattle.trace.specs.Contents.{every, labelByte, labelOk, labelBody, countOk, goodRecords, arrivalsBody}
 use Rattle.trace.specs.Layout.{recordBytes, recordsBytes, recordAt, header, filled, checked, labelBlock, arrivalsBlock}

@@ -12,11 +12,11 @@ use Rattle.source.specs.Record.{sound, fresh, hasCounted}
 use Rattle.rtcp.specs.declared.Profile.{Profile}
 use Rattle.trace.specs.Contents.{every}
 use Rattle.trace.proofs.Limits.{below}
-use Rattle.streams.specs.Places.{heldOf, restOf}
-use Rattle.streams.specs.Rules.{rising, fault}
-use Rattle.streams.specs.Stands.{standsAt, found, put, withPlace}
-use Rattle.streams.specs.Answers.{refusal, arriveAnswer, arrivePlaces, countAnswer, countPlaces}
-use Rattle.streams.specs.Witnesses.{someTable, someBytes}
+use Rattle.sources.specs.Places.{heldOf, restOf}
+use Rattle.sources.specs.Rules.{rising, fault}
+use Rattle.sources.specs.Stands.{standsAt, found, put, withPlace}
+use Rattle.sources.specs.Answers.{refusal, arriveAnswer, arrivePlaces, countAnswer, countPlaces}
+use Rattle.sources.specs.Witnesses.{someTable, someBytes}
 use Rattle.demands.specs.EachSource.{Brings}
 use Rattle.demands.specs.Witnesses.{wrapped, reordered}
 use Rattle.demands.specs.WitnessesSources.{oneRecord, mixedCalls, onePlace, oneBlock, MetSources}

@@ -18,17 +18,17 @@ use Rattle.rtcp.specs.declared.MaybeSummary.{MaybeSummary}
 use Rattle.rtcp.specs.declared.Profile.{Profile}
 use Rattle.rtcp.specs.declared.Reading.{Reading}
 use Rattle.rtcp.specs.Compound.{reading}
-use Rattle.streams.specs.declared.Place.{Place}
-use Rattle.streams.specs.declared.Arrived.the-variants.{Accepted, Refused}
-use Rattle.streams.specs.declared.Counted.{Counted}
-use Rattle.streams.specs.declared.Counted.the-variants as counted
-use Rattle.streams.specs.Places.{emptyPlace, heldOf}
-use Rattle.streams.specs.Rules.{fault}
-use Rattle.streams.specs.Stands.{found, recordOf, newTo}
-use Rattle.streams.specs.Seats.{standOf}
-use Rattle.streams.specs.Answers.{outside, countAnswer, countPlaces}
-use Rattle.streams.specs.Compounds.{compoundBytes}
-use Rattle.streams.specs.Theorems.{Arrival, answer, behindOne, seated}
+use Rattle.sources.specs.declared.Place.{Place}
+use Rattle.sources.specs.declared.Arrived.the-variants.{Accepted, Refused}
+use Rattle.sources.specs.declared.Counted.{Counted}
+use Rattle.sources.specs.declared.Counted.the-variants as counted
+use Rattle.sources.specs.Places.{emptyPlace, heldOf}
+use Rattle.sources.specs.Rules.{fault}
+use Rattle.sources.specs.Stands.{found, recordOf, newTo}
+use Rattle.sources.specs.Seats.{standOf}
+use Rattle.sources.specs.Answers.{outside, countAnswer, countPlaces}
+use Rattle.sources.specs.Compounds.{compoundBytes}
+use Rattle.sources.specs.Theorems.{Arrival, answer, behindOne, seated}
 use Rattle.demands.specs.Calls.{TruePacket, arrivals, Described}
 use Rattle.demands.specs.Count.{baseOf, highestOf, count, countsIn, SameArrivals}
 use Rattle.demands.specs.PrintedTable.{ofArrival}

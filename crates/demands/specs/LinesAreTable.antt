@@ -12,9 +12,9 @@ use Rattle.trace.specs.declared.Block.{Block}
 use Rattle.trace.specs.declared.Block.the-variants.{Label, Arrivals, Refused}
 use Rattle.walk.specs.Blocks.{blocksOf}
 use Rattle.walk.specs.Programs.{walked}
-use Rattle.streams.specs.declared.Place.{Place}
-use Rattle.streams.specs.Places.{emptyPlace, heldOf}
-use Rattle.streams.specs.Answers.{countPlaces}
+use Rattle.sources.specs.declared.Place.{Place}
+use Rattle.sources.specs.Places.{emptyPlace, heldOf}
+use Rattle.sources.specs.Answers.{countPlaces}
 use Rattle.mixed.specs.declared.Line.{Line}
 use Rattle.mixed.specs.Tables.{ecnstreams}
 

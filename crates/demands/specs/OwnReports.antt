@@ -8,7 +8,7 @@ use lib.IntN.{pos, _-ℤ_}
 use Rattle.source.specs.declared.Source.{Source}
 use Rattle.report.specs.Carried.{highestOf, countsOf}
 use Rattle.report.specs.Reports.{feedbackBytes}
-use Rattle.streams.specs.Compounds.{receiverReport}
+use Rattle.sources.specs.Compounds.{receiverReport}
 use Rattle.rtcp.specs.declared.Profile.{Profile}
 use Rattle.rtcp.specs.declared.Reading.{Reading}
 use Rattle.rtcp.specs.Compound.{reading}

@@ -15,7 +15,7 @@ use Rattle.rtcp.specs.declared.MaybeSummary.{MaybeSummary}
 use Rattle.rtcp.specs.declared.Profile.{Profile}
 use Rattle.rtcp.specs.declared.Reading.{Reading}
 use Rattle.rtcp.specs.Compound.{reading}
-use Rattle.streams.specs.Compounds.{receiverReport}
+use Rattle.sources.specs.Compounds.{receiverReport}
 
 -- an XR packet of one block (RFC 3611, section 2): version 2, no padding; type 207; length; SSRC; the block
 unfoldable pub xrPacket : ℕ → List ℕ → List ℕ

@@ -22,7 +22,7 @@ use Rattle.rtcp.specs.declared.MaybeSummary.{MaybeSummary}
 use Rattle.rtcp.specs.declared.Profile.{Profile}
 use Rattle.rtcp.specs.declared.Reading.{Reading}
 use Rattle.rtcp.specs.Compound.{reading}
-use Rattle.streams.specs.Compounds.{receiverReport}
+use Rattle.sources.specs.Compounds.{receiverReport}
 use Rattle.trace.specs.Contents.{labelOk}
 use Rattle.trace.specs.Layout.{labelBlock, arrivalsBlock, bodyOf}
 use Rattle.trace.specs.Reading.{rightCheck, blockOf}

@@ -5,11 +5,11 @@ use mathlib.Core.List.{List, [], _∷_, _++_}
 use mathlib.Core.Option.{none}
 use Prim.Native.Nat.{ℕ, _^_, _≤_, _<_}
 use lib.ListN.{length}
-use Rattle.streams.specs.declared.Place.{Place}
-use Rattle.streams.specs.Places.{emptyPlace, heldOf}
-use Rattle.streams.specs.Rules.{fault}
-use Rattle.streams.specs.Stands.{newTo}
-use Rattle.streams.specs.Witnesses.{someTable, calling, someBytes}
+use Rattle.sources.specs.declared.Place.{Place}
+use Rattle.sources.specs.Places.{emptyPlace, heldOf}
+use Rattle.sources.specs.Rules.{fault}
+use Rattle.sources.specs.Stands.{newTo}
+use Rattle.sources.specs.Witnesses.{someTable, calling, someBytes}
 use Rattle.demands.specs.Calls.{arrivals}
 use Rattle.demands.specs.EachSource.{ssrcsFit, Call, arrives, counts, Brings}
 use Rattle.demands.specs.Witnesses.{wrapped, reordered}

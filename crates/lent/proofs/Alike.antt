@@ -5,9 +5,9 @@ use mathlib.Core.List.{List, [], _∷_, map}
 use Prim.Native.Nat.{ℕ, suc, _+_}
 use lib.ListN.{length}
 use Rattle.answers.specs.Conditions.{all}
-use Rattle.streams.specs.declared.Place.{Place}
-use Rattle.streams.specs.Places.{held, empty, heldOf, restOf}
-use Rattle.streams.specs.Rules.{rising, rules}
+use Rattle.sources.specs.declared.Place.{Place}
+use Rattle.sources.specs.Places.{held, empty, heldOf, restOf}
+use Rattle.sources.specs.Rules.{rising, rules}
 
 pub record Alike (p q : Place) : Type 0 where
   pub ssrcs : p .ssrc ≡ q .ssrc

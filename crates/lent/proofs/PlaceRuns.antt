@@ -9,12 +9,12 @@ use borrow.Author.Tests.{lt-ltb, le-ltb}
 use lib.ListN.{length, getD, set, take, drop, replicate, length-append, drop-of-length-le}
 use lib.Seq.{sets, take-length, drop-cons, drop-drop, getD-drop}
 use Rattle.answers.proofs.Stores.{sets-step}
-use Rattle.streams.specs.declared.Place.{Place}
-use Rattle.streams.specs.declared.Table.{Table}
-use Rattle.streams.specs.Places.{emptyPlace}
-use Rattle.streams.specs.Lending.{inUse}
-use Rattle.streams.specs.Tables as table
-use Rattle.streams.proofs.Lent.{loaded-is}
+use Rattle.sources.specs.declared.Place.{Place}
+use Rattle.sources.specs.declared.Table.{Table}
+use Rattle.sources.specs.Places.{emptyPlace}
+use Rattle.sources.specs.Lending.{inUse}
+use Rattle.sources.specs.Tables as table
+use Rattle.sources.proofs.Lent.{loaded-is}
 use Rattle.lent.specs.SourceWords.{sourceWords}
 use Rattle.lent.specs.TableWords.{placeWords, tableWords, placesBy, eachBelow}
 

@@ -11,12 +11,12 @@ use lib.Seq.{getD-drop}
 use Rattle.answers.specs.Conditions.{all}
 use Rattle.answers.proofs.Conditions.{and-left, and-right, all-true}
 use Rattle.source.specs.Record.{fresh, sound, wireNumber}
-use Rattle.streams.specs.declared.Place.{Place}
-use Rattle.streams.specs.Places.{held, empty, soundPlace, heldOf, restOf}
-use Rattle.streams.specs.Rules.{mostPlaces, rules, allSound}
-use Rattle.streams.specs.Tables as table
-use Rattle.streams.proofs.Checking.{kept, kept-empties}
-use Rattle.streams.proofs.Loaded.{few-lent}
+use Rattle.sources.specs.declared.Place.{Place}
+use Rattle.sources.specs.Places.{held, empty, soundPlace, heldOf, restOf}
+use Rattle.sources.specs.Rules.{mostPlaces, rules, allSound}
+use Rattle.sources.specs.Tables as table
+use Rattle.sources.proofs.Checking.{kept, kept-empties}
+use Rattle.sources.proofs.Loaded.{few-lent}
 use Rattle.lent.specs.SourceWords.{rememberedWord, sourceWith, sourceWords}
 use Rattle.lent.specs.TableWords.{placeWords, tableWords, placeOf, placesBy, wholePlaces, placesIn, eachBelow, arePlaces, areWires, wordsFault, unfit, loaded, typedPlace, TableBack, TableWordsBack}
 use Rattle.lent.specs.declared.table_words.Answer.the-variants.{Taken}

@@ -15,14 +15,14 @@ use Rattle.answers.specs.declared.Refusal.{Refusal}
 use Rattle.answers.specs.declared.Refusal.the-variants.{Malformed, Rules}
 use Rattle.answers.proofs.Conditions.{and-left, and-right, all-true}
 use Rattle.source.specs.Record.{nothing, fresh}
-use Rattle.streams.specs.declared.Place.{Place}
-use Rattle.streams.specs.declared.Table.{Table}
-use Rattle.streams.specs.declared.Checked.the-variants.{Held, Refused as NotHeld}
-use Rattle.streams.specs.Rules.{mostPlaces, rules, allSound, fault}
-use Rattle.streams.specs.Checks.{checkedIn}
-use Rattle.streams.specs.Tables as table
-use Rattle.streams.proofs.Checking.{kept, told-held, told-refused}
-use Rattle.streams.proofs.Loaded.{few-fault}
+use Rattle.sources.specs.declared.Place.{Place}
+use Rattle.sources.specs.declared.Table.{Table}
+use Rattle.sources.specs.declared.Checked.the-variants.{Held, Refused as NotHeld}
+use Rattle.sources.specs.Rules.{mostPlaces, rules, allSound, fault}
+use Rattle.sources.specs.Checks.{checkedIn}
+use Rattle.sources.specs.Tables as table
+use Rattle.sources.proofs.Checking.{kept, told-held, told-refused}
+use Rattle.sources.proofs.Loaded.{few-fault}
 use Rattle.lent.specs.SourceWords.{rememberedIn, sourceWith}
 use Rattle.lent.specs.TableWords.{placeOf, placesBy, wholePlaces, placesIn, eachBelow, arePlaces, areWires, wordsFault, unfit, loadedBy, loaded}
 use Rattle.lent.specs.TableReads.{placeNear, placesNear}

@@ -13,8 +13,8 @@ use Rattle.answers.specs.Conditions.{all}
 use Rattle.answers.proofs.Conditions.{and-left, and-right}
 use Rattle.source.specs.Places.{marks, place, places}
 use Rattle.source.specs.Record.{sound, fresh, hasCounted}
-use Rattle.streams.specs.Places.{heldOf, restOf}
-use Rattle.streams.specs.Rules.{rising, fault}
+use Rattle.sources.specs.Places.{heldOf, restOf}
+use Rattle.sources.specs.Rules.{rising, fault}
 use Rattle.numbers.specs.Since.{signed}
 use Rattle.lent.specs.SourceWords.{sourceWith, sourceOf, loaded}
 use Rattle.lent.specs.TableWords as table

@@ -2,7 +2,7 @@
 use mathlib.Core.List.{List}
 use Prim.Native.Nat.{ℕ, _%_, _^_}
 use lib.ListN.{getD, drop}
-use Rattle.streams.specs.declared.Place.{Place}
+use Rattle.sources.specs.declared.Place.{Place}
 use Rattle.lent.specs.SourceWords.{sourceNear}
 use Rattle.lent.specs.TableWords.{placesBy}
 

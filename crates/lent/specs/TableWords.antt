@@ -11,10 +11,10 @@ use Rattle.answers.specs.Conditions.{all}
 use Rattle.answers.specs.declared.Refusal.{Refusal}
 use Rattle.answers.specs.declared.Refusal.the-variants.{Malformed, Rules}
 use Rattle.source.specs.Record.{wireNumber}
-use Rattle.streams.specs.declared.Place.{Place}
-use Rattle.streams.specs.declared.Table.{Table}
-use Rattle.streams.specs.Rules.{mostPlaces, rules, allSound, fault}
-use Rattle.streams.specs.Tables as table
+use Rattle.sources.specs.declared.Place.{Place}
+use Rattle.sources.specs.declared.Table.{Table}
+use Rattle.sources.specs.Rules.{mostPlaces, rules, allSound, fault}
+use Rattle.sources.specs.Tables as table
 use Rattle.lent.specs.SourceWords.{sourceWords, sourceOf}
 use Rattle.lent.specs.declared.table_words.Loaded.{Loaded}
 use Rattle.lent.specs.declared.table_words.Answer.the-variants.{Taken, Refused}

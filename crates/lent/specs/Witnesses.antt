@@ -11,7 +11,7 @@ use Rattle.breaker.specs.Theorems.{Typed}
 use Rattle.source.specs.Record.{wireNumber}
 use Rattle.lent.specs.declared.source_words.Loaded.the-variants.{Held}
 use Rattle.lent.specs.SourceWords.{sourceOf, loaded, FitsWord}
-use Rattle.streams.specs.Rules.{fault}
+use Rattle.sources.specs.Rules.{fault}
 use Rattle.lent.specs.TableWords as table
 use Rattle.lent.specs.TableWords.{placesIn, typedPlace}
 use Rattle.lent.specs.declared.table_words.Answer.the-variants.{Taken}

@@ -15,7 +15,7 @@ use Rattle.source.specs.declared.Source.{Source}
 use Rattle.source.specs.Record.{lostAnswer}
 use Rattle.lent.specs.LostWords.{lostWords}
 use Rattle.capi.specs.Codes.{refusalCode}
-use Rattle.capi.specs.Sources.{lostFault, lostFound}
+use Rattle.capi.specs.OneSource.{lostFault, lostFound}
 use Rattle.capi.proofs.Answers.{gives}
 use Rattle.capi.proofs.Records.{held-wrote, other-wrote}
 use Rattle.capi.proofs.losses.flasknib_lost.Statement.{statement}

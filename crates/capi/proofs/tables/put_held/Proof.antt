@@ -11,13 +11,13 @@ use lib.Seq.{sets, getD-take}
 use Rattle.answers.specs.declared.Refusal.{Refusal}
 use Rattle.answers.specs.declared.Refusal.the-variants.{Limits}
 use Rattle.answers.proofs.Stores.{wrote-refused, wrote-short, wrote-all}
-use Rattle.streams.specs.declared.Place.{Place}
-use Rattle.streams.specs.Places.{emptyPlace}
-use Rattle.streams.specs.Answers.{orElse}
-use Rattle.streams.specs.Checks.{Good}
-use Rattle.streams.specs.Tables.{lent, faultIn}
-use Rattle.streams.specs.declared.Table.{Table}
-use Rattle.streams.proofs.Checking.{told-refused, told-held, passed}
+use Rattle.sources.specs.declared.Place.{Place}
+use Rattle.sources.specs.Places.{emptyPlace}
+use Rattle.sources.specs.Answers.{orElse}
+use Rattle.sources.specs.Checks.{Good}
+use Rattle.sources.specs.Tables.{lent, faultIn}
+use Rattle.sources.specs.declared.Table.{Table}
+use Rattle.sources.proofs.Checking.{told-refused, told-held, passed}
 use Rattle.lent.specs.TableWords.{placeWords}
 use Rattle.lent.proofs.PlaceRuns.{length-place}
 use Rattle.capi.specs.Codes.{refusalCode}

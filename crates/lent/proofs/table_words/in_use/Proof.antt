@@ -3,7 +3,7 @@ use borrow.Author.Needs.{needs}
 use mathlib.Core.Path.{_≡_}
 use native.Mathlib.Omega.{arith}
 use lib.ListN.{length, length-take}
-use Rattle.streams.proofs.Turns.{length-mapped}
+use Rattle.sources.proofs.Turns.{length-mapped}
 use Rattle.lent.proofs.table_words.in_use.Statement.{statement}
 use Rattle.lent.proofs.table_words.in_use.Tie as tie
 

@@ -4,7 +4,7 @@ use mathlib.Core.Path.{sym, _∙_}
 use native.Mathlib.Omega.{arith}
 use denote.Ref.{now}
 use Rattle.answers.proofs.Conditions.{was-false, was-true}
-use Rattle.streams.specs.Tables.{emptyTable}
+use Rattle.sources.specs.Tables.{emptyTable}
 use Rattle.lent.proofs.Taking.{outside, whole, few, fitting, large-held, large-refused}
 use Rattle.lent.proofs.table_words.load.Statement.{statement}
 use Rattle.lent.proofs.table_words.load.Tie as tie

@@ -5,10 +5,10 @@ use native.Mathlib.Omega.{arith}
 use Prim.Native.Nat.{_-_, _*_, _≤_, _<_}
 use lib.ListN.{length, drop, length-take}
 use lib.Seq.{sets, getD-take}
-use Rattle.streams.specs.declared.Place.{Place}
-use Rattle.streams.specs.Places.{emptyPlace}
-use Rattle.streams.specs.Tables.{lent}
-use Rattle.streams.proofs.Turns.{length-mapped}
+use Rattle.sources.specs.declared.Place.{Place}
+use Rattle.sources.specs.Places.{emptyPlace}
+use Rattle.sources.specs.Tables.{lent}
+use Rattle.sources.proofs.Turns.{length-mapped}
 use Rattle.lent.specs.TableWords.{placeWords, tableWords}
 use Rattle.lent.proofs.PlaceRuns.{store-turn, store-done}
 use Rattle.lent.proofs.table_words.store.Statement.{statement}

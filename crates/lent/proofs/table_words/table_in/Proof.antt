@@ -6,7 +6,7 @@ use Prim.Native.Nat.{ℕ, _+_, _-_, _*_, _≤_}
 use denote.Ref.{now}
 use lib.ListN.{length, set, drop, replicate, length-take, length-drop}
 use lib.Seq.{sets, take-all}
-use Rattle.streams.specs.Places.{emptyPlace}
+use Rattle.sources.specs.Places.{emptyPlace}
 use Rattle.lent.specs.TableWords.{placesBy}
 use Rattle.lent.specs.TableReads.{placeNear, placesNear}
 use Rattle.lent.proofs.PlaceRuns.{take-turn, all-taken}

@@ -1,0 +1,46 @@
+-- `sources::compound::write` meets its contract. Assumes nothing.
+use borrow.Author.Needs.{needs}
+use mathlib.Core.Path.{sym, _∙_}
+use denote.Ref.{now}
+use Rattle.answers.proofs.Stores.{wrote-refused}
+use Rattle.sources.specs.Compounds.{compoundBytes}
+use Rattle.sources.specs.Tables.{lent}
+use Rattle.sources.proofs.Checking.{told-refused, told-held}
+use Rattle.sources.proofs.compound.write.Statement.{statement}
+use Rattle.sources.proofs.compound.write.Tie as tie
+
+check-requires : tie.Need-check-requires
+check-requires c κs = search needs
+
+enum-known-refusal : tie.Need-enum-known-refusal
+enum-known-refusal c = search needs
+
+enum-known-n : tie.Need-enum-known-n
+enum-known-n c = search needs
+
+write-held-requires : tie.Need-write-held-requires
+write-held-requires c κs =
+    told-held (c .before .before .before .before .before .before .args .t) (sym (c .before .before .n .given .1) ∙ c .before .before .before .before .check .ensures)
+
+returns : tie.Need-returns
+returns c =
+    let a = c .before .before .before .before .before .args in
+    wrote-refused (compoundBytes (a .sender) (lent (a .t))) (now (a .out)) (told-refused (a .t) (sym (c .before .refusal .given .1) ∙ c .before .before .before .check .ensures))
+
+same-length : tie.Need-same-length
+same-length c = search needs
+
+returns-2 : tie.Need-returns-2
+returns-2 c = search needs
+
+pub write-spec : {M : Type 1} → statement M
+write-spec =
+    tie.close
+    (tie.spec
+    check-requires
+    enum-known-refusal
+    enum-known-n
+    write-held-requires
+    returns
+    same-length
+    returns-2)
