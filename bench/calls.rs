@@ -143,6 +143,37 @@ fn counting() {
     }
 }
 
+/// The sources of a table, each with the same arrivals in turn. A place has 11 words.
+fn table_ours(list: &[(u16, u8)], sources: usize) -> Vec<u64> {
+    let mut table = vec![0; 11 * sources];
+    for (i, &arrival) in list.iter().enumerate() {
+        let (wire, mark) = black_box(arrival);
+        black_box(library::sources_arrive(&mut table, (1 + i % sources) as u32, wire, mark));
+    }
+    table
+}
+
+/// The same records, each by itself.
+fn sources_alone(list: &[(u16, u8)], sources: usize) -> Vec<library::Source> {
+    let mut records = vec![library::Source::default(); sources];
+    for (i, &arrival) in list.iter().enumerate() {
+        let (wire, mark) = black_box(arrival);
+        black_box(library::arrive(&mut records[i % sources], wire, mark));
+    }
+    records
+}
+
+fn table(sources: usize) {
+    let (link, name) = LINKS[1];
+    let each: Vec<_> = Arrivals::new(link, 1).take(CALLS / sources).collect();
+    let list: Vec<_> = each.iter().flat_map(|&arrival| std::iter::repeat_n(arrival, sources)).collect();
+    let records: Vec<_> = table_ours(&list, sources).chunks(11).map(|place| place[1..].to_vec()).collect();
+    assert!(sources_alone(&list, sources).iter().map(|record| record.to_vec()).eq(records), "the table's records differ");
+    let input = format!("{name}, {sources} sources in turn");
+    let runs = vec![run(|| table_ours(&list, sources)), run(|| sources_alone(&list, sources))];
+    lines("sources_arrive, a packet", &input, &["`flasknib_arrive` on each record"], list.len(), runs);
+}
+
 fn reading() {
     let bytes = compound::sample(MEDIA);
     let ours = || {
@@ -223,6 +254,8 @@ fn main() {
     println!("\"The same checks on the same words\" is Rust over the ten words with every check that ours makes.\n");
     println!("| call | input | ours | other | its time | other / ours |\n|---|---|---|---|---|---|");
     counting();
+    table(3);
+    table(16);
     reading();
     breaking(3);
     breaking(32);

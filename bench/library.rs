@@ -2,6 +2,7 @@
 
 extern "C" {
     pub fn flasknib_arrive(source: *mut u64, words: usize, wire: u16, mark: u8) -> u8;
+    pub fn flasknib_sources_arrive(table: *mut u64, words: usize, ssrc: u32, wire: u16, mark: u8) -> u8;
     pub fn flasknib_count_block(source: *mut u64, words: usize, records: *const u8, length: usize, width: usize) -> i64;
     pub fn flasknib_read_compound(bytes: *const u8, length: usize, media: u32, profile: u8, found: *mut u64, words: usize) -> u8;
     pub fn flasknib_breaker_start(
@@ -41,6 +42,10 @@ pub type Source = [u64; 10];
 
 pub fn arrive(source: &mut [u64], wire: u16, mark: u8) -> u8 {
     unsafe { flasknib_arrive(source.as_mut_ptr(), source.len(), wire, mark) }
+}
+
+pub fn sources_arrive(table: &mut [u64], ssrc: u32, wire: u16, mark: u8) -> u8 {
+    unsafe { flasknib_sources_arrive(table.as_mut_ptr(), table.len(), ssrc, wire, mark) }
 }
 
 pub fn count_block(source: &mut Source, records: &[u8]) -> i64 {

@@ -36,7 +36,7 @@ use Rattle.demands.proofs.OneCall.{good-behind, ssrcs-behind, others-st
 -- ---- the calls one after the other
 
 -- the first call, which brings the packets `front` to the source if it names it, and else none
-module _ (ps : List Place) (good : fault ps ≡ none) (c : Call) (h : Fits c) (seat : seatedCall ps c ≡ true) (ssrc : ℕ) where
+module _ (ps : List Place) (good : fault ps ≡ none) (c : Call) (h : Fits c) (ssrc : ℕ) (seat : cond (eqb (named c) ssrc) (seatedCall ps c) true ≡ true) where
   record First (front : List TruePacket) : Type 0 where
     state : recordOf ssrc (behindCall ps c) ≡ runFrom (recordOf ssrc ps) front
     answer : eqb (named c) ssrc ≡ true → Answered ps c
@@ -44,9 +44,10 @@ module _ (ps : List Place) (good : fault ps ≡ none) (c : Call) (h : Fits c) (s
   first : (t : Bool) → eqb (named c) ssrc ≡ t → (front : List TruePacket) → cond t (brought c) [] ≡ map ofArrival front → AnsweredFrom (recordOf ssrc ps) front → First front
   first true e front same a =
       let is : named c ≡ ssrc = eqb-true (named c) ssrc e in
-      let own = own-counts ps good c h seat front same (subst (λ (k : ℕ). AnsweredFrom (recordOf k ps) front) (sym is) a) in
+      let seated : seatedCall ps c ≡ true = sym (ap (λ (t : Bool). cond t (seatedCall ps c) true) e) ∙ seat in
+      let own = own-counts ps good c h seated front same (subst (λ (k : ℕ). AnsweredFrom (recordOf k ps) front) (sym is) a) in
       record { state = subst (λ (k : ℕ). recordOf k (behindCall ps c) ≡ runFrom (recordOf k ps) front) is (own .state); answer = λ _. own .answer }
-  first false e [] same a = record { state = others-stay ps good c h seat ssrc e; answer = λ f. absurd (false≢true (sym e ∙ f)) }
+  first false e [] same a = record { state = others-stay ps good c h ssrc e; answer = λ f. absurd (false≢true (sym e ∙ f)) }
   first false e (v ∷ vs) same a = let z : _≡_ {A = ℕ} 0 1 = cc in absurd (omega arith)
 
 -- what comes of calls whose packets for the source are accepted
@@ -57,17 +58,17 @@ record Behind (ps : List Place) (calls : List Call) (ssrc : ℕ) (vs : List True
   answers : AllAnswered ssrc ps calls
 
 behind-all : (ps : List Place) (calls : List Call) (ssrc : ℕ) (vs : List TruePacket) → fault ps ≡ none → ssrcsFit (heldOf ps) ≡ true → AllFit calls
-    → placesSuffice ps calls ≡ true → seen ssrc calls ≡ map ofArrival vs → AnsweredFrom (recordOf ssrc ps) vs → Behind ps calls ssrc vs
+    → placesSuffice ssrc ps calls ≡ true → seen ssrc calls ≡ map ofArrival vs → AnsweredFrom (recordOf ssrc ps) vs → Behind ps calls ssrc vs
 behind-all ps [] ssrc [] good fit h suffice same a = record { good = good; ssrcs = fit; state = refl; answers = tt }
 behind-all ps [] ssrc (v ∷ vs) good fit h suffice same a = let z : _≡_ {A = ℕ} 0 1 = cc in absurd (omega arith)
 behind-all ps (c ∷ calls) ssrc vs good fit h suffice same a =
     let r : Source = recordOf ssrc ps in
     let s = split (cond (eqb (named c) ssrc) (brought c) []) (seen ssrc calls) vs same in
     let parts : AnsweredFrom r (s .front ++ s .back) = subst (AnsweredFrom r) (s .is) a in
-    let seat : seatedCall ps c ≡ true = and-left (seatedCall ps c) (placesSuffice (behindCall ps c) calls) suffice in
-    let one = first ps good c (h .0) seat ssrc (eqb (named c) ssrc) refl (s .front) (s .first) (answers-front r (s .front) (s .back) parts) in
+    let seat : cond (eqb (named c) ssrc) (seatedCall ps c) true ≡ true = and-left (cond (eqb (named c) ssrc) (seatedCall ps c) true) (placesSuffice ssrc (behindCall ps c) calls) suffice in
+    let one = first ps good c (h .0) ssrc seat (eqb (named c) ssrc) refl (s .front) (s .first) (answers-front r (s .front) (s .back) parts) in
     let next : AnsweredFrom (recordOf ssrc (behindCall ps c)) (s .back) = subst (λ (u : Source). AnsweredFrom u (s .back)) (sym (one .state)) (answers-behind r (s .front) (s .back) parts) in
-    let more = behind-all (behindCall ps c) calls ssrc (s .back) (good-behind ps c (h .0) good) (ssrcs-behind ps c (h .0) fit) (h .1) (and-right (seatedCall ps c) (placesSuffice (behindCall ps c) calls) suffice) (s .more) next in
+    let more = behind-all (behindCall ps c) calls ssrc (s .back) (good-behind ps c (h .0) good) (ssrcs-behind ps c (h .0) fit) (h .1) (and-right (cond (eqb (named c) ssrc) (seatedCall ps c) true) (placesSuffice ssrc (behindCall ps c) calls) suffice) (s .more) next in
     record {
       good = more .good;
       ssrcs = more .ssrcs;

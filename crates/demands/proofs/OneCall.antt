@@ -27,7 +27,7 @@ use Rattle.sources.specs.Rules.{fault}
 use Rattle.sources.specs.Stands.{standsAt, found, put, recordIn, recordOf, newTo}
 use Rattle.sources.specs.Answers.{full, refusal, told, toldUnless, outside, behind, toldBlock, blockUnless, arriveAnswer, arrivePlaces, countAnswer, countPlaces}
 use Rattle.sources.specs.Theorems.{Arrival, answer, behindOne, seated}
-use Rattle.sources.proofs.Behind.{Free, free, record-sound, held-behind, arrive-held, counted-is, in-limits, arrival-keeps-rules, block-keeps-rules}
+use Rattle.sources.proofs.Behind.{Free, free, record-sound, held-behind, arrive-held, counted-is, in-limits, arrival-keeps-rules, block-keeps-rules, others-keep}
 use Rattle.sources.proofs.Grown.{block-grown}
 use Rattle.sources.proofs.Sorted.{found-put, all-put}
 use Rattle.sources.proofs.Orders.{step-record}
@@ -116,18 +116,19 @@ module _ (ps : List Place) (ssrc width : ℕ) (bytes : List ℕ) (octets : (i : 
         let fit : marksFit (map ofArrival front) ≡ true = ap marksFit (sym same) ∙ within width bytes (in-limits ps ssrc width bytes octets its) .fit in
         counted-is ps ssrc width bytes octets its ∙ ap (λ (l : List Packet). countAll l start 0 0) same ∙ count-accepted front start 0 0 (marks-fit front fit) a
 
-  module _ (good : fault ps ≡ none) (seat : seatedBlock (countAnswer ps ssrc width bytes) ≡ true) where
-    seatless : refusal (outside width bytes) ssrc ps ≡ some Places → ⊥
-    unfolding countAnswer
-    seatless r = false≢true (sym (ap (λ (f : Option Refusal). seatedBlock (blockUnless f (toldBlock (standsAt ssrc (heldOf ps)) (newTo ssrc ps) (blockCount start width bytes)))) r) ∙ seat)
-
+  module _ (good : fault ps ≡ none) where
     block-other : (other : ℕ) → eqb ssrc other ≡ false → recordOf other (countPlaces ps ssrc width bytes) ≡ recordOf other ps
     block-other other e = go (way (outside width bytes) ssrc ps good)
       where
         go : Way (outside width bytes) ssrc ps → recordOf other (countPlaces ps ssrc width bytes) ≡ recordOf other ps
         go (limits o r) = ap (recordOf other) (block-kept r)
-        go (places r) = absurd (seatless r)
+        go (places r) = ap (recordOf other) (block-kept r)
         go (goes o r) = ap recordIn (block-found r other ∙ ap (λ (t : Bool). cond t (some next) (found other (heldOf ps))) e)
+
+  module _ (good : fault ps ≡ none) (seat : seatedBlock (countAnswer ps ssrc width bytes) ≡ true) where
+    seatless : refusal (outside width bytes) ssrc ps ≡ some Places → ⊥
+    unfolding countAnswer
+    seatless r = false≢true (sym (ap (λ (f : Option Refusal). seatedBlock (blockUnless f (toldBlock (standsAt ssrc (heldOf ps)) (newTo ssrc ps) (blockCount start width bytes)))) r) ∙ seat)
 
     module _ (front : List TruePacket) (same : brought (counts ssrc width bytes) ≡ map ofArrival front) (a : AnsweredFrom start front) where
       -- the packets that it brings
@@ -184,10 +185,16 @@ ssrcs-behind ps (counts ssrc width bytes) h fit = go (refusal (outside width byt
         ap ssrcsFit (block-held ps ssrc width bytes (h .1) e) ∙ all-put (λ p. ltb (p .ssrc) (2 ^ 32)) p (heldOf ps) (lt-ltb ssrc (2 ^ 32) (h .0)) fit
 
 module _ (ps : List Place) (good : fault ps ≡ none) where
-  pub others-stay : (c : Call) → Fits c → seatedCall ps c ≡ true → (other : ℕ) → eqb (named c) other ≡ false → recordOf other (behindCall ps c) ≡ recordOf other ps
-  others-stay (arrives a) h seat other e =
-      step-record ps a other (h .1) good seat ∙ ap (λ (t : Bool). cond t (after (arrival (recordOf other ps) (a .wire) (a .mark))) (recordOf other ps)) e
-  others-stay (counts ssrc width bytes) h seat other e = block-other ps ssrc width bytes (h .1) good seat other e
+  pub others-stay : (c : Call) → Fits c → (other : ℕ) → eqb (named c) other ≡ false → recordOf other (behindCall ps c) ≡ recordOf other ps
+  unfolding arrivePlaces
+  others-stay (arrives a) h other e = go (refusal (ltb 3 (a .mark)) (a .ssrc) ps) refl
+    where
+      go : (f : Option Refusal) → refusal (ltb 3 (a .mark)) (a .ssrc) ps ≡ f → recordOf other (behindOne ps a) ≡ recordOf other ps
+      go (some r) q = rw q
+      go none q =
+          ap recordIn (others-keep ps (a .ssrc) (a .wire) (a .mark) (h .1) q other
+          ∙ ap (λ (t : Bool). cond t (some (after (arrival (recordOf (a .ssrc) ps) (a .wire) (a .mark)))) (found other (heldOf ps))) e)
+  others-stay (counts ssrc width bytes) h other e = block-other ps ssrc width bytes (h .1) good other e
 
   -- the record that the call names has counted the packets that it brings, where they are accepted
   pub record Own (c : Call) (front : List TruePacket) : Type 0 where
@@ -204,7 +211,7 @@ module _ (ps : List Place) (good : fault ps ≡ none) where
       let is : ofArrival v ≡ record { wire = a .wire; mark = a .mark } = cc in
       record {
         state =
-            step-record ps a (a .ssrc) (h .1) good seat ∙ ap (λ (t : Bool). cond t (after (arrival r (a .wire) (a .mark))) r) (eq-eqb (a .ssrc) (a .ssrc) refl)
+            step-record ps a (a .ssrc) (h .1) good (ap (λ (t : Bool). cond t (seated (answer ps a)) true) (eq-eqb (a .ssrc) (a .ssrc) refl) ∙ seat) ∙ ap (λ (t : Bool). cond t (after (arrival r (a .wire) (a .mark))) r) (eq-eqb (a .ssrc) (a .ssrc) refl)
             ∙ sym (ap (λ (p : Packet). after (arrival r (p .wire) (p .mark))) is);
         answer = arrival-answer ps a good seat
             (subst (λ (p : Packet). arrival r (p .wire) (p .mark) ≡ cond (leb (p .mark) 3) (arrival.Accepted (after (arrival r (p .wire) (p .mark)))) (arrival.Refused Limits r)) is (b .0));

@@ -86,7 +86,7 @@ abbrev pub behindAll : List Place → List Call → List Place
 behindAll ps [] = ps
 behindAll ps (c ∷ calls) = behindAll (behindCall ps c) calls
 
--- no call is refused with 15
+-- not refused with 15
 abbrev pub seatedBlock : Counted → Bool
 seatedBlock (counted.Block stand jumps restarts) = true
 seatedBlock (counted.Refused refusal) = not (eqb (numberOf refusal) 15)
@@ -95,9 +95,10 @@ abbrev pub seatedCall : List Place → Call → Bool
 seatedCall ps (arrives a) = seated (answer ps a)
 seatedCall ps (counts ssrc width bytes) = seatedBlock (countAnswer ps ssrc width bytes)
 
-abbrev pub placesSuffice : List Place → List Call → Bool
-placesSuffice ps [] = true
-placesSuffice ps (c ∷ calls) = seatedCall ps c && placesSuffice (behindCall ps c) calls
+-- places suffice for a source: no call that names it is refused with 15
+abbrev pub placesSuffice : ℕ → List Place → List Call → Bool
+placesSuffice ssrc ps [] = true
+placesSuffice ssrc ps (c ∷ calls) = cond (eqb (named c) ssrc) (seatedCall ps c) true && placesSuffice ssrc (behindCall ps c) calls
 
 -- the packets that a call brings: an arrival its own; a block those of its records, and none where they are outside the limits, which is refused with 10
 abbrev pub brought : Call → List Packet
@@ -111,14 +112,14 @@ seen ssrc (c ∷ calls) = cond (eqb (named c) ssrc) (brought c) [] ++ seen ssrc 
 
 -- ---- demand 3 for one source of the table
 
--- Calls on a table that neither 16 nor 9 refuses and in which the source is new, whose places suffice. What those that name the source bring is what the
+-- Calls on a table that neither 16 nor 9 refuses and in which the source is new, where places suffice for it. What those that name the source bring is what the
 -- program sees of the packets `tps`, a list as the user describes it; calls for other sources come between as they like.
 pub record Brings (ps : List Place) (calls : List Call) (ssrc : ℕ) (tps : List TruePacket) : Type 0 where
   pub good : fault ps ≡ none
   pub new : newTo ssrc ps ≡ true
   pub ssrcs : ssrcsFit (heldOf ps) ≡ true
   pub fit : AllFit calls
-  pub suffice : placesSuffice ps calls ≡ true
+  pub suffice : placesSuffice ssrc ps calls ≡ true
   pub described : Described tps
   pub same : seen ssrc calls ≡ map ofArrival tps
 

@@ -29,10 +29,6 @@ module _ (ps : List Place) where
   unfolding fault
   fault-rule i e = rw (sym (all-false (rules ps) i e))
 
-  pub fault-sound : all (rules ps) ≡ true → allSound ps ≡ false → fault ps ≡ some Malformed
-  unfolding fault
-  fault-sound r e = rw (r, e)
-
   pub fault-none : all (rules ps) ≡ true → allSound ps ≡ true → fault ps ≡ none
   unfolding fault
   fault-none r e = rw (r, e)
@@ -59,57 +55,23 @@ module _ (ps : List Place) where
     pub kept-empties : all (map empty (restOf ps)) ≡ true
     kept-empties = all-true (rules ps) 2 k
 
+-- ---- what a check tells
+
+pub by-refused : {refusal : Refusal} (f : Option Refusal) (n : ℕ) → Refused refusal ≡ checkedBy f n → f ≡ some refusal
+by-refused (some r) n e = cc
+by-refused none n e = let z : _≡_ {A = ℕ} 0 1 = cc in absurd (omega arith)
+
+pub by-held : {m : ℕ} (f : Option Refusal) (n : ℕ) → Held m ≡ checkedBy f n → f ≡ none
+by-held (some r) n e = let z : _≡_ {A = ℕ} 0 1 = cc in absurd (omega arith)
+by-held none n e = refl
+
 -- ---- a table by value
 
 module _ (t : Table) where
-  pub checked-over : mostPlaces < t .count → Refused Rules ≡ checkedIn t
-  unfolding checkedIn faultIn
-  checked-over h = rw (lt-ltb mostPlaces (t .count) h)
-
-  module _ (h : t .count ≤ mostPlaces) where
-    fault-is : faultIn t ≡ fault (lent t)
-    unfolding faultIn
-    fault-is = rw (le-ltb mostPlaces (t .count) h)
-
-    short : leb (length (lent t)) mostPlaces ≡ true
-    short = le-leb (length (lent t)) mostPlaces (simp length-take (omega arith))
-
-    pub checked-refused : {refusal : Refusal} → fault (lent t) ≡ some refusal → Refused refusal ≡ checkedIn t
-    unfolding checkedIn
-    checked-refused e = rw (fault-is, e)
-
-    module _ (n : ℕ) (e : n ≡ length (heldOf (lent t))) where
-      first : heldOf (lent t) ≡ take n (t .places)
-      first = held-first (t .places) (t .count) n e
-
-      others : restOf (lent t) ≡ drop n (lent t)
-      others = rest-first (t .places) (t .count) n e
-
-      pub checked-rising : rising 0 (take n (t .places)) ≡ false → Refused Rules ≡ checkedIn t
-      checked-rising g = checked-refused (fault-rule (lent t) 1 (ap (rising 0) first ∙ g))
-
-      pub checked-empty : all (map empty (drop n (lent t))) ≡ false → Refused Rules ≡ checkedIn t
-      checked-empty g = checked-refused (fault-rule (lent t) 2 (ap (λ (qs : List Place). all (map empty qs)) others ∙ g))
-
-      module _ (r : rising 0 (take n (t .places)) ≡ true) (m : all (map empty (drop n (lent t))) ≡ true) where
-        ruled : all (rules (lent t)) ≡ true
-        ruled = rw (short, first, r, others, m)
-
-        pub checked-sound : all (map soundPlace (take n (t .places))) ≡ false → Refused Malformed ≡ checkedIn t
-        checked-sound g = checked-refused (fault-sound (lent t) ruled (ap (λ (qs : List Place). all (map soundPlace qs)) first ∙ g))
-
-        pub checked-held : all (map soundPlace (take n (t .places))) ≡ true → Held n ≡ checkedIn t
-        unfolding checkedIn
-        checked-held g = rw (fault-is, fault-none (lent t) ruled (ap (λ (qs : List Place). all (map soundPlace qs)) first ∙ g)) (ap Held e)
-
   -- what the check tells
   pub told-refused : {refusal : Refusal} → Refused refusal ≡ checkedIn t → faultIn t ≡ some refusal
   unfolding checkedIn
-  told-refused {refusal} e = go (faultIn t) refl e
-    where
-      go : (f : Option Refusal) → faultIn t ≡ f → Refused refusal ≡ checkedBy f (length (heldOf (lent t))) → f ≡ some refusal
-      go (some r) g e = cc
-      go none g e = let z : _≡_ {A = ℕ} 0 1 = cc in absurd (omega arith)
+  told-refused e = by-refused (faultIn t) (length (heldOf (lent t))) e
 
   pub told-held : {n : ℕ} → Held n ≡ checkedIn t → Good t n
   unfolding checkedIn

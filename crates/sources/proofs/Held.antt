@@ -25,9 +25,6 @@ module _ (p : Place) where
   pub fresh-unheld : fresh (p .source) ≡ true → held p ≡ false
   fresh-unheld e = lt-leb 1 (arrivals (p .source)) (omega (arith, fresh-none (p .source) e))
 
-  pub held-some : held p ≡ true → 1 ≤ arrivals (p .source)
-  held-some e = leb-true 1 (arrivals (p .source)) e
-
   held-not-fresh : held p ≡ true → fresh (p .source) ≡ false
   held-not-fresh e = go (fresh (p .source)) refl
     where

@@ -1,4 +1,4 @@
--- Laws of a table taken from a slice and stored there, place by place. Assumes nothing.
+-- Laws of a table taken from a slice, place by place. Assumes nothing.
 use mathlib.Core.Path.{_≡_, refl, ap, _∙_}
 use mathlib.Core.Bool.{Bool, true, false, cond}
 use mathlib.Core.List.{List, _++_, append-nil}
@@ -14,7 +14,7 @@ use Rattle.sources.specs.declared.Place.{Place}
 use Rattle.sources.specs.declared.Table.{Table}
 use Rattle.sources.specs.Places.{emptyPlace}
 use Rattle.sources.specs.Rules.{mostPlaces}
-use Rattle.sources.specs.Tables.{emptyTable, lent, withLent, over, loaded, stored}
+use Rattle.sources.specs.Tables.{emptyTable, withLent, loaded}
 use Rattle.sources.specs.Lending.{inUse}
 use Rattle.sources.proofs.Turns.{one-left, none-left}
 
@@ -46,11 +46,6 @@ module _ (xs : List Place) (n i : ℕ) (old : List Place) where
 
 -- ---- the whole
 
--- as many places as there are
-pub sets-all : (qs ps : List Place) → length qs ≡ length ps → sets ps 0 qs ≡ qs
-sets-all qs ps e =
-    sets-eq qs ps 0 (omega arith) ∙ ap (λ (l : List Place). qs ++ l) (drop-of-length-le ps {i = 0 + length qs} (omega arith)) ∙ append-nil qs
-
 pub loaded-is : (ps : List Place) → record { places = sets (replicate 16 emptyPlace) 0 (take (inUse (length ps)) ps); count = length ps } ≡ loaded ps
 unfolding loaded inUse
 loaded-is ps = go (ltb mostPlaces (length ps)) refl
@@ -65,11 +60,3 @@ loaded-is ps = go (ltb mostPlaces (length ps)) refl
           places = (ap (sets (replicate 16 emptyPlace) 0) (take-length ps) ∙ sets-eq ps (replicate 16 emptyPlace) 0 (omega arith) ∙ ap (λ (k : ℕ). ps ++ drop k (replicate 16 emptyPlace)) (zero-add (length ps))) i;
           count = length ps;
         }
-
-pub stored-is : (t : Table) (ps : List Place) → sets ps 0 (take (inUse (t .count)) (t .places)) ≡ stored t ps
-unfolding stored inUse
-stored-is t ps = go (over t)
-  where
-    go : (b : Bool) → sets ps 0 (take (cond b 0 (t .count)) (t .places)) ≡ cond b ps (sets ps 0 (lent t))
-    go true = refl
-    go false = refl

@@ -24,10 +24,9 @@ use Rattle.sources.specs.Rules.{mostPlaces, fault}
 use Rattle.sources.specs.Stands.{put, withPlace}
 use Rattle.sources.specs.Answers.{refusal, kept, arriveAnswer, arrivePlaces, countAnswer, countPlaces}
 use Rattle.sources.specs.Compounds.{compoundBytes}
-use Rattle.sources.specs.Tables.{emptyTable, lent, withLent, over, faultIn, arrivedIn, countedIn, loaded, stored}
+use Rattle.sources.specs.Tables.{emptyTable, lent, withLent, over, faultIn, arrivedIn, countedIn, loaded}
 use Rattle.sources.proofs.Fronts.{front-rest}
 use Rattle.sources.proofs.Checking.{fault-rule}
-use Rattle.sources.proofs.Lent.{sets-all}
 
 -- ---- a call keeps the number of places
 
@@ -76,12 +75,8 @@ module _ (ps : List Place) where
     over-loaded : over (loaded ps) ≡ true
     over-loaded = ap (ltb mostPlaces) loaded-count ∙ o
 
-    over-fault : fault ps ≡ some Rules
+    pub over-fault : fault ps ≡ some Rules
     over-fault = fault-rule ps 0 (lt-leb (length ps) mostPlaces (ltb-true mostPlaces (length ps) o))
-
-    over-stored : stored (loaded ps) ps ≡ ps
-    unfolding stored
-    over-stored = rw over-loaded
 
   module _ (o : ltb mostPlaces (length ps) ≡ false) where
     pub few-loaded : over (loaded ps) ≡ false
@@ -99,28 +94,22 @@ module _ (ps : List Place) where
     pub few-behind : (qs : List Place) → length qs ≡ length ps → lent (withLent (loaded ps) qs) ≡ qs
     few-behind qs e = take-at qs _ (loaded ps .count) (e ∙ sym loaded-count)
 
-    few-stored : (qs : List Place) → length qs ≡ length ps → stored (withLent (loaded ps) qs) ps ≡ qs
-    unfolding stored
-    few-stored qs e = rw (few-loaded, few-behind qs e) (sets-all qs ps e)
-
 -- ---- one arrival
 
 module _ (ps : List Place) (ssrc : ℕ) (wire : Wire) (mark : ℕ) where
   pub record ArrivedBack (r : TableArrived) : Type 0 where
     pub answer : r .answer ≡ arriveAnswer ps ssrc wire mark
-    pub places : stored (r .table) ps ≡ arrivePlaces ps ssrc wire mark
-    pub count : r .table .count ≡ length ps
 
   back-over : ltb mostPlaces (length ps) ≡ true → ArrivedBack (arrivedIn (loaded ps) ssrc wire mark)
   unfolding arrivedIn arriveAnswer arrivePlaces refusal
   back-over o =
-      rw (over-loaded ps o) (record { answer = rw (over-fault ps o); places = rw (over-fault ps o) (over-stored ps o); count = loaded-count ps })
+      rw (over-loaded ps o) (record { answer = rw (over-fault ps o) })
 
   back-few : ltb mostPlaces (length ps) ≡ false → ArrivedBack (arrivedIn (loaded ps) ssrc wire mark)
   unfolding arrivedIn
   back-few o =
       rw (few-loaded ps o, few-lent ps o)
-      (record { answer = refl; places = few-stored ps o (arrivePlaces ps ssrc wire mark) (arrive-long ps ssrc wire mark); count = loaded-count ps })
+      (record { answer = refl })
 
   back : ArrivedBack (arrivedIn (loaded ps) ssrc wire mark)
   back = go (ltb mostPlaces (length ps)) refl
@@ -142,19 +131,17 @@ module _ (ps : List Place) (ssrc : ℕ) (wire : Wire) (mark : ℕ) where
 module _ (ps : List Place) (ssrc width : ℕ) (bytes : List ℕ) where
   pub record CountedBack (r : TableCounted) : Type 0 where
     pub answer : r .answer ≡ countAnswer ps ssrc width bytes
-    pub places : stored (r .table) ps ≡ countPlaces ps ssrc width bytes
-    pub count : r .table .count ≡ length ps
 
   block-over : ltb mostPlaces (length ps) ≡ true → CountedBack (countedIn (loaded ps) ssrc width bytes)
   unfolding countedIn countAnswer countPlaces refusal
   block-over o =
-      rw (over-loaded ps o) (record { answer = rw (over-fault ps o); places = rw (over-fault ps o) (over-stored ps o); count = loaded-count ps })
+      rw (over-loaded ps o) (record { answer = rw (over-fault ps o) })
 
   block-few : ltb mostPlaces (length ps) ≡ false → CountedBack (countedIn (loaded ps) ssrc width bytes)
   unfolding countedIn
   block-few o =
       rw (few-loaded ps o, few-lent ps o)
-      (record { answer = refl; places = few-stored ps o (countPlaces ps ssrc width bytes) (count-long ps ssrc width bytes); count = loaded-count ps })
+      (record { answer = refl })
 
   block : CountedBack (countedIn (loaded ps) ssrc width bytes)
   block = go (ltb mostPlaces (length ps)) refl

@@ -101,7 +101,7 @@ either-order ps a b wa wb apart ta tab tb tba =
 
 -- ---- a list of calls
 
-module _ (ps : List Place) (a : Arrival) (ssrc : ℕ) (w : a .wire .0 < 65536) (good : fault ps ≡ none) (seat : seated (answer ps a) ≡ true) where
+module _ (ps : List Place) (a : Arrival) (ssrc : ℕ) (w : a .wire .0 < 65536) (good : fault ps ≡ none) (seat : cond (eqb (a .ssrc) ssrc) (seated (answer ps a)) true ≡ true) where
   abbrev stepped : Source
   stepped = cond (eqb (a .ssrc) ssrc) (after (arrival (recordOf ssrc ps) (a .wire) (a .mark))) (recordOf ssrc ps)
 
@@ -128,10 +128,14 @@ module _ (ps : List Place) (a : Arrival) (ssrc : ℕ) (w : a .wire .0 < 65536) (
     where
       go : (o : Bool) → ltb 3 (a .mark) ≡ o → (c : Bool) → (newTo (a .ssrc) ps && full ps) ≡ c → recordOf ssrc ps ≡ stepped
       go true ho c hc = kept-limits ho
-      go false ho true hc = absurd (false≢true (sym (ap (λ (o : Option Refusal). seated (toldUnless o (arrival (recordOf (a .ssrc) ps) (a .wire) (a .mark)))) (full-is ho hc)) ∙ seat))
+      go false ho true hc = names (eqb (a .ssrc) ssrc) seat
         where
           full-is : ltb 3 (a .mark) ≡ false → (newTo (a .ssrc) ps && full ps) ≡ true → refusal (ltb 3 (a .mark)) (a .ssrc) ps ≡ some Places
           full-is x y = rw (good, x, y)
+
+          names : (b : Bool) → cond b (seated (answer ps a)) true ≡ true → recordOf ssrc ps ≡ cond b (after (arrival (recordOf ssrc ps) (a .wire) (a .mark))) (recordOf ssrc ps)
+          names true s = absurd (false≢true (sym (ap (λ (o : Option Refusal). seated (toldUnless o (arrival (recordOf (a .ssrc) ps) (a .wire) (a .mark)))) (full-is ho hc)) ∙ s))
+          names false s = refl
       go false ho false hc = absurd (never (sym e ∙ free-is ho hc))
         where
           never : _≡_ {A = Option Refusal} (some r) none → ⊥
@@ -151,8 +155,8 @@ pub each-source-alone : EachSourceAlone
 unfolding behindAll placesSuffice naming recordBehind Wires
 each-source-alone ps [] ssrc ws good suffice = refl
 each-source-alone ps (a ∷ rest) ssrc ws good suffice =
-    let seat = and-left (seated (answer ps a)) (placesSuffice (behindOne ps a) rest) suffice in
-    let more = and-right (seated (answer ps a)) (placesSuffice (behindOne ps a) rest) suffice in
+    let seat = and-left (cond (eqb (a .ssrc) ssrc) (seated (answer ps a)) true) (placesSuffice ssrc (behindOne ps a) rest) suffice in
+    let more = and-right (cond (eqb (a .ssrc) ssrc) (seated (answer ps a)) true) (placesSuffice ssrc (behindOne ps a) rest) suffice in
     each-source-alone (behindOne ps a) rest ssrc (ws .1) (arrival-keeps-rules ps (a .ssrc) (a .wire) (a .mark) (ws .0) good) more
     ∙ ap (λ (s : Source). recordBehind s (naming ssrc rest)) (step-record ps a ssrc (ws .0) good seat)
     ∙ go (eqb (a .ssrc) ssrc)

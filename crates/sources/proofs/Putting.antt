@@ -12,15 +12,16 @@ use lib.Seq.{getD-take, take-all, take-append-le, drop-append-le, set-append-lef
 use Rattle.answers.specs.Conditions.{all}
 use Rattle.answers.proofs.Conditions.{and-left, and-right}
 use Rattle.source.specs.declared.Source.{Source}
-use Rattle.source.specs.Record.{freshRecord, sound}
+use Rattle.source.specs.Record.{sound}
 use Rattle.source.proofs.Facts.{fresh-sound}
 use Rattle.sources.specs.declared.Place.{Place}
 use Rattle.sources.specs.declared.Table.{Table}
 use Rattle.sources.specs.Places.{emptyPlace, soundPlace, heldOf, restOf}
 use Rattle.sources.specs.Rules.{rising}
-use Rattle.sources.specs.Stands.{standsAt, found, isNew, recordIn, put, recordOf, withPlace}
-use Rattle.sources.specs.Seats.{standOf, pushed, recordAt, putAt}
-use Rattle.sources.specs.Tables.{lent, withLent}
+use Rattle.sources.specs.Stands.{standsAt, found, isNew, recordIn, put, withPlace}
+use Rattle.sources.specs.Seats.{pushed}
+use Rattle.sources.specs.Tables.{lent}
+use Rattle.sources.specs.Changes.{changed}
 use Rattle.sources.proofs.Fronts.{front-rest}
 use Rattle.sources.proofs.Found.{rising-rest, below-none}
 use Rattle.sources.proofs.Pushes.{pushed-append, pushed-all}
@@ -104,22 +105,11 @@ module _ (p : Place) where
 
 -- ---- in a table of which n places are held
 
-module _ (t : Table) (n : ℕ) (k : Passed t n) (long : length (t .places) ≡ 16) where
+module _ (t : Table) (n : ℕ) (k : Passed t n) (long : t .count ≤ length (t .places)) where
   abbrev front : List Place
   front = take n (t .places)
 
-  pub record-is : (ssrc : ℕ) → recordAt t (standOf ssrc front) ≡ recordOf ssrc (lent t)
-  record-is ssrc = go (found ssrc front) refl ∙ ap (λ (ps : List Place). recordIn (found ssrc ps)) (sym (k .first))
-    where
-      go : (f : Option Source) → found ssrc front ≡ f → cond (isNew f) freshRecord (getD (t .places) (standsAt ssrc front) emptyPlace .source) ≡ recordIn f
-      go none e = refl
-      go (some s) e =
-          let a = found-stands ssrc 0 front s (k .rises) e in
-          let h = a .inside in
-          let l : standsAt ssrc front < n = omega (arith, length-take n (t .places)) in
-          sym (ap (λ (p : Place). p .source) (getD-take n (t .places) (standsAt ssrc front) emptyPlace l)) ∙ a .is
-
-  known-inside : (ssrc : ℕ) → isNew (found ssrc front) ≡ false → standsAt ssrc front < n
+  pub known-inside : (ssrc : ℕ) → isNew (found ssrc front) ≡ false → standsAt ssrc front < n
   known-inside ssrc e = go (found ssrc front) refl e
     where
       go : (f : Option Source) → found ssrc front ≡ f → isNew f ≡ false → standsAt ssrc front < n
@@ -140,7 +130,7 @@ module _ (t : Table) (n : ℕ) (k : Passed t n) (long : length (t .places) ≡ 1
     joined = ap (λ (ps : List Place). ps ++ others) (sym (k .first)) ∙ front-rest (lent t)
 
     lent-long : length (lent t) ≡ t .count
-    lent-long = length-take-le (t .count) (t .places) (let h = k .few in omega arith)
+    lent-long = length-take-le (t .count) (t .places) long
 
     at-front : at ≤ length front
     at-front = stands-le (p .ssrc) front
@@ -169,18 +159,21 @@ module _ (t : Table) (n : ℕ) (k : Passed t n) (long : length (t .places) ≡ 1
         let l = h refl in
         let m = k .most in
         let inside : at < length (lent t) = omega (arith, lent-long) in
-        let within : at < length front = let f = k .few in omega (arith, length-take n (t .places)) in
+        let within : at < length front = omega (arith, long, length-take n (t .places)) in
         let same : set front at p ++ others ≡ set (lent t) at p = sym (set-append-left front others at p within) ∙ ap (λ (ps : List Place). set ps at p) joined in
         ap (λ (ps : List Place). set ps at p) (sym whole)
         ∙ set-append-left (lent t) beyond at p inside
         ∙ ap (λ (ps : List Place). ps ++ beyond) (sym (ap (take (length (lent t))) same ∙ take-all (length (lent t)) (set (lent t) at p) (rw (length-set (lent t) at p) (omega arith))))
 
-    pub put-table : putAt t (standOf (p .ssrc) front) p ≡ withLent t (withPlace p (lent t))
-    unfolding putAt withPlace
-    put-table =
+    -- the places that the record moves: its own, or all from its stand on
+    moves : (b : Bool) → changed (record { from = at; end = cond b (t .count) (at + 1); place = p }) (t .places) ≡ cond b (pushed at (t .count - at) p (t .places)) (set (t .places) at p)
+    unfolding changed pushed
+    moves true = refl
+    moves false = let e : at + 1 - at ≡ 1 = omega arith in ap (λ (k : ℕ). pushed at k p (t .places)) e
+
+    pub put-places : changed (record { from = at; end = cond (isNew (found (p .ssrc) front)) (t .count) (at + 1); place = p }) (t .places) ≡ withPlace p (lent t) ++ beyond
+    unfolding withPlace
+    put-places =
         let b = isNew (found (p .ssrc) front) in
         let same : put p (heldOf (lent t)) ≡ placed p b at front = ap (put p) (k .first) ∙ put-is p 0 front (k .rises) in
-        λ i. record {
-          places = (places b (known-inside (p .ssrc)) ∙ ap (λ (ps : List Place). take (length (lent t)) (ps ++ others) ++ beyond) (sym same)) i;
-          count = t .count;
-        }
+        moves b ∙ places b (known-inside (p .ssrc)) ∙ ap (λ (ps : List Place). take (length (lent t)) (ps ++ others) ++ beyond) (sym same)

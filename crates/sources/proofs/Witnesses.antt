@@ -1,6 +1,7 @@
 -- The hypotheses are met, and each theorem is used where they are. Assumes nothing.
 use mathlib.Core.Path.{_≡_, refl}
 use mathlib.Core.Bool.{true}
+use Rattle.answers.specs.declared.Refusal.the-variants.{Full, Limits}
 use mathlib.Core.List.{List, [], _∷_, map}
 use Prim.Native.Nat.{ℕ, zero, suc, _<_}
 use native.Mathlib.Omega.{arith}
@@ -17,10 +18,11 @@ use Rattle.source.specs.Record.{sound, fresh, hasCounted}
 use Rattle.sources.specs.Places.{heldOf, restOf}
 use Rattle.sources.specs.Rules.{rising, fault}
 use Rattle.sources.specs.Stands.{found, put, withPlace}
-use Rattle.sources.specs.Answers.{refusal, arriveAnswer, arrivePlaces}
+use Rattle.sources.specs.Answers.{refusal, arriveAnswer, arrivePlaces, countAnswer}
 use Rattle.sources.specs.Theorems.{placesSuffice, Wires}
-use Rattle.sources.specs.Witnesses.{Met, someTable, lower, next, someCalls, someBytes}
+use Rattle.sources.specs.Witnesses.{Met, someTable, lower, next, someCalls, someBytes, fullTable}
 use Rattle.sources.proofs.Behind.{arrival-keeps-rules, block-keeps-rules, new-is-put-in, others-keep}
+use Rattle.sources.proofs.Leaves.{refusal-leaves, block-refusal-leaves}
 use Rattle.sources.proofs.Orders.{either-order, each-source-alone}
 
 octets : (s : List ℕ) → all (map (λ (c : ℕ). ltb c 256) s) ≡ true → (i : ℕ) → getD s i 0 < 256
@@ -29,8 +31,10 @@ octets (c ∷ s) e zero = ltb-true c 256 (and-left (ltb c 256) (all (map (λ (c 
 octets (c ∷ s) e (suc i) = octets s (and-right (ltb c 256) (all (map (λ (c : ℕ). ltb c 256) s)) e) i
 
 pub met : Met
-unfolding fault rising heldOf restOf found put withPlace refusal arriveAnswer arrivePlaces placesSuffice Wires sound fresh hasCounted arrival first counted distance reachOf ahead behind jumped remembering pack marks place moved added places ones
+unfolding fault rising heldOf restOf found put withPlace refusal arriveAnswer arrivePlaces countAnswer placesSuffice Wires sound fresh hasCounted arrival first counted distance reachOf ahead behind jumped remembering pack marks place moved added places ones
 met = record {
+  all-counted = refl;
+  no-records = refl;
   good = refl;
   wire = omega arith;
   bytes = octets someBytes refl;
@@ -40,12 +44,14 @@ met = record {
   next-second = refl;
   next-first = refl;
   lower-second = refl;
-  wires = (omega arith, (omega arith, (omega arith, (omega arith, (omega arith, tt)))));
+  wires = (omega arith, (omega arith, (omega arith, (omega arith, (omega arith, (omega arith, tt))))));
   suffice = refl;
 }
 
 used : Unit {0}
 used =
+    let leaves = refusal-leaves fullTable 7 (next .wire) 3 Full (met .all-counted) refl in
+    let block-leaves = block-refusal-leaves someTable 3 8 [] Limits (met .no-records) in
     let kept = arrival-keeps-rules someTable 3 (lower .wire) 1 (met .wire) (met .good) in
     let block = block-keeps-rules someTable 3 8 someBytes (met .bytes) (met .good) in
     let between = new-is-put-in someTable 3 (lower .wire) 1 (met .wire) (met .free) (met .new) in

@@ -7,7 +7,7 @@ use Rattle.sources.specs.declared.Place.{Place}
 use Rattle.sources.specs.declared.Table.{Table}
 use Rattle.sources.specs.Rules.{mostPlaces}
 
--- how many places are taken and stored
+-- how many places are in use: none where there are over 16
 unfoldable pub inUse : ℕ → ℕ
 inUse count = cond (ltb mostPlaces count) 0 count
 

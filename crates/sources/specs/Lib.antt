@@ -7,5 +7,7 @@ pub mod Tables
 pub mod Seats
 pub mod Checks
 pub mod Lending
+pub mod Seeing
+pub mod Changes
 pub mod Theorems
 pub mod Witnesses

@@ -5,7 +5,6 @@ use mathlib.Core.List.{List, _++_}
 use mathlib.Core.Option.{Option, some}
 use lib.Dec.{ltb}
 use lib.ListN.{length, take, drop, replicate}
-use lib.Seq.{sets}
 use Rattle.answers.specs.declared.Refusal.{Refusal}
 use Rattle.answers.specs.declared.Refusal.the-variants.{Rules}
 use Rattle.format.specs.declared.Wire.{Wire}
@@ -50,12 +49,8 @@ countedIn t ssrc width bytes =
     cond (over t) (record { table = t; answer = counted.Refused Rules })
     (record { table = withLent t (countPlaces (lent t) ssrc width bytes); answer = countAnswer (lent t) ssrc width bytes })
 
--- ---- a table and a lent slice
+-- ---- the table of a lent slice
 
 -- the table that a slice holds; over 16 places none is taken
 unfoldable pub loaded : List Place → Table
 loaded ps = cond (ltb mostPlaces (length ps)) (emptyTable (length ps)) (withLent (emptyTable (length ps)) ps)
-
--- the slice with the table's places; over 16 places it stays
-unfoldable pub stored : Table → List Place → List Place
-stored t ps = cond (over t) ps (sets ps 0 (lent t))

@@ -7,16 +7,18 @@ use Prim.Native.Nat.{ℕ, _<_}
 use lib.Dec.{eqb, ltb}
 use lib.ListN.{getD}
 use Rattle.answers.specs.Refusals.{numberOf}
+use Rattle.answers.specs.declared.Refusal.{Refusal}
 use Rattle.format.specs.declared.Wire.{Wire}
 use Rattle.source.specs.declared.Source.{Source}
 use Rattle.source.specs.Arrivals.{arrival, after}
 use Rattle.sources.specs.declared.Place.{Place}
 use Rattle.sources.specs.declared.Arrived.{Arrived}
 use Rattle.sources.specs.declared.Arrived.the-variants.{Accepted, Restarted, Refused}
+use Rattle.sources.specs.declared.Counted.the-variants as counted
 use Rattle.sources.specs.Places.{heldOf, restOf}
 use Rattle.sources.specs.Rules.{fault}
 use Rattle.sources.specs.Stands.{found, recordOf, newTo}
-use Rattle.sources.specs.Answers.{refusal, behind, arriveAnswer, arrivePlaces, countPlaces}
+use Rattle.sources.specs.Answers.{refusal, behind, arriveAnswer, arrivePlaces, countAnswer, countPlaces}
 
 -- ---- the rules are kept by every call, and the held records stay sound
 
@@ -27,6 +29,17 @@ ArrivalKeepsRules =
 abbrev pub BlockKeepsRules : Type 0
 BlockKeepsRules =
     (ps : List Place) (ssrc width : ℕ) (bytes : List ℕ) → ((i : ℕ) → getD bytes i 0 < 256) → fault ps ≡ none → fault (countPlaces ps ssrc width bytes) ≡ none
+
+-- ---- every refusal but 7 leaves the places as they were, 8 among them
+
+abbrev pub RefusalLeaves : Type 0
+RefusalLeaves =
+    (ps : List Place) (ssrc : ℕ) (wire : Wire) (mark : ℕ) (r : Refusal) → arriveAnswer ps ssrc wire mark ≡ Refused r → eqb (numberOf r) 7 ≡ false
+    → arrivePlaces ps ssrc wire mark ≡ ps
+
+abbrev pub BlockRefusalLeaves : Type 0
+BlockRefusalLeaves =
+    (ps : List Place) (ssrc width : ℕ) (bytes : List ℕ) (r : Refusal) → countAnswer ps ssrc width bytes ≡ counted.Refused r → countPlaces ps ssrc width bytes ≡ ps
 
 -- ---- a new SSRC is put in its place, and all others keep their contents
 
@@ -82,15 +95,16 @@ unfoldable pub behindAll : List Place → List Arrival → List Place
 behindAll ps [] = ps
 behindAll ps (a ∷ rest) = behindAll (behindOne ps a) rest
 
--- no call is refused with 15
+-- not refused with 15
 abbrev pub seated : Arrived → Bool
 seated Accepted = true
 seated Restarted = true
 seated (Refused refusal) = not (eqb (numberOf refusal) 15)
 
-unfoldable pub placesSuffice : List Place → List Arrival → Bool
-placesSuffice ps [] = true
-placesSuffice ps (a ∷ rest) = seated (answer ps a) && placesSuffice (behindOne ps a) rest
+-- places suffice for a source: no call that names it is refused with 15
+unfoldable pub placesSuffice : ℕ → List Place → List Arrival → Bool
+placesSuffice ssrc ps [] = true
+placesSuffice ssrc ps (a ∷ rest) = cond (eqb (a .ssrc) ssrc) (seated (answer ps a)) true && placesSuffice ssrc (behindOne ps a) rest
 
 unfoldable pub naming : ℕ → List Arrival → List Arrival
 naming ssrc [] = []
@@ -108,5 +122,5 @@ Wires (a ∷ rest) = (a .wire .0 < 65536) × Wires rest
 -- whatever calls for other sources come between; from the fresh record where the table had none
 abbrev pub EachSourceAlone : Type 0
 EachSourceAlone =
-    (ps : List Place) (calls : List Arrival) (ssrc : ℕ) → Wires calls → fault ps ≡ none → placesSuffice ps calls ≡ true
+    (ps : List Place) (calls : List Arrival) (ssrc : ℕ) → Wires calls → fault ps ≡ none → placesSuffice ssrc ps calls ≡ true
     → recordOf ssrc (behindAll ps calls) ≡ recordBehind (recordOf ssrc ps) (naming ssrc calls)

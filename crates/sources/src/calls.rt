@@ -1,27 +1,41 @@
-// The calls on a table by value.
+// What a call does with what a walk over the places saw: its answer, and the places that change.
 use crate::Arrived;
 use crate::Checked;
 use crate::Counted;
 use crate::Place;
-use crate::Stand;
-use crate::Table;
-use crate::TableArrived;
-use crate::TableCounted;
-use crate::rules;
-use crate::stands;
+use crate::finding;
+use crate::finding::Seen;
 use answers::Refusal;
 use format::Wire;
 use source::Arrival;
 use source::BlockCount;
 use source::Source;
 ghost use mathlib.Core.Path.{_≡_};
-ghost use mathlib.Core.Bool.{true, not, _||_};
-ghost use Prim.Native.Nat.{_≤_, _<_};
+ghost use mathlib.Core.Option.{none, some};
 ghost use lib.Dec.{ltb};
 ghost use Rattle.source.specs.Arrivals.{after};
+ghost use Rattle.sources.specs.Places.{emptyPlace};
 ghost use Rattle.sources.specs.Answers.{told};
-ghost use Rattle.sources.specs.Tables.{arrivedIn, countedIn};
-ghost use Rattle.sources.specs.Checks.{Good, settledIn};
+ghost use Rattle.sources.specs.Changes.{noChange, changeOf, notArriving, arrivingBy, arriving, notCounting, settled, countingBy, counting};
+
+// The places from `from` to `end` each take what stood in the one before, the first `place`.
+pub struct Change {
+    pub from: usize,
+    pub end: usize,
+    pub place: Place,
+}
+
+// The answer to an arrival, and the places that change.
+pub struct Arriving {
+    pub answer: Arrived,
+    pub change: Change,
+}
+
+// The answer to a block, and the places that change.
+pub struct Counting {
+    pub answer: Counted,
+    pub change: Change,
+}
 
 // The record that an answer hands back.
 fn after(answer: Arrival) -> Source
@@ -44,99 +58,115 @@ fn told(answer: Arrival) -> Arrived
     }
 }
 
-// An arrival in a table of which n places are held.
-fn arrive_in(t: Table, n: usize, ssrc: u32, wire: Wire, mark: u8) -> TableArrived
-    requires { ⌜ Good t n ⌝ }
-    ensures { λ r. ⌜ r ≡ arrivedIn t ssrc wire mark ⌝ }
+// No place changes.
+fn no_change() -> Change
+    ensures { λ r. ⌜ r ≡ noChange ⌝ }
 {
-    let stand = stands::find(t, n, ssrc);
+    let place = Place::empty();
+    Change {
+        from: 0,
+        end: 0,
+        place,
+    }
+}
+
+// The record of the SSRC stands in its place.
+fn change_of(seen: Seen, place: Place) -> Change
+    ensures { λ r. ⌜ r ≡ changeOf seen place ⌝ }
+{
+    let stand = seen.stand;
+    Change {
+        from: stand.at,
+        end: seen.end,
+        place,
+    }
+}
+
+fn not_arriving(refusal: Refusal) -> Arriving
+    ensures { λ r. ⌜ r ≡ notArriving refusal ⌝ }
+{
+    let change = no_change();
+    Arriving {
+        answer: Arrived::Refused(refusal),
+        change,
+    }
+}
+
+// An arrival in a table that neither 16 nor 9 refuses.
+fn arrive_held(seen: Seen, ssrc: u32, wire: Wire, mark: u8) -> Arriving
+    ensures { λ r. ⌜ r ≡ arrivingBy none seen ssrc wire mark ⌝ }
+{
     if 3 < mark {
-        return TableArrived {
-            table: t,
-            answer: Arrived::Refused(Refusal::Limits),
-        };
+        return not_arriving(Refusal::Limits);
     }
-    if !stands::has_room(t, n, stand) {
-        return TableArrived {
-            table: t,
-            answer: Arrived::Refused(Refusal::Places),
-        };
+    if !finding::has_room(seen) {
+        return not_arriving(Refusal::Places);
     }
-    let answer = stands::record_at(t, stand).arrive(wire, mark);
+    let s = seen.source;
+    let answer = s.arrive_in_table(wire, mark);
     let source = after(answer);
     let place = Place { ssrc, source };
-    let table = stands::put_at(t, stand, place);
+    let change = change_of(seen, place);
     let told = told(answer);
-    TableArrived {
-        table,
+    Arriving {
         answer: told,
+        change,
     }
 }
 
-pub fn arrive(t: Table, ssrc: u32, wire: Wire, mark: u8) -> TableArrived
-    ensures { λ r. ⌜ r ≡ arrivedIn t ssrc wire mark ⌝ }
+pub fn arrive(seen: Seen, ssrc: u32, wire: Wire, mark: u8) -> Arriving
+    ensures { λ r. ⌜ r ≡ arriving seen ssrc wire mark ⌝ }
 {
-    match rules::check(t) {
-        Checked::Refused(refusal) => TableArrived {
-            table: t,
-            answer: Arrived::Refused(refusal),
-        },
-        Checked::Held(n) => arrive_in(t, n, ssrc, wire, mark),
+    match finding::judged(seen) {
+        Checked::Refused(refusal) => not_arriving(refusal),
+        Checked::Held(_) => arrive_held(seen, ssrc, wire, mark),
     }
 }
 
-// The table with a block's record put at its stand, if there is a place.
-fn settled(
-    t: Table,
-    n: usize,
-    stand: Stand,
-    place: Place,
-    jumps: u64,
-    restarts: u64,
-) -> TableCounted
-    requires { ⌜ (t .count ≤ 16) × ((not (stand .new) || ltb n (t .count)) ≡ true → stand .at < 16) ⌝ }
-    ensures { λ r. ⌜ r ≡ settledIn t n stand place jumps restarts ⌝ }
+fn not_counting(refusal: Refusal) -> Counting
+    ensures { λ r. ⌜ r ≡ notCounting refusal ⌝ }
 {
-    if !stands::has_room(t, n, stand) {
-        return TableCounted {
-            table: t,
-            answer: Counted::Refused(Refusal::Places),
-        };
+    let change = no_change();
+    Counting {
+        answer: Counted::Refused(refusal),
+        change,
     }
-    let table = stands::put_at(t, stand, place);
-    TableCounted {
-        table,
+}
+
+// The record that a block leaves, put in its place, if there is one.
+fn settled(seen: Seen, place: Place, jumps: u64, restarts: u64) -> Counting
+    ensures { λ r. ⌜ r ≡ settled seen place jumps restarts ⌝ }
+{
+    if !finding::has_room(seen) {
+        return not_counting(Refusal::Places);
+    }
+    let stand = seen.stand;
+    let change = change_of(seen, place);
+    Counting {
         answer: Counted::Block(stand, jumps, restarts),
+        change,
     }
 }
 
-// A block in a table of which n places are held.
-fn count_in(t: Table, n: usize, ssrc: u32, records: &[u8], width: usize) -> TableCounted
-    requires { ⌜ Good t n ⌝ }
-    ensures { λ r. ⌜ r ≡ countedIn t ssrc width (now (records .entry)) ⌝ }
+// A block in a table that neither 16 nor 9 refuses.
+fn count_held(seen: Seen, ssrc: u32, records: &[u8], width: usize) -> Counting
+    ensures { λ r. ⌜ r ≡ countingBy none seen ssrc width (now (records .entry)) ⌝ }
 {
-    let stand = stands::find(t, n, ssrc);
-    let s = stands::record_at(t, stand);
+    let s = seen.source;
     match engine::count_block(s, records, width) {
-        BlockCount::Refused(refusal, _) => TableCounted {
-            table: t,
-            answer: Counted::Refused(refusal),
-        },
+        BlockCount::Refused(refusal, _) => not_counting(refusal),
         BlockCount::Counted(source, jumps, restarts) => {
             let place = Place { ssrc, source };
-            settled(t, n, stand, place, jumps, restarts)
+            settled(seen, place, jumps, restarts)
         }
     }
 }
 
-pub fn count_block(t: Table, ssrc: u32, records: &[u8], width: usize) -> TableCounted
-    ensures { λ r. ⌜ r ≡ countedIn t ssrc width (now (records .entry)) ⌝ }
+pub fn count_block(seen: Seen, ssrc: u32, records: &[u8], width: usize) -> Counting
+    ensures { λ r. ⌜ r ≡ counting seen ssrc width (now (records .entry)) ⌝ }
 {
-    match rules::check(t) {
-        Checked::Refused(refusal) => TableCounted {
-            table: t,
-            answer: Counted::Refused(refusal),
-        },
-        Checked::Held(n) => count_in(t, n, ssrc, records, width),
+    match finding::judged(seen) {
+        Checked::Refused(refusal) => not_counting(refusal),
+        Checked::Held(_) => count_held(seen, ssrc, records, width),
     }
 }

@@ -1,7 +1,8 @@
 // The compound of a table: an RR without report blocks, and the held places' feedback.
 use crate::Checked;
 use crate::Table;
-use crate::rules;
+use crate::finding;
+use crate::tables;
 use answers::Written;
 use numbers::big_endian::write32;
 ghost use mathlib.Core.Path.{_≡_};
@@ -65,7 +66,7 @@ fn write_held(t: Table, n: usize, sender: u32, out: &mut [u8]) -> Written
 pub fn write(t: Table, sender: u32, out: &mut [u8]) -> Written
     ensures { λ r. ⌜ Wrote (faultIn t) (compoundBytes sender (lent t)) (now (out .entry)) r (now (out .exit)) ⌝ }
 {
-    match rules::check(t) {
+    match finding::judged(tables::find(t, 0)) {
         Checked::Refused(refusal) => Written::Refused(refusal),
         Checked::Held(n) => write_held(t, n, sender, out),
     }

@@ -1,21 +1,45 @@
-// A table taken from a lent slice of places, and stored there again. Both functions are proved by a walk of their code.
+// A lent slice of places: the walk that sees where an SSRC stands, and the one that changes places. All functions over it are proved by a walk of their code.
 use crate::Place;
 use crate::Table;
+use crate::calls::Change;
+use crate::finding;
+use crate::finding::Seen;
+use crate::tables::in_use;
 ghost use mathlib.Core.Path.{_≡_};
-ghost use Prim.Native.Nat.{_<_};
-ghost use lib.ListN.{length, getD};
-ghost use Rattle.sources.specs.Places.{emptyPlace};
-ghost use Rattle.sources.specs.Tables.{loaded, stored};
-ghost use Rattle.sources.specs.Lending.{inUse, placedIn};
+ghost use Prim.Native.Nat.{_≤_, _<_};
+ghost use lib.ListN.{length};
+ghost use Rattle.sources.specs.Tables.{loaded};
+ghost use Rattle.sources.specs.Lending.{placedIn};
+ghost use Rattle.sources.specs.Seeing.{seenIn};
+ghost use Rattle.sources.specs.Changes.{changed};
 
-// How many places are taken and stored: none where there are over 16.
-fn in_use(count: usize) -> usize
-    ensures { λ r. ⌜ r ≡ inUse count ⌝ }
+// What is seen for an SSRC.
+pub fn find(places: &[Place], ssrc: u32) -> Seen
+    ensures { λ r. ⌜ r ≡ seenIn ssrc (length (now (places .entry))) (now (places .entry)) ⌝ }
 {
-    if Table::MOST < count {
-        return 0;
+    let n = in_use(places.len());
+    let mut seen = finding::start(places.len());
+    let mut i = 0;
+    while i < n {
+        seen = finding::with(seen, i, places[i], ssrc);
+        i += 1;
     }
-    count
+    seen
+}
+
+// Changes the places.
+pub fn put(places: &mut [Place], change: Change)
+    requires { ⌜ change .end ≤ length (now places) ⌝ }
+    ensures { λ _. ⌜ now (places .exit) ≡ changed change (now (places .entry)) ⌝ }
+{
+    let mut carried = change.place;
+    let mut i = change.from;
+    while i < change.end {
+        let here = places[i];
+        places[i] = carried;
+        carried = here;
+        i += 1;
+    }
 }
 
 // The table with another place at i.
@@ -26,14 +50,6 @@ fn with_place(t: Table, i: usize, p: Place) -> Table
     let mut next = t;
     next.places[i] = p;
     next
-}
-
-// The place at i.
-fn place_at(t: Table, i: usize) -> Place
-    requires { ⌜ i < 16 ⌝ }
-    ensures { λ r. ⌜ r ≡ getD (t .places) i emptyPlace ⌝ }
-{
-    t.places[i]
 }
 
 // The table that a slice holds.
@@ -48,17 +64,4 @@ pub fn load(places: &[Place]) -> Table
         i += 1;
     }
     t
-}
-
-// Stores a table's places in the slice that it was taken from.
-pub fn store(places: &mut [Place], t: Table)
-    requires { ⌜ t .count ≡ length (now places) ⌝ }
-    ensures { λ _. ⌜ now (places .exit) ≡ stored t (now (places .entry)) ⌝ }
-{
-    let n = in_use(t.count);
-    let mut i = 0;
-    while i < n {
-        places[i] = place_at(t, i);
-        i += 1;
-    }
 }

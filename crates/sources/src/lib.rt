@@ -7,13 +7,13 @@ ghost use Rattle.sources.specs.Rules.{fault};
 ghost use Rattle.sources.specs.Answers.{arriveAnswer, arrivePlaces, countAnswer, countPlaces};
 ghost use Rattle.sources.specs.Compounds.{compoundBytes};
 ghost use Rattle.sources.specs.Tables.{emptyTable, lent, faultIn, arrivedIn, countedIn};
-ghost use Rattle.sources.specs.Checks.{checkedIn};
+ghost use Rattle.sources.specs.Checks.{checked, checkedIn};
 
 mod calls;
 mod compound;
+mod finding;
 mod lending;
-mod rules;
-mod stands;
+mod tables;
 
 use answers::Refusal;
 use answers::Written;
@@ -98,14 +98,17 @@ impl Table {
     pub fn check(self) -> Checked
         ensures { λ r. ⌜ r ≡ checkedIn self ⌝ }
     {
-        rules::check(self)
+        finding::judged(tables::find(self, 0))
     }
 
     // Counts one arrival of an SSRC. Refusals: 16 table against the rules, 9 a malformed record, 10 mark above 3, 15 no place left, 8 full, 7 jump.
     pub fn arrive(self, ssrc: u32, wire: Wire, mark: u8) -> TableArrived
         ensures { λ r. ⌜ r ≡ arrivedIn self ssrc wire mark ⌝ }
     {
-        calls::arrive(self, ssrc, wire, mark)
+        let next = calls::arrive(tables::find(self, ssrc), ssrc, wire, mark);
+        let answer = next.answer;
+        let table = tables::put(self, next.change);
+        TableArrived { table, answer }
     }
 
     // Counts the arrivals of one block of an SSRC, as `engine::count_block` does. Refusals: 16 table against the rules, 9 a malformed record, 10 records
@@ -113,7 +116,10 @@ impl Table {
     pub fn count_block(self, ssrc: u32, records: &[u8], width: usize) -> TableCounted
         ensures { λ r. ⌜ r ≡ countedIn self ssrc width (now (records .entry)) ⌝ }
     {
-        calls::count_block(self, ssrc, records, width)
+        let next = calls::count_block(tables::find(self, ssrc), ssrc, records, width);
+        let answer = next.answer;
+        let table = tables::put(self, next.change);
+        TableCounted { table, answer }
     }
 
     // Writes the compound: an RR without report blocks and one ECN feedback packet for each held place, from the SSRC `sender`. Refusals: 16 table against
@@ -125,14 +131,22 @@ impl Table {
     }
 }
 
+// How many places of a lent table are held, all in front. Refusals: 16 table against the rules, 9 a malformed record.
+pub fn check(places: &[Place]) -> Checked
+    ensures { λ r. ⌜ r ≡ checked (now (places .entry)) ⌝ }
+{
+    let seen = lending::find(places, 0);
+    finding::judged(seen)
+}
+
 // Counts one arrival of an SSRC in a lent table. Refusals: 16 table against the rules, 9 a malformed record, 10 mark above 3, 15 no place left, 8 full, 7 jump.
 pub fn arrive(places: &mut [Place], ssrc: u32, wire: Wire, mark: u8) -> Arrived
     ensures { λ r. ⌜ (r ≡ arriveAnswer (now (places .entry)) ssrc wire mark) × (now (places .exit) ≡ arrivePlaces (now (places .entry)) ssrc wire mark) ⌝ }
 {
-    let t = lending::load(places);
-    let out = t.arrive(ssrc, wire, mark);
-    lending::store(places, out.table);
-    out.answer
+    let seen = lending::find(places, ssrc);
+    let next = calls::arrive(seen, ssrc, wire, mark);
+    lending::put(places, next.change);
+    next.answer
 }
 
 // Counts the arrivals of one block of an SSRC in a lent table. Refusals: 16 table against the rules, 9 a malformed record, 10 records outside the limits,
@@ -140,10 +154,10 @@ pub fn arrive(places: &mut [Place], ssrc: u32, wire: Wire, mark: u8) -> Arrived
 pub fn count_block(places: &mut [Place], ssrc: u32, records: &[u8], width: usize) -> Counted
     ensures { λ r. ⌜ (r ≡ countAnswer (now (places .entry)) ssrc width (now (records .entry))) × (now (places .exit) ≡ countPlaces (now (places .entry)) ssrc width (now (records .entry))) ⌝ }
 {
-    let t = lending::load(places);
-    let out = t.count_block(ssrc, records, width);
-    lending::store(places, out.table);
-    out.answer
+    let seen = lending::find(places, ssrc);
+    let next = calls::count_block(seen, ssrc, records, width);
+    lending::put(places, next.change);
+    next.answer
 }
 
 // Writes the compound of a lent table, from the SSRC `sender`. Refusals: 16 table against the rules, 9 a malformed record, 12 no room.

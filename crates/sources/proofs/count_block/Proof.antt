@@ -1,5 +1,5 @@
--- `sources::count_block` meets its contract, by a walk of its code: `load` makes a table of the places, the block is counted in that by value, from the records as they were lent, and `store` puts the next
--- table's places back. How the slice is handed on stands in Handed. Assumes nothing.
+-- `sources::count_block` meets its contract, by a walk of its code: `find` sees where the SSRC stands, the block is counted by value, from the records as they were lent, and `put` changes the places. How
+-- the slice is handed on stands in Handed. Assumes nothing.
 use mathlib.Core.Path.{_≡_, refl, _∙_, ap}
 use Prim.Native.Nat.{ℕ, _<_, _^_}
 use mathlib.Core.List.{List, [], _∷_}
@@ -40,33 +40,36 @@ use denote.Triple.Table.{entered, cited}
 use denote.Triple.Walked.{says, Stays, stay-none, stay-dropped, gave-slice, walkOf, goes-none, goes-dropped, goes-gave-slice, Walks, ends-at, walked, walk-meets}
 use denote.Exit.{yes}
 use Rattle.sources.specs.declared.Place.{Place}
-use Rattle.sources.specs.declared.Table.{Table}
+use Rattle.sources.specs.declared.finding.Seen.{Seen}
 use Rattle.sources.specs.declared.Counted.{Counted}
-use Rattle.sources.specs.declared.TableCounted.{TableCounted}
+use Rattle.sources.specs.declared.calls.Change.{Change}
+use Rattle.sources.specs.declared.calls.Counting.{Counting}
 use Rattle.sources.specs.Answers.{countAnswer, countPlaces}
-use Rattle.sources.specs.Tables.{loaded, stored, countedIn}
-use Rattle.sources.proofs.Loaded.{CountedBack, counted-back}
-use Rattle.sources.proofs.Handed.{Load, Store, Away, to-load, to-store, load-says, hands-load, hands-store}
-use Rattle.sources.proofs.Walks.{table-val, told-table}
+use Rattle.sources.specs.Seeing.{seenIn}
+use Rattle.sources.specs.Changes.{changed, counting}
+use Rattle.sources.proofs.Slices.{CountedHere, count-here}
+use Rattle.sources.proofs.Handed.{Find, Put, Away, to-find, to-put, find-says, hands-find, hands-put}
+use Rattle.sources.proofs.Walks.{seen-val, change-val, told-seen}
 use Rattle.sources.proofs.Place as E
-use Rattle.sources.proofs.Table as B
-use Rattle.sources.proofs.Table.Laws as B′
+use Rattle.sources.proofs.finding.Seen as B
+use Rattle.sources.proofs.finding.Seen.Laws as B′
+use Rattle.sources.proofs.calls.Change as G
 use Rattle.sources.proofs.Counted as N
 use Rattle.sources.proofs.Counted.Laws as N′
-use Rattle.sources.proofs.TableCounted as O
-use Rattle.sources.proofs.TableCounted.Laws as O′
-use Rattle.sources.proofs.lending.load as load′
-use Rattle.sources.proofs.lending.load.Symbol as load-def
-use Rattle.sources.proofs.lending.load.Symbol.{name as #sources·load}
-use Rattle.sources.proofs.lending.load.Met as load-thm
-use Rattle.sources.proofs.Table.count_block as work
-use Rattle.sources.proofs.Table.count_block.Symbol as work-def
-use Rattle.sources.proofs.Table.count_block.Symbol.{name as #sources·work}
-use Rattle.sources.proofs.Table.count_block.Met as work-thm
-use Rattle.sources.proofs.lending.store as store′
-use Rattle.sources.proofs.lending.store.Symbol as store-def
-use Rattle.sources.proofs.lending.store.Symbol.{name as #sources·store}
-use Rattle.sources.proofs.lending.store.Met as store-thm
+use Rattle.sources.proofs.calls.Counting as O
+use Rattle.sources.proofs.calls.Counting.Laws as O′
+use Rattle.sources.proofs.lending.find as find′
+use Rattle.sources.proofs.lending.find.Symbol as find-def
+use Rattle.sources.proofs.lending.find.Symbol.{name as #sources·find}
+use Rattle.sources.proofs.lending.find.Met as find-thm
+use Rattle.sources.proofs.calls.count_block as work
+use Rattle.sources.proofs.calls.count_block.Symbol as work-def
+use Rattle.sources.proofs.calls.count_block.Symbol.{name as #sources·work}
+use Rattle.sources.proofs.calls.count_block.Met as work-thm
+use Rattle.sources.proofs.lending.put as put′
+use Rattle.sources.proofs.lending.put.Symbol as put-def
+use Rattle.sources.proofs.lending.put.Symbol.{name as #sources·put}
+use Rattle.sources.proofs.lending.put.Met as put-thm
 use Rattle.sources.proofs.count_block.Key.{name as #sources·count-block}
 use Rattle.sources.proofs.count_block as f
 use Rattle.sources.proofs.count_block.Statement as stated
@@ -112,16 +115,16 @@ module _ {M : Type 1} (𝓤 : URA M) (H : Heap 𝓤) (A : Atoms 𝓤) (W : Given
   Post = walkOf 𝓤 H A f.ended stayed (f.clauses 𝓤 H A mem run) .post (((κ, (κ₂, tt)), (q, (q₂, tt)), tt, a, vals), tt)
 
   -- what it asks and tells
-  abbrev to-work : Table → Work 𝓤 H A mem run .Ghost
-  to-work w = (((κ₂, tt), (q₂, tt), tt, (w, (ssrc, (records, (width, tt)))), (table-val w ∷ [], (vint w32 ssrc ∷ [], (rs ∷ [], (vint w64 width ∷ [], tt))))), tt)
+  abbrev to-work : Seen → Work 𝓤 H A mem run .Ghost
+  to-work w = (((κ₂, tt), (q₂, tt), tt, (w, (ssrc, (records, (width, tt)))), (seen-val w ∷ [], (vint w32 ssrc ∷ [], (rs ∷ [], (vint w64 width ∷ [], tt))))), tt)
 
-  goes-work : (w : Table) → Is B.the-row w (table-val w ∷ []) → ent 𝓤 (⋆ 𝓤 H A (Token ∷ Bytes ∷ [])) (Work 𝓤 H A mem run .pre (to-work w))
+  goes-work : (w : Seen) → Is B.the-row w (seen-val w ∷ []) → ent 𝓤 (⋆ 𝓤 H A (Token ∷ Bytes ∷ [])) (Work 𝓤 H A mem run .pre (to-work w))
   goes-work w g =
       qed W (Token ∷ Bytes ∷ []) ∵ nothing ! $ owned ! usize (Is usize) (uint-makes 𝓤 H A W w64) width _ (refl, gw) $ fjoin ! $ move ! (2 ∷ 0 ∷ []) $ fjoin ! $
       owned ! u32 (Is u32) (uint-makes 𝓤 H A W w32) ssrc _ (refl, gk) $ fjoin ! $ owned ! B.the-row (Is B.the-row) (LL.makes B.the-type B′.the-plain 𝓤 H A) w _ g $ fjoin ! $ move ! (1 ∷ 0 ∷ []) $ join ! $ frame ! $ done !
 
-  work-says : (w : Table) (r : TableCounted) → ent 𝓤 (ensured 𝓤 H A work.ended (work.clauses 𝓤 H A mem run) (κ₂, tt) (w, (ssrc, (records, (width, tt)))) tt r) (fact 𝓤 (r ≡ countedIn w ssrc width (records .now)))
-  work-says w r = exE 𝓤 _ (λ ws. snd∗ 𝓤 (sem 𝓤 H A (lasts work.ended (κ₂, tt) (w, (ssrc, (records, (width, tt)))) ws)) (fact 𝓤 (r ≡ countedIn w ssrc width (records .now))))
+  work-says : (w : Seen) (r : Counting) → ent 𝓤 (ensured 𝓤 H A work.ended (work.clauses 𝓤 H A mem run) (κ₂, tt) (w, (ssrc, (records, (width, tt)))) tt r) (fact 𝓤 (r ≡ counting w ssrc width (records .now)))
+  work-says w r = exE 𝓤 _ (λ ws. snd∗ 𝓤 (sem 𝓤 H A (lasts work.ended (κ₂, tt) (w, (ssrc, (records, (width, tt)))) ws)) (fact 𝓤 (r ≡ counting w ssrc width (records .now))))
 
   -- the promise, of an answer and the places afterwards
   abbrev Says : Counted → List Place → Type 0
@@ -135,10 +138,10 @@ module _ {M : Type 1} (𝓤 : URA M) (H : Heap 𝓤) (A : Atoms 𝓤) (W : Given
       owned ! u32 (Is u32) (uint-makes 𝓤 H A W w32) ssrc _ (refl, gk) $ fjoin ! $ move ! (1 ∷ 0 ∷ []) $ fjoin ! $ frame ! $
       owned ! N.the-row (Is N.the-row) (EL.makes N.the-type N′.the-plain 𝓤 H A) r _ is $ done !
 
-  says-all : (r : TableCounted) (zs : List Place) → CountedBack ys ssrc width (records .now) r → zs ≡ stored (r .table) ys → Says (r .answer) zs
+  says-all : (r : Counting) (zs : List Place) → CountedHere ys ssrc width (records .now) r → zs ≡ changed (r .change) ys → Says (r .answer) zs
   says-all r zs back ez = (back .answer, ez ∙ back .places)
 
-  module _ (C : Calls 𝓤 H) (Λ : Loops 𝓤 H) (fm : FmC 𝓤 H (W .laws) C) (known-load : Triple 𝓤 (C #sources·load) (Load 𝓤 H A mem run)) (known-work : Triple 𝓤 (C #sources·work) (Work 𝓤 H A mem run)) (known-store : Triple 𝓤 (C #sources·store) (Store 𝓤 H A mem run)) where
+  module _ (C : Calls 𝓤 H) (Λ : Loops 𝓤 H) (fm : FmC 𝓤 H (W .laws) C) (known-find : Triple 𝓤 (C #sources·find) (Find 𝓤 H A mem run)) (known-work : Triple 𝓤 (C #sources·work) (Work 𝓤 H A mem run)) (known-put : Triple 𝓤 (C #sources·put) (Put 𝓤 H A mem run)) where
     walk : Room E.the-row (length ys) → Room u8 (length (records .now)) → ent 𝓤 (onEntry 𝓤 H A f.signature (κ, (κ₂, tt)) (q, (q₂, tt)) a vals) (WpFn 𝓤 H C Λ code.function (s ∷ vint w32 ssrc ∷ rs ∷ vint w64 width ∷ []) Post)
     walk gn gr =
         qed W ((‵ (flft κ q) ⊛ Token) ∷ ‵ (owns (MutSlice (named 0) κ E.the-row ∷ u32 ∷ ShrSlice (named 1) κ₂ u8 ∷ usize ∷ []) a vals) ∷ []) ∵ enter ! C Λ code.function (s ∷ vint w32 ssrc ∷ rs ∷ vint w64 width ∷ []) _ $
@@ -146,57 +149,57 @@ module _ {M : Type 1} (𝓤 : URA M) (H : Heap 𝓤) (A : Atoms 𝓤) (W : Given
         pass1 ! (init ! 20 refl (tt, (tt, (record { fits = gn .0 }, tt)))) $ pass1 ! (init ! 18 refl (tt, record { fits = gk })) $ pass1 ! (init ! 16 refl (tt, (tt, (record { fits = gr .0 }, tt)))) $ pass1 ! (init ! 14 refl (tt, record { fits = gw })) $ pass0 ! $
         assigns ! (addr ! (from ! (fld ! refl (hop ! (look-in ! 20 (sub ! 0 refl (whole !))) (stop !))))) (from ! (stop !)) (init ! 8 refl (tt, tt)) $
         assigns ! (agg ! (and-then ! (load ! (from ! (stop !)) (look ! 8 refl)) (and-then ! (load ! (from ! (fld ! refl (stop !))) (look-in ! 20 (sub ! 1 refl (whole !)))) (no-more !)))) (from ! (stop !)) (init ! 6 refl (tt, (tt, (record { fits = gn .0 }, tt)))) $
-        -- `load` reads the places, for a lifetime ν that ends with it
+        -- `find` reads the places, for a lifetime ν that ends with it
         move ! (25 ∷ []) $ fsplit ! $ move ! (26 ∷ []) $ split ! $ lft-new ! tt (λ ν. move ! (3 ∷ 1 ∷ []) $
-        use3 W (later (some (λ (δ : GName). raw (Load 𝓤 H A mem run .pre (to-load κ q γ b o ys 𝓤 H A mem run ν δ)) ⊛ ‵ (Away κ q γ b o ys ν)))) (hands-load κ q γ b o ys 𝓤 H A mem run W ν) $ await ! tt $ pick ! (λ δ. split ! $
-        calls-at ! fm (Load 𝓤 H A mem run) known-load (to-load κ q γ b o ys 𝓤 H A mem run ν δ) (and-then ! (load ! (from ! (stop !)) (look ! 10 refl)) (no-more !)) (λ v.
-        use1 W (later (some (λ (r : Table). ((‵ (flft (ν ∷ []) fullShare) ⊛ ‵ ftrue) ⊛ ‵ (B.the-row .own r (v ∷ []))) ⊛ raw (ensured 𝓤 H A load′.ended (load′.clauses 𝓤 H A mem run) (ν ∷ [], tt) (x δ, tt) tt r)))) (id⊢ 𝓤 _) $ await ! tt $ pick ! (λ w.
-        split ! $ move ! (1 ∷ []) $ use1 W (raw (fact 𝓤 (w ≡ loaded ys))) (load-says κ q γ b o ys 𝓤 H A mem run ν δ w) $ heard ! (w ≡ loaded ys) (λ ew. split ! $ move ! (1 ∷ []) $
+        use3 W (later (some (λ (δ : GName). raw (Find 𝓤 H A mem run .pre (to-find κ q γ b o ys ssrc 𝓤 H A mem run ν δ)) ⊛ ‵ (Away κ q γ b o ys ssrc ν)))) (hands-find κ q γ b o ys ssrc 𝓤 H A mem run W gk ν) $ await ! tt $ pick ! (λ δ. split ! $
+        calls-at ! fm (Find 𝓤 H A mem run) known-find (to-find κ q γ b o ys ssrc 𝓤 H A mem run ν δ) (and-then ! (load ! (from ! (stop !)) (look ! 10 refl)) (and-then ! (load ! (from ! (stop !)) (look ! 22 refl)) (no-more !))) (λ v.
+        use1 W (later (some (λ (r : Seen). ((‵ (flft (ν ∷ []) fullShare) ⊛ ‵ ftrue) ⊛ ‵ (B.the-row .own r (v ∷ []))) ⊛ raw (ensured 𝓤 H A find′.ended (find′.clauses 𝓤 H A mem run) (ν ∷ [], tt) (x δ, (ssrc, tt)) tt r)))) (id⊢ 𝓤 _) $ await ! tt $ pick ! (λ w.
+        split ! $ move ! (1 ∷ []) $ use1 W (raw (fact 𝓤 (w ≡ seenIn ssrc (length ys) ys))) (find-says κ q γ b o ys ssrc 𝓤 H A mem run ν δ w) $ heard ! (w ≡ seenIn ssrc (length ys) ys) (λ ew. split ! $ move ! (1 ∷ []) $
         peeks ! B.the-row (Is B.the-row) (shows 𝓤 H A B.the-row) w (v ∷ []) (λ is-w.
         land ! (from ! (stop !)) (init ! 17 refl (LL.lawful B.the-type B′.the-laws 𝓤 H A W .typed w _ is-w .0)) $ drop ! $
         rewrite ! 16 (λ (u : Val). ‵ (fat fullShare B′.mir l₅ 0 u)) (ap only (LL.tells B.the-type B′.the-laws w (v ∷ []) is-w)) refl $
         split ! $ lft-end ! tt $ move ! (0 ∷ 2 ∷ []) $
         -- the block, by value, with the records and their lifetime's token; in front lies what takes the slice back
-        move ! (4 ∷ []) $ fsplit ! $ drop ! $ fsplit ! $ move ! (5 ∷ 0 ∷ []) $ use2 W (raw (Work 𝓤 H A mem run .pre (to-work w))) (goes-work w (told-table w v is-w)) $
+        move ! (4 ∷ []) $ fsplit ! $ drop ! $ fsplit ! $ move ! (5 ∷ 0 ∷ []) $ use2 W (raw (Work 𝓤 H A mem run .pre (to-work w))) (goes-work w (told-seen w v is-w)) $
         calls-at ! fm (Work 𝓤 H A mem run) known-work (to-work w) (and-then ! (load ! (from ! (stop !)) (look ! 17 refl)) (and-then ! (load ! (from ! (stop !)) (look ! 23 refl)) (and-then ! (load ! (from ! (stop !)) (look ! 21 refl)) (and-then ! (load ! (from ! (stop !)) (look ! 19 refl)) (no-more !))))) (λ v′.
-        use1 W (later (some (λ (r : TableCounted). (Token ⊛ ‵ (O.the-row .own r (v′ ∷ []))) ⊛ raw (ensured 𝓤 H A work.ended (work.clauses 𝓤 H A mem run) (κ₂, tt) (w, (ssrc, (records, (width, tt)))) tt r)))) (id⊢ 𝓤 _) $ await ! tt $ pick ! (λ r.
-        split ! $ move ! (1 ∷ []) $ use1 W (raw (fact 𝓤 (r ≡ countedIn w ssrc width (records .now)))) (work-says w r) $ heard ! (r ≡ countedIn w ssrc width (records .now)) (λ er. split ! $ move ! (1 ∷ []) $
+        use1 W (later (some (λ (r : Counting). (Token ⊛ ‵ (O.the-row .own r (v′ ∷ []))) ⊛ raw (ensured 𝓤 H A work.ended (work.clauses 𝓤 H A mem run) (κ₂, tt) (w, (ssrc, (records, (width, tt)))) tt r)))) (id⊢ 𝓤 _) $ await ! tt $ pick ! (λ r.
+        split ! $ move ! (1 ∷ []) $ use1 W (raw (fact 𝓤 (r ≡ counting w ssrc width (records .now)))) (work-says w r) $ heard ! (r ≡ counting w ssrc width (records .now)) (λ er. split ! $ move ! (1 ∷ []) $
         peeks ! O.the-row (Is O.the-row) (shows 𝓤 H A O.the-row) r (v′ ∷ []) (λ is-r.
         land ! (from ! (stop !)) (init ! 16 refl (LL.lawful O.the-type O′.the-laws 𝓤 H A W .typed r _ is-r .0)) $ drop ! $
         rewrite ! 15 (λ (u : Val). ‵ (fat fullShare O′.mir l₆ 0 u)) (ap only (LL.tells O.the-type O′.the-laws r (v′ ∷ []) is-r)) refl $
-        -- `store` takes the slice, and nobody uses it behind that
+        -- `put` takes the slice, and nobody uses it behind that
         assigns ! (addr ! (from ! (fld ! refl (hop ! (look-in ! 25 (sub ! 0 refl (whole !))) (stop !))))) (from ! (stop !)) (init ! 7 refl (tt, tt)) $
         assigns ! (agg ! (and-then ! (load ! (from ! (stop !)) (look ! 7 refl)) (and-then ! (load ! (from ! (fld ! refl (stop !))) (look-in ! 25 (sub ! 1 refl (whole !)))) (no-more !)))) (from ! (stop !)) (init ! 5 refl (tt, (tt, (record { fits = gn .0 }, tt)))) $
-        move ! (2 ∷ 3 ∷ []) $ use2 W (later (raw (Store 𝓤 H A mem run .pre (to-store κ q γ b o ys 𝓤 H A mem run (r .table))))) (hands-store κ q γ b o ys 𝓤 H A mem run W ν gn (r .table) (of-table r v′ is-r) (back w r ew er .count)) $ await ! tt $
-        calls-at ! fm (Store 𝓤 H A mem run) known-store (to-store κ q γ b o ys 𝓤 H A mem run (r .table)) (and-then ! (load ! (from ! (stop !)) (look ! 4 refl)) (and-then ! (load ! (from ! (fld ! refl (stop !))) (look-in ! 14 (sub ! 0 refl (whole !)))) (no-more !))) (λ v″.
-        use1 W (later (some (λ (u : Unit {0}). ((‵ (flft κ q) ⊛ ‵ ftrue) ⊛ ‵ (Nothing .own u (v″ ∷ []))) ⊛ raw (ensured 𝓤 H A store′.ended (store′.clauses 𝓤 H A mem run) (κ, tt) (x γ, (r .table, tt)) tt u)))) (id⊢ 𝓤 _) $ await ! tt $ pick ! (λ u.
-        split ! $ move ! (1 ∷ []) $ use1 W (some (λ (zs : List Place × (Unit {0} × Unit {0})). ‵ (lasts store′.ended (κ, tt) (x γ, (r .table, tt)) zs) ⊛ raw (fact 𝓤 (zs .0 ≡ stored (r .table) ys)))) (id⊢ 𝓤 _) $ pick ! (λ zs.
-        split ! $ move ! (1 ∷ []) $ heard ! (zs .0 ≡ stored (r .table) ys) (λ ez. fsplit ! $ fsplit ! $ move ! (1 ∷ []) $ feqL ! (λ long.
+        move ! (2 ∷ 3 ∷ []) $ use2 W (later (raw (Put 𝓤 H A mem run .pre (to-put κ q γ b o ys ssrc 𝓤 H A mem run (r .change))))) (hands-put κ q γ b o ys ssrc 𝓤 H A mem run W gk ν gn (r .change) (of-change r v′ is-r) (back w r ew er .within)) $ await ! tt $
+        calls-at ! fm (Put 𝓤 H A mem run) known-put (to-put κ q γ b o ys ssrc 𝓤 H A mem run (r .change)) (and-then ! (load ! (from ! (stop !)) (look ! 4 refl)) (and-then ! (load ! (from ! (fld ! refl (stop !))) (look-in ! 14 (sub ! 1 refl (whole !)))) (no-more !))) (λ v″.
+        use1 W (later (some (λ (u : Unit {0}). ((‵ (flft κ q) ⊛ ‵ ftrue) ⊛ ‵ (Nothing .own u (v″ ∷ []))) ⊛ raw (ensured 𝓤 H A put′.ended (put′.clauses 𝓤 H A mem run) (κ, tt) (x γ, (r .change, tt)) tt u)))) (id⊢ 𝓤 _) $ await ! tt $ pick ! (λ u.
+        split ! $ move ! (1 ∷ []) $ use1 W (some (λ (zs : List Place × (Unit {0} × Unit {0})). ‵ (lasts put′.ended (κ, tt) (x γ, (r .change, tt)) zs) ⊛ raw (fact 𝓤 (zs .0 ≡ changed (r .change) ys)))) (id⊢ 𝓤 _) $ pick ! (λ zs.
+        split ! $ move ! (1 ∷ []) $ heard ! (zs .0 ≡ changed (r .change) ys) (λ ez. fsplit ! $ fsplit ! $ move ! (1 ∷ []) $ feqL ! (λ long.
         -- the places as they are now stand in front; the answer is copied out, and each local given up
         move ! (2 ∷ []) $ split ! $ move ! (1 ∷ []) $ peeks ! Nothing (Is Nothing) (shows 𝓤 H A Nothing) u (v″ ∷ []) (λ is-u.
         land ! (from ! (stop !)) (init ! 11 refl (nothing-lawful 𝓤 H A W .typed u _ is-u .0)) $ drop ! $
-        assigns ! (of-opd ! (load ! (from ! (fld ! refl (stop !))) (look-in ! 16 (sub ! 1 refl (whole !))))) (from ! (stop !)) (init ! 28 refl (EL.lawful N.the-type N′.the-laws 𝓤 H A W tt .typed (r .answer) _ (of-answer r v′ is-r) .0)) $
+        assigns ! (of-opd ! (load ! (from ! (fld ! refl (stop !))) (look-in ! 16 (sub ! 0 refl (whole !))))) (from ! (stop !)) (init ! 28 refl (EL.lawful N.the-type N′.the-laws 𝓤 H A W tt .typed (r .answer) _ (of-answer r v′ is-r) .0)) $
         returns ! (look ! 28 refl) $ forget ! 6 refl $ forget ! 8 refl $ forget ! 10 refl $ forget ! 12 refl $ forget ! 14 refl $ forget ! 16 refl $ forget ! 18 refl $ forget ! 20 refl $ forget ! 22 refl $ forget ! 24 refl $ forget ! 26 refl $ forget ! 28 refl $
         move ! (28 ∷ 29 ∷ []) $ free1 ! $ move ! (26 ∷ 27 ∷ []) $ free1 ! $ move ! (24 ∷ 25 ∷ []) $ free1 ! $ move ! (22 ∷ 23 ∷ []) $ free1 ! $ move ! (20 ∷ 21 ∷ []) $ free1 ! $ move ! (18 ∷ 19 ∷ []) $ free1 ! $ move ! (16 ∷ 17 ∷ []) $ free1 ! $ move ! (14 ∷ 15 ∷ []) $ free1 ! $ move ! (12 ∷ 13 ∷ []) $ free1 ! $ move ! (10 ∷ 11 ∷ []) $ free1 ! $ move ! (8 ∷ 9 ∷ []) $ free1 ! $ move ! (6 ∷ 7 ∷ []) $ free1 ! $ free0 ! $
         keep ! (0 ∷ 1 ∷ 3 ∷ []) $ by ! (exits (r .answer) _ (zs .0) (of-answer r v′ is-r) (says-all r (zs .0) (back w r ew er) ez) long)))))))))))))))))))))))))))))
       where
         -- both fields of the work's result are held
-        of-table : (r : TableCounted) (v : Val) → Is O.the-row r (v ∷ []) → Is B.the-row (r .table) (table-val (r .table) ∷ [])
-        of-table r v is = LL.owed O.the-type O′.the-laws r (v ∷ []) is .0
+        of-change : (r : Counting) (v : Val) → Is O.the-row r (v ∷ []) → Is G.the-row (r .change) (change-val (r .change) ∷ [])
+        of-change r v is = LL.owed O.the-type O′.the-laws r (v ∷ []) is .1 .0
 
-        of-answer : (r : TableCounted) (v : Val) → Is O.the-row r (v ∷ []) → Is N.the-row (r .answer) (EL.vals N.the-type N′.the-laws (r .answer))
-        of-answer r v is = LL.owed O.the-type O′.the-laws r (v ∷ []) is .1 .0
+        of-answer : (r : Counting) (v : Val) → Is O.the-row r (v ∷ []) → Is N.the-row (r .answer) (EL.vals N.the-type N′.the-laws (r .answer))
+        of-answer r v is = LL.owed O.the-type O′.the-laws r (v ∷ []) is .0
 
-        back : (w : Table) (r : TableCounted) → w ≡ loaded ys → r ≡ countedIn w ssrc width (records .now) → CountedBack ys ssrc width (records .now) r
-        back w r ew er = counted-back ys ssrc width (records .now) w r ew er
+        back : (w : Seen) (r : Counting) → w ≡ seenIn ssrc (length ys) ys → r ≡ counting w ssrc width (records .now) → CountedHere ys ssrc width (records .now) r
+        back w r ew er = count-here ys ssrc width (records .now) w r ew er
 
 module _ {M : Type 1} (𝓤 : URA M) (H : Heap 𝓤) (A : Atoms 𝓤) (W : Given 𝓤 H A) (mem : Memory → SProp 𝓤) (run : Routine → Fun 𝓤) (𝓣 : Tables 𝓤 H)
-    (known-load : Triple 𝓤 (𝓣 .C #sources·load) (Load 𝓤 H A mem run)) (known-work : Triple 𝓤 (𝓣 .C #sources·work) (Work 𝓤 H A mem run)) (known-store : Triple 𝓤 (𝓣 .C #sources·store) (Store 𝓤 H A mem run)) where
+    (known-find : Triple 𝓤 (𝓣 .C #sources·find) (Find 𝓤 H A mem run)) (known-work : Triple 𝓤 (𝓣 .C #sources·work) (Work 𝓤 H A mem run)) (known-put : Triple 𝓤 (𝓣 .C #sources·put) (Put 𝓤 H A mem run)) where
   walks : Walks 𝓤 H A f.ended stayed (WpFn 𝓤 H (𝓣 .C) (𝓣 .Λ) code.function) (f.clauses 𝓤 H A mem run)
   walks = walked 𝓤 H A f.ended stayed (f.clauses 𝓤 H A mem run) (WpFn 𝓤 H (𝓣 .C) (𝓣 .Λ) code.function)
       (λ κs. (slice-vals, (uint-vals w32, (slice-vals, (uint-vals w64, tt))))) (λ κs. (mut-slice-tells (named 0) (κs .0) E.the-row, (uint-tells w32, (shr-slice-tells (named 1) (κs .1 .0) u8, (uint-tells w64, tt)))))
       (λ κs qs bounds a g are. via 𝓤 _ (fst∗ 𝓤 _ (emp 𝓤))
-      (walk 𝓤 H A W mem run (κs .0) (κs .1 .0) (qs .0) (qs .1 .0) (a .0 .ptr .0) (a .0 .ptr .1) (a .0 .name) (a .0 .now) (a .1 .0) (a .1 .1 .0) (a .1 .1 .1 .0) (are .1 .0 .1) (are .1 .1 .1 .0 .1) (𝓣 .C) (𝓣 .Λ) (fmOf 𝓤 H (W .laws) 𝓣) known-load known-work known-store (are .0 .0 .1) (are .1 .1 .0 .0 .1)))
+      (walk 𝓤 H A W mem run (κs .0) (κs .1 .0) (qs .0) (qs .1 .0) (a .0 .ptr .0) (a .0 .ptr .1) (a .0 .name) (a .0 .now) (a .1 .0) (a .1 .1 .0) (a .1 .1 .1 .0) (are .1 .0 .1) (are .1 .1 .1 .0 .1) (𝓣 .C) (𝓣 .Λ) (fmOf 𝓤 H (W .laws) 𝓣) known-find known-work known-put (are .0 .0 .1) (are .1 .1 .0 .0 .1)))
 
   meets : Meets 𝓤 H A f.signature (WpFn 𝓤 H (𝓣 .C) (𝓣 .Λ) code.function) (f.spec 𝓤 H A mem run)
   meets = walk-meets 𝓤 H A f.ended stayed W
@@ -209,6 +212,6 @@ count-block-spec 𝓤 H 𝓜 𝓖 𝓡 =
     entered 𝓤 H (tripleOf 𝓤 H (𝓖 .A) f.signature (f.spec 𝓤 H (𝓖 .A) (𝓜 .mem) (𝓡 .run)))
     (tables 𝓤 H 𝓜 𝓡 code.env .C) (tables 𝓤 H 𝓜 𝓡 code.env .Λ) #sources·count-block code.function (code.unfolded 𝓤 H 𝓜 𝓡)
     (meets 𝓤 H (𝓖 .A) (givenOf 𝓤 H 𝓜 𝓖) (𝓜 .mem) (𝓡 .run) (tablesOf 𝓤 H 𝓜 (tables 𝓤 H 𝓜 𝓡 code.env))
-    (cited 𝓤 H (Load 𝓤 H (𝓖 .A) (𝓜 .mem) (𝓡 .run)) 𝓜 𝓡 code.env #sources·load load-def.routine code.calls-sources·lending·load (load-thm.met 𝓤 H 𝓜 𝓖 𝓡))
-    (cited 𝓤 H (Work 𝓤 H (𝓖 .A) (𝓜 .mem) (𝓡 .run)) 𝓜 𝓡 code.env #sources·work work-def.routine code.calls-sources·Table·count-block (work-thm.met 𝓤 H 𝓜 𝓖 𝓡))
-    (cited 𝓤 H (Store 𝓤 H (𝓖 .A) (𝓜 .mem) (𝓡 .run)) 𝓜 𝓡 code.env #sources·store store-def.routine code.calls-sources·lending·store (store-thm.met 𝓤 H 𝓜 𝓖 𝓡)))
+    (cited 𝓤 H (Find 𝓤 H (𝓖 .A) (𝓜 .mem) (𝓡 .run)) 𝓜 𝓡 code.env #sources·find find-def.routine code.calls-sources·lending·find (find-thm.met 𝓤 H 𝓜 𝓖 𝓡))
+    (cited 𝓤 H (Work 𝓤 H (𝓖 .A) (𝓜 .mem) (𝓡 .run)) 𝓜 𝓡 code.env #sources·work work-def.routine code.calls-sources·calls·count-block (work-thm.met 𝓤 H 𝓜 𝓖 𝓡))
+    (cited 𝓤 H (Put 𝓤 H (𝓖 .A) (𝓜 .mem) (𝓡 .run)) 𝓜 𝓡 code.env #sources·put put-def.routine code.calls-sources·lending·put (put-thm.met 𝓤 H 𝓜 𝓖 𝓡)))

@@ -63,10 +63,10 @@ use Rattle.sources.proofs.Table.empty as empty
 use Rattle.sources.proofs.Table.empty.Symbol as empty-def
 use Rattle.sources.proofs.Table.empty.Symbol.{name as #sources·empty}
 use Rattle.sources.proofs.Table.empty.Met as empty-thm
-use Rattle.sources.proofs.lending.in_use as in-use
-use Rattle.sources.proofs.lending.in_use.Symbol as in-use-def
-use Rattle.sources.proofs.lending.in_use.Symbol.{name as #sources·in-use}
-use Rattle.sources.proofs.lending.in_use.Met as in-use-thm
+use Rattle.sources.proofs.tables.in_use as in-use
+use Rattle.sources.proofs.tables.in_use.Symbol as in-use-def
+use Rattle.sources.proofs.tables.in_use.Symbol.{name as #sources·in-use}
+use Rattle.sources.proofs.tables.in_use.Met as in-use-thm
 use Rattle.sources.proofs.lending.with_place as put
 use Rattle.sources.proofs.lending.with_place.Symbol as put-def
 use Rattle.sources.proofs.lending.with_place.Symbol.{name as #sources·put}
@@ -335,5 +335,5 @@ load-spec 𝓤 H 𝓜 𝓖 𝓡 =
     (tables 𝓤 H 𝓜 𝓡 code.env .C) (tables 𝓤 H 𝓜 𝓡 code.env .Λ) #sources·load code.function (code.unfolded 𝓤 H 𝓜 𝓡)
     (meets 𝓤 H (𝓖 .A) (givenOf 𝓤 H 𝓜 𝓖) (𝓜 .mem) (𝓡 .run) (tablesOf 𝓤 H 𝓜 (tables 𝓤 H 𝓜 𝓡 code.env))
     (cited 𝓤 H (Empty 𝓤 H (𝓖 .A) (𝓜 .mem) (𝓡 .run)) 𝓜 𝓡 code.env #sources·empty empty-def.routine code.calls-sources·Table·empty (empty-thm.met 𝓤 H 𝓜 𝓖 𝓡))
-    (cited 𝓤 H (InUse 𝓤 H (𝓖 .A) (𝓜 .mem) (𝓡 .run)) 𝓜 𝓡 code.env #sources·in-use in-use-def.routine code.calls-sources·lending·in-use (in-use-thm.met 𝓤 H 𝓜 𝓖 𝓡))
+    (cited 𝓤 H (InUse 𝓤 H (𝓖 .A) (𝓜 .mem) (𝓡 .run)) 𝓜 𝓡 code.env #sources·in-use in-use-def.routine code.calls-sources·tables·in-use (in-use-thm.met 𝓤 H 𝓜 𝓖 𝓡))
     (cited 𝓤 H (Put 𝓤 H (𝓖 .A) (𝓜 .mem) (𝓡 .run)) 𝓜 𝓡 code.env #sources·put put-def.routine code.calls-sources·lending·with-place (put-thm.met 𝓤 H 𝓜 𝓖 𝓡)))
