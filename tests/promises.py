@@ -15,7 +15,7 @@ TOP = os.path.dirname(os.path.dirname(os.path.abspath(__file__)))
 CRATES = os.path.join(TOP, "crates")
 
 # crate: its functions with no promise; None: all of them
-EXCEPTED = {"show": None, "cases": None, "shell": {"tell", "tell_reading", "has_arguments"}}
+EXCEPTED = {"show": None, "cases": None, "shell": {"tell", "may_wait", "has_arguments"}}
 
 FUNCTION = re.compile(r'^(?P<indent> *)pub (?:extern "C" )?fn (?P<name>\w+)', re.M)
 

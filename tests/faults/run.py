@@ -1,15 +1,18 @@
-"""run.py BIN FAULTS.so FOLDER: the programs in BIN if a read or a write fails, is interrupted, is not ready or moves few bytes.
+"""run.py BIN FAULTS.so FOLDER: the programs in BIN if a read or a write fails, is interrupted, is not ready or moves few bytes, and if a trace comes bit by bit.
 
 A trace of 800 arrivals blocks; that of ecnsalvage has damaged ones. If the calls can be made again, both outputs are those of an undisturbed run: on standard
 error the number of ecnlabel, the list of ecnsalvage, and else nothing. If a read fails, the output is that of the whole blocks before it, and `refused 1
 block I` follows, on standard output by ecntable and ecnstreams and on standard error by the others; if a write fails, standard output is cut off. Both say so
-in one line on standard error, and then ecnlabel prints no number. dd copies a file of which reads fail, and ecnsalvage takes the image. Each check that does
-not hold is printed; the last line says how many runs there were.
+in one line on standard error, and then ecnlabel prints no number. If a trace comes through a pipe, what its whole blocks give is there before the next bytes are
+sent. dd copies a file of which reads fail, and ecnsalvage takes the image. Each check that does not hold is printed; the last line says how many runs there were.
 """
 import errno
+import functools
+import itertools
 import os
 import pathlib
 import resource
+import select
 import signal
 import struct
 import subprocess
@@ -32,6 +35,7 @@ def block(kind, count, ssrc, body):
     return data + struct.pack(">H", 0xFFFF - total)
 
 
+@functools.lru_cache(maxsize=64)
 def trace(form, records, ssrcs=(7,), label=LABEL):
     """A trace of so many records, each block full but perhaps the last; the blocks have these SSRCs in turn."""
     most, packed_time = FORMS[form]
@@ -68,13 +72,14 @@ class Ecntable:
     def unread(self, whole):
         return self.printed(whole) + b"refused 1 block %d\r\n" % whole, b""
 
+    def sent(self, whole):
+        """What is printed before more than so many whole blocks have come."""
+        return self.printed(whole) if whole else b""
+
 
 class Ecnforms(Ecntable):
     name, usage, told = "ecnforms", b"usage: ecnforms <TRACE >TRACE\n", b""
     piece, write, before, last = 256, 2, 512 * BLOCK, 2
-    # Those before the second of form 1 fill more than a piece of output.
-    early = ((20, 25), (336, 456))
-
     def __init__(self, form):
         self.form = form
 
@@ -87,9 +92,14 @@ class Ecnforms(Ecntable):
     def unread(self, whole):
         return self.printed(whole), b"refused 1 block %d\r\n" % whole
 
+    def sent(self, whole):
+        """A block of the other form is there when it is full."""
+        ours, other = FORMS[self.form][0], FORMS[3 - self.form][0]
+        return trace(3 - self.form, (whole - 1) * ours // other * other) if whole else b""
+
 
 class Ecnlabel(Ecnforms):
-    """Block 0 is a write of its own, and so is what each piece gives: a read that fails is reported before the blocks that it stands behind are written."""
+    """Block 0 is a write of its own, and so is what each read gives."""
 
     name, usage, told = "ecnlabel", b"usage: ecnlabel <TRACE >TRACE\n", b"3\r\n"
     write, before, last, early = 2, BLOCK, 2, ()
@@ -99,6 +109,8 @@ class Ecnlabel(Ecnforms):
         spaced = self.label.replace(b"\r", b" ").replace(b"\n", b" ")
         return trace(self.form, (whole - 1) * FORMS[self.form][0], label=spaced) if whole else b""
 
+    sent = Ecntable.sent
+
 
 class Ecnsalvage(Ecnforms):
     """A byte of these blocks is changed: single ones, two in a row, and those around the ends of pieces. A list that is short is printed at the end, so that
@@ -107,6 +119,7 @@ class Ecnsalvage(Ecnforms):
     name, usage = "ecnsalvage", b"usage: ecnsalvage <TRACE >TRACE\n"
     write, before, last, early = 2, BLOCK, 2, ()
     DAMAGED = (30, 100, 101, 255, 256, 257, 258, 400, 512, 513, 800)
+    sent = Ecntable.sent
 
     def lines(self, numbers):
         return b"".join(b"refused 13 block %d\r\n" % number for number in numbers)
@@ -247,16 +260,45 @@ def both_fail(tried):
 
 
 def copies_fail(tried):
-    """A read fails behind whole blocks of its piece. If the write of these blocks is then interrupted or not ready, the read is told with its own error. If it
-    fails, standard output is cut off, what is told of the read has its own error, and the line of the write is the last."""
+    """What the blocks of each read give is written before the next: reads 2 to 19 bring 700 bytes, and writes 2 to 19 follow them. If the last of these is
+    interrupted or not ready, and then a read fails, the read is told with its own error. If it fails, nothing more is read."""
     call, whole = 20, 25
     for again in (errno.EINTR, errno.EAGAIN):
-        faults = f"read short 1 0 700; read fail {call} {errno.EIO} 1; write fail 2 {again} 2"
-        tried.read_fails(f"a read fails, and then a write gives errno {again} twice", whole, errno.EIO, faults)
-    faults = f"read short 1 0 700; read fail {call} {errno.EIO} 1; write fail 2 {errno.ENOSPC} 1"
-    out, line = tried.run("a read and then a write fails", faults)
-    read, write = tried.program.unread(whole)[1] + tried.told("reading standard input", errno.EIO), tried.told("writing standard output", errno.ENOSPC)
-    tried.hold("a read and then a write fails", out, line, tried.whole[:BLOCK], read + write)
+        faults = f"read short 1 0 700; read fail {call} {errno.EIO} 1; write fail {call - 1} {again} 2"
+        tried.read_fails(f"a write gives errno {again} twice, and then a read fails", whole, errno.EIO, faults)
+    faults = f"read short 1 0 700; read fail {call} {errno.EIO} 1; write fail {call - 1} {errno.ENOSPC} 1"
+    tried.write_fails("a write fails before a read would", BLOCK * (whole - 1), errno.ENOSPC, faults)
+
+
+def watch(tried, name, sizes, faults=""):
+    """Sends 40 blocks and a part of one in stretches of these sizes in turn, and waits after each for what the whole blocks give; then the line breaks off."""
+    tried.runs += 1
+    data, at, out = tried.program.given()[: 40 * BLOCK + 77], 0, b""
+    sent = [tried.program.sent(whole) for whole in range(41)]
+    pipes = dict(stdin=subprocess.PIPE, stdout=subprocess.PIPE, stderr=subprocess.PIPE, bufsize=0)
+    with subprocess.Popen([tried.command], **pipes, **tried.preloaded(faults)) as child:
+        for size in itertools.cycle(sizes):
+            child.stdin.write(data[at : at + size])
+            at = min(at + size, len(data))
+            wanted = sent[at // BLOCK]
+            while len(out) < len(wanted) and select.select([child.stdout], [], [], 20)[0]:
+                more = os.read(child.stdout.fileno(), 1 << 20)
+                if not more:
+                    break
+                out += more
+            if out != wanted:
+                tried.wrong.append(f"{tried.program.name}, {name}: after {at} bytes {len(out)} are printed in place of {len(wanted)}, or others")
+            if out != wanted or at == len(data):
+                break
+        rest, told = child.communicate(timeout=30)
+    tried.hold(f"{name}, and it breaks off", out + rest, told, *tried.program.unread(at // BLOCK))
+
+
+def watched(tried):
+    """A trace comes through a pipe, cut at the blocks and inside them."""
+    for sizes in ((BLOCK,), (100, 412), (511, 1), (1, 511, 513, 1448, 3), (5000, 77), (1,)):
+        watch(tried, f"in stretches of {', '.join(map(str, sizes))} bytes", sizes)
+    watch(tried, "interrupted reads", (300,), f"read fail 3 {errno.EINTR} 2; read fail 40 {errno.EAGAIN} 3")
 
 
 def limited():
@@ -357,7 +399,7 @@ def bad_sticks(tried):
 
 def main(bin, library, folder):
     runs, wrong = 0, []
-    parts = (injected_reads, injected_writes, real_files, real_pipes, arguments)
+    parts = (injected_reads, injected_writes, real_files, real_pipes, arguments, watched)
     copies = (*parts, copies_fail)
     programs = ((Ecntable(), parts), (Ecnforms(1), parts), (Ecnforms(2), parts[:2]), (Ecnstreams(), parts), (Ecnlabel(1), copies), (Ecnlabel(2), parts[:2]),
                 (Ecnsalvage(1), (*copies, bad_sticks)), (Ecnsalvage(2), parts[:2]))
@@ -370,7 +412,7 @@ def main(bin, library, folder):
         print("faults: FAILED,", line)
     if wrong:
         return 1
-    print(f"faults: {runs} runs with calls that fail, are interrupted, are not ready or move few bytes: no cut of an output is unseen")
+    print(f"faults: {runs} runs with calls that fail, are interrupted, are not ready or move few bytes, or with a trace that comes bit by bit: no cut of an output is unseen")
     return 0
 
 

@@ -6,6 +6,7 @@ use forms::pieces::Progress;
 use shell::failures::has_arguments;
 use shell::reading::Input;
 use shell::reading::fill;
+use shell::reading::may_wait;
 use shell::transfers::PRINTED;
 use shell::transfers::Transfer;
 use shell::turns::Turn;
@@ -32,12 +33,12 @@ struct State {
 }
 
 // Takes block 0, which stands in a buffer of its own.
-fn begin(zeroth: Input, kept: &[u8], lines: &mut [u8]) -> State {
+fn begin(zeroth: Input, prompt: bool, kept: &[u8], lines: &mut [u8]) -> State {
     let begun = Progress::begin(zeroth.front(kept), lines);
     let progress = begun.progress;
     let answer = begun.answer;
     let ended = progress.ended;
-    let transfer = Transfer::begun(zeroth, ended).with_kept(answer, lines);
+    let transfer = Transfer::begun(zeroth, ended, prompt).with_kept(answer, lines);
     State { progress, transfer }
 }
 
@@ -144,8 +145,10 @@ fn run(
 
 // Converts the trace.
 fn convert(name: &[u8], kept: &mut [u8], piece: &mut [u8], lines: &mut [u8], errors: &mut [u8]) {
+    let prompt = may_wait();
     let zeroth = fill(kept);
-    run(begin(zeroth, kept, lines), name, kept, piece, lines, errors);
+    let start = begin(zeroth, prompt, kept, lines);
+    run(start, name, kept, piece, lines, errors);
 }
 
 fn main() {

@@ -7,6 +7,7 @@ use shell::copying::copied;
 use shell::failures::has_arguments;
 use shell::reading::Input;
 use shell::reading::fill;
+use shell::reading::may_wait;
 use shell::transfers::Transfer;
 use shell::turns::Turn;
 use shell::turns::next_turn;
@@ -14,7 +15,7 @@ use shell::turns::next_turn;
 // So many blocks are read at a time.
 const BLOCKS: usize = 256;
 
-// What is copied of a piece is printed where it stands. After a failed read it is kept, so that the read's line comes first: a whole piece has room.
+// What is copied of a piece is printed where it stands.
 const PIECE: usize = BLOCKS * BLOCK;
 
 // More than the end's line takes (labels, `end-has-room`).
@@ -27,12 +28,12 @@ struct State {
 }
 
 // Takes block 0, which stands in a buffer of its own, and prints it anew.
-fn begin(zeroth: Input, name: &[u8], read: &[u8], kept: &mut [u8]) -> State {
+fn begin(zeroth: Input, prompt: bool, name: &[u8], read: &[u8], kept: &mut [u8]) -> State {
     let begun = Progress::begin(zeroth.front(read), kept);
     let progress = begun.progress;
     let answer = begun.answer;
     let ended = progress.ended;
-    let mut transfer = Transfer::begun(zeroth, ended).with_kept(answer, kept);
+    let mut transfer = Transfer::begun(zeroth, ended, prompt).with_kept(answer, kept);
     let out = transfer.out;
     transfer.out = out.with_printed(out.used, name, kept);
     State { progress, transfer }
@@ -121,8 +122,10 @@ fn run(start: State, name: &[u8], kept: &mut [u8], piece: &mut [u8], errors: &mu
 
 // Copies the trace.
 fn copy(name: &[u8], read: &mut [u8], kept: &mut [u8], piece: &mut [u8], errors: &mut [u8]) {
+    let prompt = may_wait();
     let zeroth = fill(read);
-    run(begin(zeroth, name, read, kept), name, kept, piece, errors);
+    let start = begin(zeroth, prompt, name, read, kept);
+    run(start, name, kept, piece, errors);
 }
 
 fn main() {
@@ -130,7 +133,7 @@ fn main() {
         return;
     }
     let mut read = [0u8; BLOCK];
-    let mut kept = [0u8; PIECE];
+    let mut kept = [0u8; BLOCK];
     let mut piece = [0u8; PIECE];
     let mut errors = [0u8; ERRORS];
     copy(b"ecnlabel", &mut read, &mut kept, &mut piece, &mut errors);

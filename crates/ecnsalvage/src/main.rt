@@ -8,6 +8,7 @@ use shell::failures::has_arguments;
 use shell::reading::Ahead;
 use shell::reading::Input;
 use shell::reading::fill;
+use shell::reading::may_wait;
 use shell::transfers::PRINTED;
 use shell::transfers::Transfer;
 use shell::turns::Turn;
@@ -19,7 +20,7 @@ const MOST: usize = 64;
 // So many blocks are read at a time.
 const BLOCKS: usize = 256;
 
-// What is copied of a piece is printed where it stands. After a failed read it is kept, so that the read's line comes first: a whole piece has room.
+// What is copied of a piece is printed where it stands.
 const PIECE: usize = BLOCKS * BLOCK;
 
 // So much is kept for standard error: less than a piece that is printed, the most that the blocks of one read list, and the end.
@@ -32,7 +33,7 @@ struct State {
 }
 
 // Takes block 0, which stands in a buffer of its own, and prints what is copied of it.
-fn begin(zeroth: Input, name: &[u8], read: &[u8]) -> State {
+fn begin(zeroth: Input, prompt: bool, name: &[u8], read: &[u8]) -> State {
     let begun = Progress::begin(zeroth.front(read));
     let progress = begun.progress;
     let ended = progress.ended;
@@ -40,7 +41,7 @@ fn begin(zeroth: Input, name: &[u8], read: &[u8]) -> State {
         bytes: begun.copied,
         ahead: Ahead::End,
     };
-    let mut transfer = Transfer::begun(zeroth, ended);
+    let mut transfer = Transfer::begun(zeroth, ended, prompt);
     let out = transfer.out;
     transfer.out = out.printed_now(name, label.front(read));
     State { progress, transfer }
@@ -130,8 +131,10 @@ fn run(start: State, name: &[u8], kept: &mut [u8], piece: &mut [u8], errors: &mu
 
 // Copies the trace.
 fn copy(name: &[u8], read: &mut [u8], kept: &mut [u8], piece: &mut [u8], errors: &mut [u8]) {
+    let prompt = may_wait();
     let zeroth = fill(read);
-    run(begin(zeroth, name, read), name, kept, piece, errors);
+    let start = begin(zeroth, prompt, name, read);
+    run(start, name, kept, piece, errors);
 }
 
 fn main() {
@@ -139,7 +142,7 @@ fn main() {
         return;
     }
     let mut read = [0u8; BLOCK];
-    let mut kept = [0u8; PIECE];
+    let mut kept = [0u8; BLOCK];
     let mut piece = [0u8; PIECE];
     let mut errors = [0u8; ERRORS];
     copy(b"ecnsalvage", &mut read, &mut kept, &mut piece, &mut errors);

@@ -11,6 +11,7 @@ use shell::failures::has_arguments;
 use shell::printing::Output;
 use shell::reading::Input;
 use shell::reading::fill;
+use shell::reading::may_wait;
 use shell::transfers::Transfer;
 use shell::turns::Turn;
 use shell::turns::next_turn;
@@ -59,11 +60,11 @@ fn started(zeroth: &[u8]) -> Progress {
 }
 
 // Takes block 0, which stays in a buffer of its own, and keeps the head line.
-fn begin(zeroth: Input, kept: &[u8], rows: &mut [u8]) -> State {
+fn begin(zeroth: Input, prompt: bool, kept: &[u8], rows: &mut [u8]) -> State {
     let progress = started(zeroth.front(kept));
     let ended = progress.ended;
     let answer = write_head(rows);
-    let transfer = Transfer::begun(zeroth, ended).with_kept(answer, rows);
+    let transfer = Transfer::begun(zeroth, ended, prompt).with_kept(answer, rows);
     State { progress, transfer }
 }
 
@@ -112,11 +113,13 @@ fn take(s: State, lines: &mut [u64], piece: &[u8]) -> State {
     let before = s.progress;
     let transfer = s.transfer;
     let left = transfer.left(piece);
-    let progress = take_more(before, lines, left);
+    let from = 0;
+    let whole = left.len() - left.len() % BLOCK;
+    let progress = take_more(before, lines, &left[from..whole]);
     let ended = progress.ended;
     State {
         progress,
-        transfer: transfer.with_taken(ended, left.len(), piece),
+        transfer: transfer.with_taken(ended, whole, piece),
     }
 }
 
@@ -257,9 +260,10 @@ fn run(
 fn count(name: &[u8], kept: &mut [u8], piece: &mut [u8], rows: &mut [u8], errors: &mut [u8]) {
     let mut words = [0u64; Run::WORDS];
     let lines: &mut [u64] = &mut words;
+    let prompt = may_wait();
     let zeroth = fill(kept);
     run(
-        begin(zeroth, kept, rows),
+        begin(zeroth, prompt, kept, rows),
         name,
         lines,
         kept,

@@ -1,5 +1,5 @@
 -- What a turn says of the tests that led to it. Assumes nothing.
-use mathlib.Core.Path.{_≡_, refl, ap}
+use mathlib.Core.Path.{_≡_, refl, sym, ap}
 use mathlib.Core.Logic.{_⊎_, inl, inr}
 use mathlib.Core.Bool.{Bool, true, false, cond, not, false≢true}
 use Prim.Native.Nat.{ℕ}
@@ -50,16 +50,23 @@ print-asks false false true false More e = absurd (false≢true (ap (is 1) e))
 print-asks false false true false End e = absurd (false≢true (ap (is 1) e))
 print-asks false false true false Failure e = absurd (false≢true (ap (is 1) e))
 
--- it is read only if the run goes on, no block is left and more may come
+-- it is read only if no write has failed, nothing is to be printed, the run goes on, no block is left and more may come
 pub read-asks : (failed due going long : Bool) (a : Ahead) → chosen failed due going long a ≡ Read
-    → (going ≡ true) × (long ≡ false) × (a ≡ More)
+    → (going ≡ true) × (long ≡ false) × (a ≡ More) × (failed ≡ false) × (due ≡ false)
 read-asks true due going long a e = absurd (false≢true (ap (is 2) e))
 read-asks false true going long a e = absurd (false≢true (ap (is 2) e))
 read-asks false false false long a e = absurd (false≢true (ap (is 2) e))
 read-asks false false true true a e = absurd (false≢true (ap (is 2) e))
-read-asks false false true false More e = (refl, refl, refl)
+read-asks false false true false More e = (refl, refl, refl, refl, refl)
 read-asks false false true false End e = absurd (false≢true (ap (is 2) e))
 read-asks false false true false Failure e = absurd (false≢true (ap (is 2) e))
+
+-- it is ended if no write has failed, nothing is to be printed, no block is left and nothing more comes
+pub ends-if : (failed due going long : Bool) (a : Ahead) → failed ≡ false → due ≡ false → going ≡ true → long ≡ false → isMore a ≡ false
+    → chosen failed due going long a ≡ Finish
+ends-if failed due going long More f d g l m = absurd (false≢true (sym m))
+ends-if failed due going long End f d g l m = rw (f, d, g, l)
+ends-if failed due going long Failure f d g l m = rw (f, d, g, l)
 
 -- the run is ended only after a refusal, or if no block is left and nothing more comes
 pub finish-asks : (failed due going long : Bool) (a : Ahead) → chosen failed due going long a ≡ Finish

@@ -1,33 +1,38 @@
 -- How a buffer is filled, read by read. Assumes nothing.
-use mathlib.Core.Path.{_≡_, refl, ap, _∙_}
+use mathlib.Core.Path.{_≡_, refl, sym, ap, _∙_}
 use mathlib.Core.Bool.{true, false, cond}
-use Prim.Native.Nat.{ℕ, _+_, _-_, _*_, _%_, _<_, _≤_}
+use mathlib.Core.List.{List}
+use Prim.Native.Nat.{ℕ, _+_, _-_, _*_, _<_, _≤_, min}
 use native.Mathlib.Omega.{arith}
 use borrow.Author.Tests.{ltb-true, ltb-false}
+use borrow.Rule.Slice.PartMut.{putMid, take-put}
 use lib.Dec.{ltb}
+use lib.ListN.{length, take}
+use lib.Seq.{take-take}
 use Rattle.answers.proofs.Conditions.{and-left, and-right, and-goes}
 use Rattle.shell.specs.Tries.{tries, bytesIn}
-use Rattle.shell.specs.Fills.{Filled, begun, isMore, goesOn, readingAfter}
-use Rattle.shell.specs.declared.reading.Ahead.the-variants.{More, Failure}
+use Rattle.shell.specs.Fills.{Filled, ReadOn, begun, isMore, goesOn, readingAfter}
+use Rattle.shell.specs.declared.reading.Input.{Input}
 use Rattle.shell.specs.declared.reading.Reading.{Reading}
 use Rattle.shell.specs.declared.retries.Outcome.{Outcome}
 use Rattle.shell.specs.declared.retries.Outcome.the-variants.{Bytes, Nothing, Again, Failed}
 use Rattle.shell.proofs.Answered.{Fair}
 use Rattle.shell.proofs.Asked.{none-of}
+use Rattle.shell.proofs.Lefts.{take-clipped}
 
 -- how far it has come
-pub record Stands (whole : ℕ) (r : Reading) : Type 0 where
+pub record Stands (first enough whole : ℕ) (r : Reading) : Type 0 where
+  pub after : first ≤ r .input .bytes
   pub inside : r .input .bytes ≤ whole
-  pub blocks : r .input .ahead ≡ Failure → r .input .bytes % 512 ≡ 0
-  pub room : r .input .ahead ≡ Failure → r .input .bytes < whole
+  pub short : isMore (r .input .ahead) ≡ false → r .input .bytes < enough
   pub few : r .left ≤ tries
 
 -- a number that falls with each read
 unfoldable pub toGo : ℕ → Reading → ℕ
 toGo whole r = cond (isMore (r .input .ahead)) ((whole - r .input .bytes) * 4294967296 + r .left + 1) 0
 
-pub begun-stands : {whole : ℕ} {r : Reading} → r ≡ begun → Stands whole r
-begun-stands e = rw e (record { inside = omega arith; blocks = λ f. refl; room = λ f. none-of (cc); few = omega arith })
+pub begun-stands : {first enough whole : ℕ} {r : Reading} → first ≤ whole → r ≡ begun first → Stands first enough whole r
+begun-stands h e = rw e (record { after = omega arith; inside = h; short = λ f. none-of (cc); few = omega arith })
 
 -- ---- whether it goes on
 
@@ -40,11 +45,11 @@ goes-more r n e =
     (and-left more room e, ltb-true (r .input .bytes) n (and-right more room e))
 
 -- when it stops and more may come every byte is there
-stops-full : (r : Reading) (n : ℕ) → goesOn r n ≡ false → r .input .ahead ≡ More → n ≤ r .input .bytes
+stops-full : (r : Reading) (n : ℕ) → goesOn r n ≡ false → isMore (r .input .ahead) ≡ true → n ≤ r .input .bytes
 unfolding goesOn
 stops-full r n e m =
     let room = ltb (r .input .bytes) n in
-    ltb-false (r .input .bytes) n (and-goes (isMore (r .input .ahead)) room room (ap isMore m) refl ∙ e)
+    ltb-false (r .input .bytes) n (and-goes (isMore (r .input .ahead)) room room m refl ∙ e)
 
 -- ---- a read
 
@@ -54,12 +59,12 @@ after-fits whole r Nothing h f = omega arith
 after-fits whole r (Again k) h f = omega arith
 after-fits whole r Failed h f = omega arith
 
-pub after-stands : (whole : ℕ) (r : Reading) (o : Outcome) → Stands whole r → r .input .bytes < whole
-    → Fair (whole - r .input .bytes) (r .left) o → Stands whole (readingAfter r o)
-after-stands whole r (Bytes k) s h f = record { inside = omega arith; blocks = λ e. none-of (cc); room = λ e. none-of (cc); few = omega arith }
-after-stands whole r Nothing s h f = record { inside = omega arith; blocks = λ e. none-of (cc); room = λ e. none-of (cc); few = s .few }
-after-stands whole r (Again k) s h f = record { inside = omega arith; blocks = λ e. none-of (cc); room = λ e. none-of (cc); few = omega (arith, s .few) }
-after-stands whole r Failed s h f = record { inside = omega arith; blocks = λ e. omega arith; room = λ e. omega arith; few = s .few }
+pub after-stands : (first enough whole : ℕ) (r : Reading) (o : Outcome) → Stands first enough whole r → r .input .bytes < enough → r .input .bytes < whole
+    → Fair (whole - r .input .bytes) (r .left) o → Stands first enough whole (readingAfter r o)
+after-stands first enough whole r (Bytes k) s g h f = record { after = omega (arith, s .after); inside = omega arith; short = λ e. none-of (cc); few = omega arith }
+after-stands first enough whole r Nothing s g h f = record { after = s .after; inside = omega arith; short = λ e. g; few = s .few }
+after-stands first enough whole r (Again k) s g h f = record { after = s .after; inside = omega arith; short = λ e. none-of (cc); few = omega (arith, s .few) }
+after-stands first enough whole r Failed s g h f = record { after = s .after; inside = omega arith; short = λ e. g; few = s .few }
 
 pub after-less : (whole : ℕ) (r : Reading) (o : Outcome) → isMore (r .input .ahead) ≡ true → r .input .bytes < whole
     → Fair (whole - r .input .bytes) (r .left) o → toGo whole (readingAfter r o) < toGo whole r
@@ -71,11 +76,30 @@ after-less whole r Failed m h f = rw m (omega arith)
 
 -- ---- the end
 
-pub stands-filled : (n : ℕ) (r : Reading) → Stands (n - n % 512) r → goesOn r (n - n % 512) ≡ false → Filled n (r .input)
-stands-filled n r s e =
+pub stands-filled : (first enough n : ℕ) (r : Reading) → Stands first enough n r → goesOn r enough ≡ false → Filled first enough n (r .input)
+stands-filled first enough n r s e = record { after = s .after; inside = s .inside; full = λ m. stops-full r enough e m; short = s .short }
+
+-- what is read into a part of a buffer leaves the bytes before it
+pub front-stays : (first at k : ℕ) (xs ys : List ℕ) → first ≤ at → at ≤ length xs → take first (putMid at k xs ys) ≡ take first xs
+front-stays first at k xs ys h n = sym (take-take first at (putMid at k xs ys) h) ∙ ap (take first) (take-put at k xs ys n) ∙ take-take first at xs h
+
+-- one read, from places that are held to the buffer's length
+pub reads-once : (first : ℕ) (old : List ℕ) {kept enough : ℕ} {r : Input} {new : List ℕ} → kept ≡ min first (length old) → enough ≡ min (kept + 1) (length old)
+    → Filled kept enough (length old) r → take kept new ≡ take kept old → length new ≡ length old → ReadOn first old r new
+reads-once first old {kept} {enough} {r} {new} k m f e n =
+    let here : min first (length new) ≡ kept = omega arith in
     record {
-      inside = omega (arith, s .inside);
-      full = λ m. omega (arith, s .inside, stops-full r (n - n % 512) e m);
-      blocks = s .blocks;
-      room = λ m. omega (arith, s .room m);
+      filled =
+          record {
+            after = omega (arith, f .after);
+            inside = f .inside;
+            full = λ a. omega (arith, f .full a);
+            short = λ a. omega (arith, f .short a);
+          };
+      front =
+          sym (take-clipped new first)
+          ∙ ap (λ (i : ℕ). take i new) here
+          ∙ e
+          ∙ ap (λ (i : ℕ). take i old) k
+          ∙ take-clipped old first;
     }

@@ -14,7 +14,7 @@ use Rattle.shell.specs.Transfers.{leftOf, takenOf}
 use Rattle.shell.specs.declared.transfers.Transfer.{Transfer}
 
 -- so many bytes of a list, or all
-take-clipped : (s : List ℕ) (bytes : ℕ) → take (min bytes (length s)) s ≡ take bytes s
+pub take-clipped : (s : List ℕ) (bytes : ℕ) → take (min bytes (length s)) s ≡ take bytes s
 take-clipped s bytes = go (leb bytes (length s)) refl
   where
     go : (t : Bool) → leb bytes (length s) ≡ t → take (min bytes (length s)) s ≡ take bytes s
@@ -73,15 +73,15 @@ module _ (t : Transfer) (ended : Ended) (bytes : ℕ) (s : List ℕ) {left : Lis
   place : t .from + n ≡ t .from + min bytes (length (leftOf t s))
   place = rw (m, e)
 
-  pub none-taken : bytes ≡ 0 → record { input = t .input; from = t .from + n; going = false; out = t .out; err = t .err } ≡ takenOf t ended bytes s
-  none-taken z = λ i. record { input = t .input; from = place i; going = going i; out = t .out; err = t .err }
+  pub none-taken : bytes ≡ 0 → record { input = t .input; from = t .from + n; going = false; prompt = t .prompt; out = t .out; err = t .err } ≡ takenOf t ended bytes s
+  none-taken z = λ i. record { input = t .input; from = place i; going = going i; prompt = t .prompt; out = t .out; err = t .err }
     where
       going : false ≡ (isGoing ended && ltb 0 bytes)
       going = rw z (and-never (isGoing ended))
 
   pub some-taken : {going : Bool} → (bytes ≡ 0 → ⊥) → going ≡ isGoing ended
-      → record { input = t .input; from = t .from + n; going = going; out = t .out; err = t .err } ≡ takenOf t ended bytes s
-  some-taken {going} z g = λ i. record { input = t .input; from = place i; going = goes i; out = t .out; err = t .err }
+      → record { input = t .input; from = t .from + n; going = going; prompt = t .prompt; out = t .out; err = t .err } ≡ takenOf t ended bytes s
+  some-taken {going} z g = λ i. record { input = t .input; from = place i; going = goes i; prompt = t .prompt; out = t .out; err = t .err }
     where
       goes : going ≡ (isGoing ended && ltb 0 bytes)
       goes = rw (lt-ltb 0 bytes (omega arith)) (g ∙ and-ever (isGoing ended))

@@ -1,7 +1,7 @@
 -- The laws of this crate.
 mod Answered
 mod Asked
-mod Copies
+mod Ends
 mod Filling
 mod Fronts
 mod Joining

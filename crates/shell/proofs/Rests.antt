@@ -4,9 +4,11 @@ use mathlib.Core.List.{List, _++_, append-assoc}
 use Prim.Native.Nat.{ℕ, _+_, _-_, _≤_, min}
 use native.Mathlib.Omega.{arith}
 use lib.ListN.{length, take, drop, take-append-drop}
-use lib.Seq.{take-take, drop-drop, drop-append-le}
-use Rattle.shell.specs.Fills.{endOf}
-use Rattle.shell.specs.Transfers.{leftOf, restOf}
+use lib.Seq.{sets, length-sets, take-at, take-take, drop-drop, drop-append-le}
+use Rattle.answers.proofs.Stores.{sets-front}
+use Rattle.shell.specs.Fills.{endOf, ReadOn}
+use Rattle.shell.specs.Transfers.{leftOf, restOf, readOf, Brought}
+use Rattle.shell.specs.declared.reading.Input.{Input}
 use Rattle.shell.specs.declared.transfers.Transfer.{Transfer}
 use Rattle.shell.proofs.Lefts.{part-is, left-long}
 
@@ -49,3 +51,27 @@ module _ (t : Transfer) (piece : List ℕ) (inside : t .from ≤ min (t .input .
       ∙ sym (append-assoc (drop k left) extra unread)
       ∙ ap (λ (l : List ℕ). l ++ unread)
       (sym (drop-append-le k left extra h) ∙ ap (drop k) split ∙ drop-drop k (t .from) (take (endOf (t .input)) piece) ∙ ap (λ (n : ℕ). drop n (take (endOf (t .input)) piece)) place)
+
+-- ---- a read after what is left
+
+module _ (t : Transfer) (piece : List ℕ) {n : ℕ} {moved next : List ℕ} {r : Input} (k : n ≡ length (leftOf t piece)) (m : moved ≡ sets piece 0 (leftOf t piece))
+    (e : ReadOn n moved r next) (long : length next ≡ length moved) where
+  pub reads-on : Brought t piece (readOf t r) next
+  reads-on =
+      let same : length moved ≡ length piece = ap length m ∙ length-sets piece 0 (leftOf t piece) in
+      let short : length (leftOf t piece) ≤ length piece = rw (left-long t piece) (omega arith) in
+      let kept : take n moved ≡ leftOf t piece =
+      ap (take n) (m ∙ sets-front piece (leftOf t piece) short) ∙ take-at (leftOf t piece) (drop (length (leftOf t piece)) piece) n (sym k)
+      in
+      record {
+        filled =
+            record {
+              after = omega (arith, e .filled .after);
+              inside = omega (arith, e .filled .inside);
+              full = λ a. omega (arith, e .filled .full a);
+              short = λ a. omega (arith, e .filled .short a);
+            };
+        front = ap (λ (i : ℕ). take i next) (sym k) ∙ e .front ∙ kept;
+        long = long ∙ same;
+        other = refl;
+      }

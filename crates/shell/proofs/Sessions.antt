@@ -3,7 +3,7 @@ use mathlib.Core.Path.{_≡_, refl, sym, ap, subst, _∙_}
 use mathlib.Core.Logic.{_⊎_, inl, inr, ⊎-elim}
 use mathlib.Core.Bool.{Bool, true, false, cond, _&&_}
 use mathlib.Core.List.{List, [], _++_, append-nil}
-use Prim.Native.Nat.{ℕ, _+_, _-_, _%_, _≤_, _<_, min}
+use Prim.Native.Nat.{ℕ, _+_, _-_, _%_, _≤_, _<_}
 use native.Mathlib.Omega.{arith}
 use borrow.Author.Tests.{leb-false, lt-ltb}
 use lib.Dec.{leb, ltb}
@@ -24,38 +24,33 @@ use Rattle.shell.specs.declared.reading.Ahead.the-variants.{More, End, F
 use Rattle.shell.specs.declared.reading.Input.{Input}
 use Rattle.shell.specs.declared.transfers.Transfer.{Transfer}
 use Rattle.shell.proofs.Asked.{none-of, take-asks, read-asks, finish-asks}
+use Rattle.shell.proofs.Ends.{unread-none, end-short}
 use Rattle.shell.proofs.Lefts.{left-long}
 use Rattle.shell.proofs.Rests.{rest-splits, rest-after}
 
 -- ---- the turns
 
--- how a main stands between two turns: of a piece that is not the last, and before a failed read, whole blocks are left
+-- how a main stands between two turns: whole blocks are taken of what was read
 pub record Stands {H : Type 0} (m : Machine H) (h : H) (t : Transfer) (piece unread : List ℕ) : Type 0 where
   pub going : t .going ≡ m .going h
-  pub inside : t .from ≤ min (t .input .bytes) (length piece)
-  pub more : t .input .ahead ≡ More → length (leftOf t piece) % 512 ≡ 0
-  pub failed : t .input .ahead ≡ Failure → length (leftOf t piece) % 512 ≡ 0
+  pub inside : t .from ≤ t .input .bytes
+  pub fits : t .input .bytes ≤ length piece
+  pub whole : t .from % 512 ≡ 0
   pub last : isMore (t .input .ahead) ≡ false → unread ≡ []
 
-none : (l : List ℕ) → length l ≡ 0 → l ≡ []
-none l e = sym (take-all 0 l (omega arith))
-
--- at most one byte more is left at the end
-rest-long : (t : Transfer) (piece : List ℕ) → length (restOf t piece) ≤ length (leftOf t piece) + cond (isFailure (t .input .ahead)) 1 0
-rest-long t piece = let long = left-long t piece in simp (length-drop, length-take) (omega arith)
-
 -- what the end gets is no whole block
-last-short : (a : Ahead) (left rest : ℕ) → isMore a ≡ false → left < 512 → (a ≡ Failure → left % 512 ≡ 0) → rest ≤ left + cond (isFailure a) 1 0 → rest < 512
-last-short More left rest e h f r = none-of (cc)
-last-short End left rest e h f r = omega arith
-last-short Failure left rest e h f r = let whole = f refl in omega arith
+last-short : (t : Transfer) (piece : List ℕ) → t .from % 512 ≡ 0 → t .from ≤ t .input .bytes → t .input .bytes ≤ length piece → length (leftOf t piece) < 512 → length (restOf t piece) < 512
+last-short t piece w h k e =
+    let long = left-long t piece in
+    let most : length (restOf t piece) ≤ endOf (t .input) - t .from = simp (length-drop, length-take) (omega arith) in
+    end-short (t .input) (t .from) (length (restOf t piece)) w h (omega arith) most
 
--- nothing is left before a read
-all-read : (t : Transfer) (piece unread : List ℕ) → t .input .ahead ≡ More → length (leftOf t piece) < 512 → length (leftOf t piece) % 512 ≡ 0 → unread ≡ restOf t piece ++ unread
-all-read t piece unread a h w =
-    let long = rest-long t piece in
-    let byte : _≡_ {A = ℕ} (cond (isFailure (t .input .ahead)) 1 0) 0 = rw a in
-    ap (λ (l : List ℕ). l ++ unread) (sym (none (restOf t piece) (omega arith)))
+-- before a read all is left that was read
+all-read : (t : Transfer) (piece unread : List ℕ) → t .input .ahead ≡ More → leftOf t piece ++ unread ≡ restOf t piece ++ unread
+all-read t piece unread a =
+    let byte = unread-none (t .input) (rw a) in
+    let same : t .input .bytes ≡ endOf (t .input) = omega arith in
+    ap (λ (k : ℕ). drop (t .from) (take k piece) ++ unread) same
 
 module _ {H : Type 0} (m : Machine H) (ended : H → Ended) (s : Sound m ended) where
   -- after a refusal nothing is taken or read any more
@@ -76,14 +71,13 @@ module _ {H : Type 0} (m : Machine H) (ended : H → Ended) (s : Sound m ended) 
       let g = m .blocks h (leftOf t piece) room in
       let r = takenOf t (ended (g .state)) (g .taken) piece in
       let long = left-long t piece in
-      let after = left-long r piece in
       let within = s .inside h (leftOf t piece) room in
       let whole = s .whole h (leftOf t piece) room in
       record {
         going = goes (isGoing (ended (g .state))) refl;
-        inside = omega (arith, st .inside);
-        more = λ a. let w = st .more a in omega arith;
-        failed = λ a. let w = st .failed a in omega arith;
+        inside = omega (arith, st .inside, st .fits);
+        fits = st .fits;
+        whole = omega (arith, st .whole);
         last = st .last;
       }
     where
@@ -93,18 +87,10 @@ module _ {H : Type 0} (m : Machine H) (ended : H → Ended) (s : Sound m ended) 
       goes false e = rw e (sym (s .going (m .blocks h (leftOf t piece) room .state) ∙ e))
 
   -- after a read
-  read-stands : (h : H) (t : Transfer) (piece next unread after : List ℕ) (input : Input) → Reads input next unread after → Stands m h t piece unread
-      → Stands m h (readOf t input) next after
-  read-stands h t piece next unread after input r st =
-      let long = left-long (readOf t input) next in
-      let f = r .filled in
-      record {
-        going = st .going;
-        inside = omega arith;
-        more = λ a. let full = f .full a in omega arith;
-        failed = λ a. let w = f .blocks a in omega (arith, f .inside);
-        last = r .last;
-      }
+  read-stands : (h : H) (t : Transfer) (piece next unread after : List ℕ) (enough : ℕ) (input : Input) → Reads enough (leftOf t piece) input next unread after
+      → Stands m h t piece unread → Stands m h (readOf t input) next after
+  read-stands h t piece next unread after enough input r st =
+      record { going = st .going; inside = omega arith; fits = r .filled .inside; whole = refl; last = r .last }
 
   turns-rest : {h : H} {t : Transfer} {piece unread : List ℕ} {q : Printed} → Stands m h t piece unread → Turns m ended h t piece unread q → Rest m h (restOf t piece ++ unread) q
   unfolding turnOf
@@ -112,23 +98,21 @@ module _ {H : Type 0} (m : Machine H) (ended : H → Ended) (s : Sound m ended) 
       let k = m .blocks h (leftOf t piece) room .taken in
       let behind = drop (length (leftOf t piece)) (restOf t piece) ++ unread in
       let ih = turns-rest (taken-stands h t piece unread room out err r st) rest in
-      subst (λ (l : List ℕ). Rest m h l (both (m .blocks h (leftOf t piece) room .printed) q)) (rest-splits t piece (st .inside) unread)
+      subst (λ (l : List ℕ). Rest m h l (both (m .blocks h (leftOf t piece) room .printed) q)) (rest-splits t piece (omega (arith, st .inside, st .fits)) unread)
       (more h (leftOf t piece) behind room q
-      (subst (λ (l : List ℕ). Rest m (m .blocks h (leftOf t piece) room .state) l q) (sym (rest-after t piece (st .inside) k unread (s .inside h (leftOf t piece) room))) ih))
+      (subst (λ (l : List ℕ). Rest m (m .blocks h (leftOf t piece) room .state) l q) (sym (rest-after t piece (omega (arith, st .inside, st .fits)) k unread (s .inside h (leftOf t piece) room))) ih))
   turns-rest st (print-turn h t piece unread out err q e rest) =
-      turns-rest (record { going = st .going; inside = st .inside; more = st .more; failed = st .failed; last = st .last }) rest
+      turns-rest (record { going = st .going; inside = st .inside; fits = st .fits; whole = st .whole; last = st .last }) rest
   turns-rest st (read-turn h t piece next unread after input q e r rest) =
       let asked = read-asks (t .out .failed) (isDue t) (t .going) (leb 512 (length (leftOf t piece))) (t .input .ahead) e in
-      let short = leb-false 512 (length (leftOf t piece)) (asked .1) in
-      subst (λ (l : List ℕ). Rest m h l q) (sym (r .bytes) ∙ all-read t piece unread (asked .2) short (st .more (asked .2)))
-      (turns-rest (read-stands h t piece next unread after input r st) rest)
+      subst (λ (l : List ℕ). Rest m h l q) (sym (r .bytes) ∙ all-read t piece unread (asked .2)) (turns-rest (read-stands h t piece next unread after _ input r st) rest)
   turns-rest st (finish-turn h t piece unread e) =
       ⊎-elim
       (λ (g : t .going ≡ false). over h (restOf t piece ++ unread) (restOf t piece) (sym (st .going) ∙ g))
       (λ (k : (leb 512 (length (leftOf t piece)) ≡ false) × (isMore (t .input .ahead) ≡ false)).
       subst (λ (l : List ℕ). Rest m h l (m .end h (restOf t piece))) (sym (append-nil (restOf t piece)) ∙ ap (λ (u : List ℕ). restOf t piece ++ u) (sym (st .last (k .1))))
       (done h (restOf t piece)
-      (last-short (t .input .ahead) (length (leftOf t piece)) (length (restOf t piece)) (k .1) (leb-false 512 (length (leftOf t piece)) (k .0)) (st .failed) (rest-long t piece))))
+      (last-short t piece (st .whole) (st .inside) (st .fits) (leb-false 512 (length (leftOf t piece)) (k .0)))))
       (finish-asks (t .out .failed) (isDue t) (t .going) (leb 512 (length (leftOf t piece))) (t .input .ahead) e)
 
 -- ---- block 0
@@ -153,52 +137,50 @@ module _ (front unread trace : List ℕ) (e : trace ≡ front ++ unread) (h : (l
       h
 
 -- a whole block was read, or nothing comes after what was read
-zeroth-read : (a : Ahead) (input : Input) (kept unread : List ℕ) → input .ahead ≡ a → length kept ≡ 512 → Filled (length kept) input → (isMore (input .ahead) ≡ false → unread ≡ [])
+zeroth-read : (a : Ahead) (input : Input) (kept unread : List ℕ) → input .ahead ≡ a → length kept ≡ 512 → Filled 0 512 (length kept) input → (isMore (input .ahead) ≡ false → unread ≡ [])
     → (length (take (endOf input) kept) ≡ 512) ⊎ ((length (take (endOf input) kept) ≤ 512) × (unread ≡ []))
 zeroth-read More input kept unread e n f last =
-    let full = f .full e in
-    let byte : _≡_ {A = ℕ} (cond (isFailure (input .ahead)) 1 0) 0 = rw e in
-    inl (rw length-take (omega arith))
+    let full = f .full (rw e) in
+    let byte = unread-none input (rw e) in
+    inl (rw length-take (omega (arith, f .inside)))
 zeroth-read End input kept unread e n f last = inr (rw length-take (omega arith), last (rw e))
 zeroth-read Failure input kept unread e n f last = inr (rw length-take (omega arith), last (rw e))
 
 -- the calls after block 0: where its read has failed, it is not whole, and so refused
-module _ {H : Type 0} (m : Machine H) (ended : H → Ended) (s : Sound m ended) (zeroth : Input) (kept piece unread : List ℕ) (out err : Output)
-    (n : length kept ≡ 512) {trace : List ℕ} (r : Reads zeroth kept trace unread) where
+module _ {H : Type 0} (m : Machine H) (ended : H → Ended) (s : Sound m ended) (zeroth : Input) (prompt : Bool) (kept piece unread : List ℕ) (out err : Output)
+    (n : length kept ≡ 512) {trace : List ℕ} (r : Reads 512 [] zeroth kept trace unread) where
   abbrev first : H
   first = m .begin (take (endOf zeroth) kept) .state
 
   abbrev start : Transfer
-  start = putOf (begunOf zeroth (ended first)) out err
+  start = putOf (begunOf zeroth (ended first) prompt) out err
 
   begun-rest : (a : Ahead) → zeroth .ahead ≡ a → {q : Printed} → Turns m ended first start piece unread q → Rest m first unread q
   begun-rest a e {q} turns = go a e
     where
       stands : Stands m first start piece unread
-      stands = record { going = sym (s .going first); inside = omega arith; more = λ a. refl; failed = λ a. refl; last = r .last }
+      stands = record { going = sym (s .going first); inside = omega arith; fits = omega arith; whole = refl; last = r .last }
 
       unfailed : isFailure (zeroth .ahead) ≡ false → Rest m first unread q
       unfailed f =
-          let byte : _≡_ {A = ℕ} (cond (isFailure (zeroth .ahead)) 1 0) 0 = rw f in
+          let byte = unread-none (start .input) f in
           subst (λ (k : ℕ). Rest m first (take (0 + k) piece ++ unread) q) byte (turns-rest m ended s stands turns)
 
       go : (a : Ahead) → zeroth .ahead ≡ a → Rest m first unread q
       go More e = unfailed (rw e)
       go End e = unfailed (rw e)
       go Failure e =
-          let whole = r .filled .blocks e in
-          let room = r .filled .room e in
-          let byte : _≡_ {A = ℕ} (cond (isFailure (zeroth .ahead)) 1 0) 1 = rw e in
-          let short : length (take (endOf zeroth) kept) < 512 = rw length-take (omega arith) in
+          let few = r .filled .short (rw e) in
+          let short : length (take (endOf zeroth) kept) < 512 = end-short zeroth 0 (length (take (endOf zeroth) kept)) refl (omega arith) (omega arith) (rw length-take (omega arith)) in
           let refused = s .short (take (endOf zeroth) kept) short in
           turns-over m ended s (sym (s .going first) ∙ refused) refused unread turns
 
 pub main-is-session : MainIsSession
-main-is-session H m ended trace q s (begun zeroth kept piece unread out err q′ n r turns) =
+main-is-session H m ended trace q s (begun zeroth prompt kept piece unread out err q′ n r turns) =
     let front = take (endOf zeroth) kept in
     let read = zeroth-read (zeroth .ahead) zeroth kept unread refl n (r .filled) (r .last) in
     let is = zeroth-is front unread trace (r .bytes) read in
-    let rest = begun-rest m ended s zeroth kept piece unread out err n r (zeroth .ahead) refl turns in
+    let rest = begun-rest m ended s zeroth prompt kept piece unread out err n r (zeroth .ahead) refl turns in
     subst (λ (b : List ℕ). Session m trace (both (m .begin b .printed) q′)) is
     (began q′
     (subst (λ (b : List ℕ). Rest m (m .begin b .state) (drop 512 trace) q′) (sym is)

@@ -1,9 +1,9 @@
--- The theorems on a main are applied to values: a trace of two blocks, and an empty one. Assumes nothing.
+-- The theorems on a main are applied to values: a trace of two blocks, the second of which arrives in two parts, and an empty one. Assumes nothing.
 use mathlib.Core.Path.{_≡_, refl}
 use mathlib.Core.Bool.{Bool, true, false}
 use mathlib.Core.List.{List, [], _++_}
 use mathlib.Core.Option.{Option, none, some}
-use Prim.Native.Nat.{ℕ, _-_, _%_}
+use Prim.Native.Nat.{ℕ, _-_, _%_, _<_}
 use native.Mathlib.Omega.{arith}
 use borrow.Author.Tests.{lt-leb}
 use lib.Dec.{leb}
@@ -16,8 +16,9 @@ use Rattle.walk.specs.Machines.{Machine, Standing, tookBy, Gives, Follows}
 use Rattle.walk.specs.Programs.{nothing, Turn, Program}
 use Rattle.walk.specs.declared.Ended.{Ended}
 use Rattle.walk.specs.declared.Ended.the-variants.{Going, Refused}
+use Rattle.shell.specs.Fills.{unreadOf}
 use Rattle.shell.specs.Kept.{emptyOf}
-use Rattle.shell.specs.Transfers.{begunOf, readOf, takenOf}
+use Rattle.shell.specs.Transfers.{begunOf, readOf, takenOf, readyOf}
 use Rattle.shell.specs.Turns.{isDue, turnOf}
 use Rattle.shell.specs.Sessions.{Reads, take-turn, read-turn, finish-turn, Main, begun, Sound}
 use Rattle.shell.specs.declared.reading.Ahead.the-variants.{More, End}
@@ -35,18 +36,42 @@ full = record { bytes = 512; ahead = More }
 abbrev empty : Input
 empty = record { bytes = 0; ahead = End }
 
-full-reads : (after : List ℕ) → Reads full block (block ++ after) after
-full-reads after =
+-- the first 100 bytes of a block
+abbrev part : Input
+part = record { bytes = 100; ahead = More }
+
+zeroth-reads : Reads 512 [] full block (block ++ block) block
+unfolding unreadOf
+zeroth-reads =
     record {
-      filled = record { inside = omega arith; full = λ m. refl; blocks = λ f. none-of (cc); room = λ f. none-of (cc) };
+      filled = record { after = omega arith; inside = omega arith; full = λ m. omega arith; short = λ f. none-of (cc) };
       bytes = refl;
       last = λ e. none-of (cc);
     }
 
-empty-reads : Reads empty block [] []
-empty-reads =
+part-reads : Reads 1 [] part block block (replicate 412 0)
+unfolding unreadOf
+part-reads =
     record {
-      filled = record { inside = omega arith; full = λ m. none-of (cc); blocks = λ f. none-of (cc); room = λ f. none-of (cc) };
+      filled = record { after = omega arith; inside = omega arith; full = λ m. omega arith; short = λ f. none-of (cc) };
+      bytes = refl;
+      last = λ e. none-of (cc);
+    }
+
+other-reads : Reads 101 (replicate 100 0) full block (replicate 412 0) []
+unfolding unreadOf
+other-reads =
+    record {
+      filled = record { after = omega arith; inside = omega arith; full = λ m. omega arith; short = λ f. none-of (cc) };
+      bytes = refl;
+      last = λ e. none-of (cc);
+    }
+
+empty-reads : (enough : ℕ) → 0 < enough → Reads enough [] empty block [] []
+unfolding unreadOf
+empty-reads enough h =
+    record {
+      filled = record { after = omega arith; inside = omega arith; full = λ m. none-of (cc); short = λ f. h };
       bytes = refl;
       last = λ e. refl;
     }
@@ -75,18 +100,22 @@ taking-sound = record { going = goes; short = λ b h. lt-leb 512 (length b) h; w
 
 -- block 0 and a block of a piece, and then the end
 abbrev start : Transfer
-start = begunOf full Going
+start = begunOf full Going true
+
+abbrev begins : Transfer
+begins = readOf start part
 
 abbrev last : Transfer
-last = takenOf (readOf start full) Going 512 block
+last = takenOf (readOf begins full) Going 512 block
 
 taking-main : Main taking endedBy (block ++ block) nothing
-unfolding turnOf isDue
+unfolding turnOf isDue readyOf unreadOf
 taking-main =
-    begun full block block block (emptyOf (pos 1)) (emptyOf (pos 2)) nothing refl (full-reads block)
-    (read-turn true start block block block [] full nothing refl (full-reads [])
-    (take-turn true (readOf start full) block [] 0 (emptyOf (pos 1)) (emptyOf (pos 2)) nothing refl (λ e. omega arith)
-    (read-turn true last block block [] [] empty nothing refl empty-reads (finish-turn true (readOf last empty) block [] refl))))
+    begun full true block block block (emptyOf (pos 1)) (emptyOf (pos 2)) nothing refl zeroth-reads
+    (read-turn true start block block block (replicate 412 0) part nothing refl part-reads
+    (read-turn true begins block block (replicate 412 0) [] full nothing refl other-reads
+    (take-turn true (readOf begins full) block [] 0 (emptyOf (pos 1)) (emptyOf (pos 2)) nothing refl (λ e. omega arith)
+    (read-turn true last block block [] [] empty nothing refl (empty-reads 1 (omega arith)) (finish-turn true (readOf last empty) block [] refl)))))
 
 -- ---- calls that refuse every block 0, and the program that they follow
 
@@ -131,9 +160,9 @@ refusing-sound : Sound refusing stopped
 refusing-sound = record { going = λ h. refl; short = λ b h. refl; whole = λ h piece room. refl; inside = λ h piece room. omega arith }
 
 refusing-main : Main refusing stopped [] nothing
-unfolding turnOf isDue
+unfolding turnOf isDue readyOf unreadOf
 refusing-main =
-    begun empty block [] [] (emptyOf (pos 1)) (emptyOf (pos 2)) nothing refl empty-reads (finish-turn tt (begunOf empty (Refused Incomplete)) [] [] refl)
+    begun empty false block [] [] (emptyOf (pos 1)) (emptyOf (pos 2)) nothing refl (empty-reads 512 (omega arith)) (finish-turn tt (begunOf empty (Refused Incomplete) false) [] [] refl)
 
 used : Unit {0}
 used =

@@ -1,8 +1,8 @@
 -- The turns of a main, with the bytes that the reads bring: they make a program's calls as `walk` asks for them. Assumes nothing.
 use mathlib.Core.Path.{_≡_}
-use mathlib.Core.Bool.{true, false}
+use mathlib.Core.Bool.{Bool, true, false}
 use mathlib.Core.List.{List, [], _++_}
-use Prim.Native.Nat.{ℕ, _*_, _%_, _^_, _≤_, _<_}
+use Prim.Native.Nat.{ℕ, _+_, _*_, _%_, _^_, _≤_, _<_, min}
 use lib.ListN.{length, take}
 use Rattle.format.specs.Blocks.{blockBytes}
 use Rattle.walk.specs.Blocks.{blocksOf}
@@ -19,11 +19,11 @@ use Rattle.shell.specs.declared.reading.Input.{Input}
 use Rattle.shell.specs.declared.transfers.Transfer.{Transfer}
 use Rattle.shell.specs.declared.turns.Turn.the-variants.{Take, Print, Read, Finish}
 
--- a buffer was filled with the first of the unread bytes, and others are unread after it: none unless more may come. A trace of which a read fails counts as
--- the whole blocks before that and one byte more
-pub record Reads (input : Input) (buffer unread after : List ℕ) : Type 0 where
-  pub filled : Filled (length buffer) input
-  pub bytes : unread ≡ take (endOf input) buffer ++ after
+-- what was left and the first of the unread bytes stand in a buffer, and others are unread after them: none unless more may come. A trace of which a read
+-- fails counts as the bytes before that, and one byte more if they are whole blocks
+pub record Reads (enough : ℕ) (left : List ℕ) (input : Input) (buffer unread after : List ℕ) : Type 0 where
+  pub filled : Filled (length left) enough (length buffer) input
+  pub bytes : left ++ unread ≡ take (endOf input) buffer ++ after
   pub last : isMore (input .ahead) ≡ false → after ≡ []
 
 -- what the calls print from a state on, with the piece that was read and the bytes that are unread: each turn as `turnOf` says, whatever is kept and printed
@@ -37,14 +37,15 @@ pub data Turns {H : Type 0} (m : Machine H) (ended : H → Ended) : H → Transf
   print-turn : (h : H) (t : Transfer) (piece unread : List ℕ) (out err : Output) (q : Printed) → turnOf t piece ≡ Print
       → Turns m ended h (putOf t out err) piece unread q → Turns m ended h t piece unread q
   read-turn : (h : H) (t : Transfer) (piece next unread after : List ℕ) (input : Input) (q : Printed) → turnOf t piece ≡ Read
-      → Reads input next unread after → Turns m ended h (readOf t input) next after q → Turns m ended h t piece unread q
+      → Reads (min (length (leftOf t piece) + 1) (length next)) (leftOf t piece) input next unread after → Turns m ended h (readOf t input) next after q → Turns m ended h t piece unread q
   finish-turn : (h : H) (t : Transfer) (piece unread : List ℕ) → turnOf t piece ≡ Finish → Turns m ended h t piece unread (m .end h (restOf t piece))
 
--- a main over a trace: block 0 is read into a buffer of its own, and the turns follow
+-- a main over a trace: block 0 is read into a buffer of its own, and the turns follow, with output prompt or not
 pub data Main {H : Type 0} (m : Machine H) (ended : H → Ended) (trace : List ℕ) : Printed → Type 0 where
-  begun : (zeroth : Input) (kept piece unread : List ℕ) (out err : Output) (q : Printed) → length kept ≡ blockBytes → Reads zeroth kept trace unread
+  begun : (zeroth : Input) (prompt : Bool) (kept piece unread : List ℕ) (out err : Output) (q : Printed) → length kept ≡ blockBytes
+      → Reads blockBytes [] zeroth kept trace unread
       → Turns m ended (m .begin (take (endOf zeroth) kept) .state)
-      (putOf (begunOf zeroth (ended (m .begin (take (endOf zeroth) kept) .state))) out err) piece unread q
+      (putOf (begunOf zeroth (ended (m .begin (take (endOf zeroth) kept) .state)) prompt) out err) piece unread q
       → Main m ended trace (both (m .begin (take (endOf zeroth) kept) .printed) q)
 
 -- what the law asks of the calls: a state says once whether a block was refused; a block 0 that is not whole is; and `blocks` takes whole blocks of its piece

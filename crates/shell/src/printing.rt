@@ -1,14 +1,14 @@
 // Lines kept in a lent buffer and printed in large pieces, on standard output or standard error.
 use crate::clipped::least;
 use crate::failures::tell;
+use crate::moving::move_front;
 use crate::writing::Writing;
 use crate::writing::write_all;
 use answers::Written;
 use libc::STDOUT_FILENO;
 ghost use mathlib.Core.Path.{_≡_};
-ghost use Prim.Native.Nat.{_-_, _≤_, min};
-ghost use lib.ListN.{length, take, drop};
-ghost use lib.Seq.{sets};
+ghost use Prim.Native.Nat.{min};
+ghost use lib.ListN.{length};
 ghost use Rattle.answers.specs.Writers.{lengthIn};
 ghost use Rattle.shell.specs.Kept.{emptyOf, keptOf, dueOf, outputAfter, Printed, Moved};
 ghost use Rattle.shell.specs.Writes.{isTold};
@@ -20,19 +20,6 @@ pub struct Output {
     pub used: usize,
     pub wrote: usize,
     pub failed: bool,
-}
-
-// Moves the bytes from a place to another to the front of the buffer.
-fn move_front(buffer: &mut [u8], from: usize, to: usize)
-    requires { ⌜ (from ≤ to) × (to ≤ length (now buffer)) ⌝ }
-    ensures { λ _. ⌜ now (buffer .exit) ≡ sets (now (buffer .entry)) 0 (take (to - from) (drop from (now (buffer .entry)))) ⌝ }
-{
-    let n = to - from;
-    let mut i = 0;
-    while i < n {
-        buffer[i] = buffer[from + i];
-        i += 1;
-    }
 }
 
 impl Output {

@@ -1,8 +1,9 @@
 // How far a program over a trace has come: what it has read and not taken yet, and what it keeps for its two outputs.
 use crate::clipped::least;
+use crate::moving::move_front;
 use crate::printing::Output;
 use crate::reading::Input;
-use crate::reading::fill;
+use crate::reading::read_on;
 use answers::Written;
 use format::block::BLOCK;
 use libc::STDERR_FILENO;
@@ -10,20 +11,23 @@ use libc::STDOUT_FILENO;
 use walk::Ended;
 ghost use mathlib.Core.Path.{_≡_};
 ghost use lib.ListN.{length};
+ghost use lib.Seq.{sets};
 ghost use Rattle.answers.specs.Writers.{lengthIn};
 ghost use Rattle.walk.specs.Endings.{isGoing};
-ghost use Rattle.shell.specs.Fills.{Filled};
 ghost use Rattle.shell.specs.Kept.{keptOf};
-ghost use Rattle.shell.specs.Transfers.{leftOf, restOf, wholeOf, begunOf, readOf, takenOf, putOf, Flushed};
+ghost use Rattle.shell.specs.Transfers.{leftOf, restOf, readyOf, begunOf, takenOf, putOf, Brought, Flushed};
 
-// Output is printed in pieces of 256 KiB. Each begins at a multiple of that, where the system has large pieces of the file's pages to work with.
+// Output that is not prompt is printed in pieces of 256 KiB. Each begins at a multiple of that, where the system has large pieces of the file's pages to work
+// with.
 pub const PRINTED: usize = 512 * BLOCK;
 
-// What is read, and from where on it is not taken yet; whether the run goes on; and what is kept for standard output and for standard error.
+// What is read, and from where on it is not taken yet; whether the run goes on; whether output is prompt, so that all that is kept is printed before more is
+// read; and what is kept for standard output and for standard error.
 pub struct Transfer {
     pub input: Input,
     pub from: usize,
     pub going: bool,
+    pub prompt: bool,
     pub out: Output,
     pub err: Output,
 }
@@ -38,17 +42,10 @@ fn goes_on(ended: Ended) -> bool
     }
 }
 
-// How many of so many bytes fill whole pieces of output.
-fn whole_pieces(used: usize) -> usize
-    ensures { λ r. ⌜ r ≡ wholeOf used ⌝ }
-{
-    used - used % PRINTED
-}
-
 impl Transfer {
     // After block 0, which stood in a buffer of its own.
-    pub fn begun(zeroth: Input, ended: Ended) -> Transfer
-        ensures { λ r. ⌜ r ≡ begunOf zeroth ended ⌝ }
+    pub fn begun(zeroth: Input, ended: Ended, prompt: bool) -> Transfer
+        ensures { λ r. ⌜ r ≡ begunOf zeroth ended prompt ⌝ }
     {
         let ahead = zeroth.ahead;
         let input = Input { bytes: 0, ahead };
@@ -56,6 +53,7 @@ impl Transfer {
             input,
             from: 0,
             going: goes_on(ended),
+            prompt,
             out: Output::new(STDOUT_FILENO),
             err: Output::new(STDERR_FILENO),
         }
@@ -71,7 +69,7 @@ impl Transfer {
         &piece[from..to]
     }
 
-    // What is left at the end: after a failed read one byte more.
+    // What is left at the end: if a read has failed after whole blocks one byte more.
     pub fn rest(self, piece: &[u8]) -> &[u8]
         ensures { λ r. ⌜ now r ≡ restOf self (now (piece .entry)) ⌝ }
     {
@@ -81,12 +79,24 @@ impl Transfer {
         &piece[from..end]
     }
 
-    // Reads the next piece.
+    // Moves what is left to the front of the piece, and answers how many bytes that is.
+    fn kept(self, piece: &mut [u8]) -> usize
+        ensures { λ r. ⌜ (r ≡ length (leftOf self (now (piece .entry)))) × (now (piece .exit) ≡ sets (now (piece .entry)) 0 (leftOf self (now (piece .entry)))) ⌝ }
+    {
+        let input = self.input;
+        let end = least(input.bytes, piece.len());
+        let start = least(self.from, end);
+        move_front(piece, start, end);
+        end - start
+    }
+
+    // Reads once, after what is left, which is moved to the front of the piece: so a part of a block waits there for the rest of it.
     pub fn with_read(self, piece: &mut [u8]) -> Transfer
-        ensures { λ r. ⌜ Filled (length (now (piece .entry))) (r .input) × (r ≡ readOf self (r .input)) ⌝ }
+        ensures { λ r. ⌜ Brought self (now (piece .entry)) r (now (piece .exit)) ⌝ }
     {
         let mut next = self;
-        next.input = fill(piece);
+        let kept = self.kept(piece);
+        next.input = read_on(piece, kept);
         next.from = 0;
         next
     }
@@ -125,15 +135,25 @@ impl Transfer {
         next
     }
 
-    // Prints all whole pieces that are kept, so that less than one is left and what the next call writes has room.
+    // How many of so many bytes that are kept are printed now: all if output is prompt, else those that fill whole pieces.
+    pub fn ready(self, used: usize) -> usize
+        ensures { λ r. ⌜ r ≡ readyOf self used ⌝ }
+    {
+        if self.prompt {
+            return used;
+        }
+        used - used % PRINTED
+    }
+
+    // Prints all that is kept, or all whole pieces of it, so that less than one is left and what the next call writes has room.
     pub fn with_printed(self, program: &[u8], lines: &mut [u8], errors: &mut [u8]) -> Transfer
-        ensures { λ r. ⌜ Flushed (wholeOf (self .out .used)) (wholeOf (self .err .used)) self (now (lines .entry)) (now (errors .entry)) r (now (lines .exit)) (now (errors .exit)) ⌝ }
+        ensures { λ r. ⌜ Flushed (readyOf self (self .out .used)) (readyOf self (self .err .used)) self (now (lines .entry)) (now (errors .entry)) r (now (lines .exit)) (now (errors .exit)) ⌝ }
     {
         let mut next = self;
         let out = self.out;
         let err = self.err;
-        next.err = err.with_printed(whole_pieces(err.used), program, errors);
-        next.out = out.with_printed(whole_pieces(out.used), program, lines);
+        next.err = err.with_printed(self.ready(err.used), program, errors);
+        next.out = out.with_printed(self.ready(out.used), program, lines);
         next
     }
 

@@ -1,13 +1,12 @@
 // What a program over a trace does next: all that a main decides. A main reads, calls, prints what it was given, and goes on or ends as it is told here.
 use crate::reading::Ahead;
 use crate::reading::Input;
-use crate::transfers::PRINTED;
 use crate::transfers::Transfer;
 use format::block::BLOCK;
 ghost use mathlib.Core.Path.{_≡_};
 ghost use Rattle.shell.specs.Turns.{isDue, lastOf, turnOf};
 
-// What comes next: whole blocks are taken; whole pieces of output are printed; a piece is read; the run is ended, and all that is kept is printed; or nothing.
+// What comes next: whole blocks are taken; output is printed; more is read; the run is ended, and all that is kept is printed; or nothing.
 pub enum Turn {
     Take,
     Print,
@@ -16,7 +15,7 @@ pub enum Turn {
     Stop,
 }
 
-// Whether whole pieces of output are printed now. None is after a failed read: printing could fail too, and put its error in the place of the read's.
+// Whether output is printed now. None is after a failed read: printing could fail too, and put its error in the place of the read's.
 fn is_due(t: Transfer) -> bool
     ensures { λ r. ⌜ r ≡ isDue t ⌝ }
 {
@@ -26,10 +25,10 @@ fn is_due(t: Transfer) -> bool
     if input.has_failed() {
         return false;
     }
-    if PRINTED <= lines.used {
+    if 0 < t.ready(lines.used) {
         return true;
     }
-    PRINTED <= errors.used
+    0 < t.ready(errors.used)
 }
 
 // What comes next if no whole block is left: more is read, or the run is ended.

@@ -13,10 +13,10 @@ returns c =
     let out = c .before .before .with-printed2 in
     let err = c .before .before .before .before .before .before .before .with-printed in
     record {
-      out = subst (λ (n : ℕ). Moved n (a .self .out) (now (a .lines)) (out .result) (out .last .1 .1 .1 .0)) (c .before .before .before .before .whole-pieces2 .ensures) (out .ensures);
+      out = subst (λ (n : ℕ). Moved n (a .self .out) (now (a .lines)) (out .result) (out .last .1 .1 .1 .0)) (c .before .before .before .before .ready2 .ensures) (out .ensures);
       err =
           subst (λ (n : ℕ). Moved n (a .self .err) (now (a .errors)) (err .result) (err .last .1 .1 .1 .0))
-          (c .before .before .before .before .before .before .before .before .before .whole-pieces .ensures)
+          (c .before .before .before .before .before .before .before .before .before .ready .ensures)
           (err .ensures);
       other = refl;
     }

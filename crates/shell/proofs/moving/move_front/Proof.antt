@@ -1,4 +1,4 @@
--- `shell::printing::move_front` meets its contract. Assumes nothing.
+-- `shell::moving::move_front` meets its contract. Assumes nothing.
 use borrow.Author.Needs.{needs}
 use mathlib.Core.Path.{_≡_, refl, _∙_}
 use Prim.Native.Nat.{_-_, _≤_}
@@ -8,8 +8,8 @@ use lib.Seq.{sets, length-take-le}
 use denote.Ref.{now}
 use Rattle.answers.proofs.Stores.{sets-done}
 use Rattle.shell.proofs.Fronts.{front-same, front-turn}
-use Rattle.shell.proofs.printing.move_front.Statement.{statement}
-use Rattle.shell.proofs.printing.move_front.Tie as tie
+use Rattle.shell.proofs.moving.move_front.Statement.{statement}
+use Rattle.shell.proofs.moving.move_front.Tie as tie
 
 abbrev Inv-loop : tie.InvT-loop
 Inv-loop buffer₀ from to n i₀ buffer i =
