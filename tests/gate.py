@@ -35,11 +35,11 @@ class Tree:
             (self.top / name).parent.mkdir(parents=True, exist_ok=True)
             shutil.copy(TOP / name, self.top / name)
 
-    def run(self, name, path, **variables):
-        """The status of a script, and what it prints."""
+    def run(self, name, path, *words, **variables):
+        """The status of a script with some words, and what it prints."""
         environment = dict(variables, PATH=path, TMPDIR=str(self.bin.parent), RAN=str(self.bin.parent / "ran"))
         done = subprocess.run(
-            [self.top / name], env=environment, cwd="/", stdin=subprocess.DEVNULL, stdout=subprocess.PIPE, stderr=subprocess.STDOUT,
+            [self.top / name, *words], env=environment, cwd="/", stdin=subprocess.DEVNULL, stdout=subprocess.PIPE, stderr=subprocess.STDOUT,
             preexec_fn=lambda: [signal.signal(each, signal.SIG_IGN) for each in IGNORED],
         )
         return done.returncode, done.stdout.decode("utf-8", "replace")
@@ -65,6 +65,32 @@ def sums(name, work):
         script(path, f"echo '{words}'; exit {status}\n")
     status, text = tree.run(".ci/run", f"{tree.bin}:{os.environ['PATH']}")
     if text.splitlines()[-1] != wanted or (status == 0) != wanted.endswith(" 0 failed") or "None" in text:
+        yield f"it ends with {text.splitlines()[-1]!r} and status {status}"
+
+
+# What .ci/run is asked for, what must then be tried, in order, the status of the last part, and how its last line begins.
+SOME = {
+    "one that others need": (["low"], ["must-fail low high", "edits high", "run --of low high"], 0, "no verdict, 4 tries passed and 0 failed: only low high were tried"),
+    "one that none needs": (["lone"], ["must-fail lone", "run --of lone"], 0, "no verdict, 2 tries passed and 0 failed: only lone were tried"),
+    "a part that fails": (["high"], ["must-fail high", "edits high", "run --of high"], 1, "no verdict, 2 tries passed and 1 failed: only high were tried"),
+    "a name that is not listed": (["none"], [], 0, "none is not listed"),
+}
+
+
+def some(name, work):
+    """What is wrong with the gate of some crates."""
+    words, wanted, ended, begins = SOME[name]
+    tree = Tree(work, ".ci/run")
+    (tree.top / "crates.txt").write_text("low:\nhigh: low # both\nlone: std\n")
+    (tree.top / "crates/high/edits").mkdir(parents=True)
+    script(tree.bin / "rt", 'echo "$@" >>"$RAN"\n')
+    script(tree.top / "tests/edits", 'echo "edits $*" >>"$RAN"; echo 1 passed, 0 failed\n')
+    script(tree.top / "tests/run", f'echo "run $*" >>"$RAN"; echo {1 - ended} passed, {ended} failed; exit {ended}\n')
+    status, text = tree.run(".ci/run", f"{tree.bin}:{os.environ['PATH']}", *words)
+    ran = tree.bin.parent / "ran"
+    if (ran.read_text().splitlines() if ran.exists() else []) != wanted:
+        yield f"it tries {ran.read_text().splitlines()}"
+    if not text.splitlines()[-1].startswith(begins) or (status == 0) != (not ended and bool(wanted)):
         yield f"it ends with {text.splitlines()[-1]!r} and status {status}"
 
 
@@ -112,6 +138,23 @@ def failing(name, work):
         yield f"it ends with {text.splitlines()[-1]!r} and status {status}, and these do not fail: {sorted(wanted - failed)}"
     if (tree.bin.parent / "ran").exists():
         yield f"what an earlier run left was run: {(tree.bin.parent / 'ran').read_text().split()}"
+
+
+# The crates that are asked for, and the parts that must be run of them besides those over texts.
+OF = {"a program": ("ecnforms", OVER_PROGRAMS - {"installation", "tools"}), "the library": ("capi", OVER_LIBRARY), "neither": ("wide", set())}
+
+
+def parts_of(name, work):
+    """What is wrong where only the parts that see some crates are asked for: with no programs and no library, those fail."""
+    crate, wanted = OF[name]
+    tree = Tree(work, "tests/run")
+    script(tree.bin / "rt", RT)
+    for tool in TOOLS:
+        (tree.bin / tool).symlink_to(sys.executable if tool == "python3" else shutil.which(tool))
+    _, text = tree.run("tests/run", str(tree.bin), "--of", crate, CHECK="1", LIBRARY="1", BROKEN="")
+    failed = {line.split()[1] for line in text.splitlines() if line.startswith("tests: ") and " FAILED" in line}
+    if failed & (OVER_PROGRAMS | OVER_LIBRARY) != wanted:
+        yield f"these parts are run: {sorted(failed)}"
 
 
 # ---- tests/edits
@@ -171,7 +214,7 @@ def module(path, names, steps):
 
 def one_crate(work):
     """A tree with one crate and one edit, and what an earlier run left."""
-    tree = Tree(work, "tests/edits")
+    tree = Tree(work, "tests/edits", "tests/reach.py")
     files = {
         "crates.txt": "one:\n",
         "crates/one/src/lib.rt": "fn f() {\n    right\n}\n",
@@ -203,6 +246,96 @@ def tried(name, work):
         yield "a log of an earlier run is left"
 
 
+# Wrong definitions in copies beside the files themselves: what the check says of the copies, the definitions that the first wrong one has, and for each
+# of the two edits whether it is refused so, or tried alone.
+LAW = "crates/one/proofs/Law{}.antt:3:1: error: `law`: " + DIFFER.format("1", "2") + "\n"
+COPIED = {
+    "both refused": (LAW.format("Wrong0") + LAW.format("Wrong1"), ["def"], (True, True)),
+    "one of them": (LAW.format("Wrong1"), ["def"], (False, True)),
+    "an error of form": (LAW.format("Wrong0").replace("first differ", "has no field") + LAW.format("Wrong1"), ["def"], (False, True)),
+    "another name": (LAW.format("Wrong0") + LAW.format("Wrong1"), ["other"], (False, True)),
+    "a right copy that is not proved": (LAW.format("Right0") + LAW.format("Wrong0") + LAW.format("Wrong1"), ["def"], (False, False)),
+    "an error of no copy": (LAW.format("") + LAW.format("Wrong0") + LAW.format("Wrong1"), ["def"], (False, False)),
+}
+BESIDE = f"""case $1 in
+check) echo 'rt: one proved (unchanged)'; exit 0 ;;
+esac
+if [ ! -e crates/one/specs/DefWrong0.antt ]; then
+    grep -q 'def = right' crates/one/specs/Def.antt && printf 'crate one: modules loaded=1 checked=0\\nlogic=proved \\n' && exit 0
+    printf '%s\\nlogic=not-proved\\n' "{LAW.format("").replace("`", "")[:-1]}" | sed "s/one has /one has \\`/"
+    exit 1
+fi
+cd target/inc/one/k || exit 2
+for each in Right0 Wrong0 Wrong1; do
+    grep -q "^use Rattle.one.specs.Def$each.{{def}}" "../../../../crates/one/proofs/Law$each.antt" || exit 2
+    grep -q "^pub mod Law$each" ../../../../crates/one/proofs/Lib.antt || exit 2
+    cp Rattle.one.specs.Def.oantt "Rattle.one.specs.Def$each.oantt"
+done
+grep -q 'def = right' ../../../../crates/one/specs/DefRight0.antt && grep -q 'def = wrong' ../../../../crates/one/specs/DefWrong1.antt || exit 2
+cp "$WALKED" Rattle.one.specs.DefWrong0.oantt
+cat "$SAID"
+echo logic=not-proved
+exit 1
+"""
+
+
+def copied(name, work):
+    """What is wrong with edits of definitions that are tried beside each other."""
+    said_of_copies, names, wanted = COPIED[name]
+    tree = one_crate(work)
+    files = {
+        "specs/Lib.antt": "pub mod Def\n",
+        "specs/Def.antt": "pub def : ℕ\ndef = right\n",
+        "proofs/Lib.antt": "pub mod Law\n",
+        "proofs/Law.antt": "use Rattle.one.specs.Def.{def}\n\nlaw : def ≡ right\n",
+        "edits/wrong.edit": "file: specs/Def.antt\nold: right\nnew: wrong\n",
+        "edits/also.edit": "file: specs/Def.antt\nold: def = right\nnew: def = other\n",
+    }
+    for file, text in files.items():
+        (tree.top / "crates/one" / file).parent.mkdir(parents=True, exist_ok=True)
+        (tree.top / "crates/one" / file).write_text(text)
+    module(tree.top / "target/rlib/one.rlib/toolchain/checked/Rattle.one.specs.Def.oantt", ["def"], [])
+    script(tree.bin / "rt", BESIDE)
+    said, walked = tree.bin / "said", tree.bin / "walked"
+    said.write_text(said_of_copies)
+    module(walked, names, [])
+    path = f"{tree.bin}:{os.path.dirname(sys.executable)}:{os.environ['PATH']}"
+    status, text = tree.run("tests/edits", path, SAID=str(said), WALKED=str(walked))
+    beside = tuple(f"edits one/{label}: refused, terms differ (proofs/Law.antt; with 1 others" in text for label in ("also", "wrong"))
+    if beside != wanted or text.count("edits one/") != 2 or text.count(": refused, terms differ (proofs/Law.antt; ") != 2:
+        yield f"{beside}, status {status}\n{text}"
+
+
+# A crate of functions f and g, of which f calls g, over a definition d that g's contract names, and a law that names it: who sees which change.
+IMPORTS = {
+    "specs.specs.d": [], "proofs.proofs.law": ["specs.specs.d"],
+    "proofs.proofs.g": ["specs.specs.d"], "proofs.proofs.g.Statement": ["proofs.proofs.g"], "proofs.proofs.g.Lts": [],
+    "proofs.proofs.g.Proof": ["proofs.proofs.g.Statement", "proofs.proofs.g.Lts", "proofs.proofs.law"], "proofs.proofs.g.Met": ["proofs.proofs.g.Statement", "proofs.proofs.g.Proof"],
+    "proofs.proofs.f": [], "proofs.proofs.f.Statement": ["proofs.proofs.f"], "proofs.proofs.f.Proof": ["proofs.proofs.f.Statement", "proofs.proofs.g.Met"],
+}
+SEEN = {
+    "a body": ((True, "proofs.proofs.g"), {"proofs.proofs.g.Proof"}),
+    "a contract": ((False, "proofs.proofs.g"), {"proofs.proofs.g.Proof", "proofs.proofs.f.Proof"}),
+    "a contract that none calls": ((False, "proofs.proofs.f"), {"proofs.proofs.f.Proof"}),
+    "a definition": ((False, "specs.specs.d"), {"proofs.proofs.law", "proofs.proofs.g.Proof", "proofs.proofs.f.Proof"}),
+    "a law": ((False, "proofs.proofs.law"), {"proofs.proofs.law", "proofs.proofs.g.Proof"}),
+}
+
+
+def seen_of(name, work):
+    """What is wrong with who sees a change."""
+    sys.path.insert(0, str(TOP / "tests"))
+    import reach
+    (body, place), wanted = SEEN[name]
+    for module_name, others in IMPORTS.items():
+        text = "".join(f"--@ import Rattle.one.{other} - -\n" for other in others)
+        pathlib.Path(work, f"Rattle.one.{module_name}.oantt").write_text(f"--@ kernel k\n{text}--@ reaches\n--@ import Rattle.one.specs.d - -\n")
+    modules = reach.Modules("one", work)
+    found = {each for each in modules.judged() if modules.sees(each, (body, "Rattle·one·" + place))}
+    if found != {"Rattle·one·" + each for each in wanted}:
+        yield f"it is seen by {sorted(found)}"
+
+
 def unproved(_, work):
     """What is wrong where a crate is not proved as it stands: no edit of it may be tried over what was proved before."""
     tree = one_crate(work)
@@ -224,7 +357,11 @@ def told_apart(words, _):
 def main():
     sys.dont_write_bytecode = True
     wrong, count = [], 0
-    for part, names in ((sums, ENDS), (failing, FAILING), (tried, TRIED), (unproved, ["a crate that is not proved"]), (told_apart, SAMPLES)):
+    parts = (
+        (sums, ENDS), (some, SOME), (failing, FAILING), (parts_of, OF), (tried, TRIED), (copied, COPIED), (seen_of, SEEN),
+        (unproved, ["a crate that is not proved"]), (told_apart, SAMPLES),
+    )
+    for part, names in parts:
         for name in names:
             count += 1
             with tempfile.TemporaryDirectory() as work:
