@@ -41,12 +41,11 @@ class Modules:
     def __init__(self, crate, folder):
         self.crate = crate
         self.edges = {module: imports(path) for module, path in checked(folder).items() if module.startswith(f"Rattle·{crate}·")}
-        # By function, as its folder of proofs is named, with the type or the module that it belongs to: the module of its contract.
-        self.functions = {
-            "/".join(("src." + module[:-10].split("·proofs.proofs.", 1)[1]).split(".")[-2:]): module[:-10] for module in self.edges if module.endswith(".Statement")
-        }
-        contracts = set(self.functions.values())
-        self.owner = {module: self.owned(module, contracts) for module in self.edges}
+        contracts = [module[:-10] for module in self.edges if module.endswith(".Statement")]
+        names = ["/".join(("src." + contract.split("·proofs.proofs.", 1)[1]).split(".")[-2:]) for contract in contracts]
+        # By function, as its folder of proofs is named, with the type or the module that it belongs to: the module of its contract. None of a name that two have.
+        self.functions = {name: contract for name, contract in zip(names, contracts) if names.count(name) == 1}
+        self.owner = {module: self.owned(module, set(contracts)) for module in self.edges}
         self.rests = {}
 
     @staticmethod
@@ -97,7 +96,7 @@ class Modules:
     def near(self, change):
         """Those of them where an error is looked for first: a function's own proof, or what names the module."""
         body, place = change
-        if body or place in self.functions.values():
+        if body or self.owner.get(place) == place:
             return {place + ".Proof"} & self.edges.keys()
         judged = [module for module in self.judged() if self.sees(module, change)]
         return {module for module in judged if place in self.edges[module]} or set(judged)
