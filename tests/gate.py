@@ -141,7 +141,7 @@ def failing(name, work):
 
 
 # The crates that are asked for, and the parts that must be run of them besides those over texts.
-OF = {"a program": ("ecnforms", OVER_PROGRAMS - {"installation", "tools"}), "the library": ("capi", OVER_LIBRARY), "neither": ("wide", set())}
+OF = {"a program": ("ecnforms", OVER_PROGRAMS - OVER_LIBRARY), "the library": ("capi", OVER_LIBRARY), "neither": ("wide", set())}
 
 
 def parts_of(name, work):
