@@ -43,6 +43,9 @@ class Page(Tried):
         self.assertIn("there is no command xyzzy; ecn --help lists the commands", self.ecn("xyzzy", status=2).stderr)
         self.assertIn("say what to do, as: ecn table", self.ecn(status=2).stderr)
         self.assertIn("ecn --help", self.ecn("", status=2).stderr)
+        self.assertIn("required: -o/--out; ecn table --help has an example", self.ecn("table", "x", status=2).stderr)
+        told = self.ecn("check", "a", "-j", "2", "b", status=2).stderr
+        self.assertIn("unrecognized arguments: b; files stand together, before or after the options; ecn --help has an example", told)
 
 
 if __name__ == "__main__":

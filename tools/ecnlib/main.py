@@ -12,6 +12,7 @@ import difflib
 import importlib
 import os
 import sys
+from typing import NoReturn
 
 from . import endings, programs
 from .common import FAILED, Ended, fill_streams, printing, tell
@@ -38,6 +39,10 @@ class Version(argparse.Action):
 class Parser(argparse.ArgumentParser):
     def print_help(self, file=None) -> None:
         print(self.format_help(), end="", file=file)  # argparse itself passes over a write that fails
+
+    def error(self, message: str) -> NoReturn:
+        together = "; files stand together, before or after the options" if message.startswith("unrecognized") else ""
+        super().error(f"{message}{together}; {self.prog} --help has an example")
 
 
 def arguments(words: list) -> argparse.ArgumentParser:

@@ -1,11 +1,8 @@
 """One question asked of several traces, some of them at a time. What is asked is a call of the proved library, in this process or in others."""
 import argparse
-import concurrent.futures
-import concurrent.futures.process
 import contextlib
 import functools
 import io
-import multiprocessing
 from typing import Any, Callable, Iterator, List, NamedTuple, Optional, Tuple
 
 from . import endings, files
@@ -46,21 +43,14 @@ def outcome(ask: Callable[[str], Any], trace: str) -> Outcome:
 
 @contextlib.contextmanager
 def mapped(count: int) -> Iterator[Callable]:
-    """A map over so many processes. None of them is left, whatever happens."""
+    """A map, over so many processes if there is more than one. What they need takes a while to load."""
     if count < 2:
         yield map
         return
-    pool = concurrent.futures.ProcessPoolExecutor(count, multiprocessing.get_context("fork"), endings.unwatch)
-    try:
-        yield pool.map
-    except concurrent.futures.process.BrokenProcessPool as error:
-        raise Ended(FAILED, "a process that read a trace has ended early") from error
-    except BaseException:
-        for child in multiprocessing.active_children():
-            child.terminate()
-        raise
-    finally:
-        pool.shutdown(cancel_futures=True)
+    from .workers import workers
+
+    with workers(count) as map_of:
+        yield map_of
 
 
 def asked(traces: List[str], count: int, ask: Callable[[str], Any]) -> Iterator[Tuple[str, Outcome]]:
