@@ -42,7 +42,7 @@ sys.dont_write_bytecode = True  # the repository may not be ours to write to
 sys.path[:0] = [str(PACKAGE), str(TOP / "tests")]
 import flasknib  # noqa: E402
 from flasknib import Arrival, Breaker, Feed, Mark, Refused, Source, Sources, header  # noqa: E402
-from flasknib import _lend, _library  # noqa: E402
+from flasknib import _lend, _library, _version  # noqa: E402
 import writer  # noqa: E402
 
 LABEL, BLOCK = flasknib.write_label(1, b"ward 3", 7), header.BLOCK_BYTES
@@ -594,6 +594,14 @@ class Refusing(Tried):
             self.assertIn(f"refused {number}: {refused.text}", str(refused))
             self.assertEqual(str(pickle.loads(pickle.dumps(refused))), str(refused))
 
+    def test_texts(self):
+        """The texts are the library's."""
+        for number in range(256):
+            out = bytearray(header.REFUSAL_TEXT_MOST_BYTES)
+            length = header.refusal_text(number, out)
+            found = out[:length].decode() if length >= 0 else None
+            self.assertEqual(found, header.REFUSALS.get(number, (None, None))[1])
+
     def test_a_jump_is_an_arrival(self):
         source = counted([(5000, 0)])
         before = source.words
@@ -817,9 +825,9 @@ class Whole(Tried):
         text = "".join(path.read_text() for path in (PACKAGE / "flasknib").glob("*.py") if path.name != "header.py")
         functions = [name for name, value in vars(header).items() if getattr(value, "__module__", "") == "flasknib.header"]
         self.assertGreaterEqual(len(functions), 44)
-        left = {"breaker_start_preset", "run_block"}  # Breaker() has the preset, and Feed the rows of a run
+        left = {"breaker_start_preset", "run_block", "refusal_text"}  # Breaker() has the preset, Feed the rows of a run, the header the texts
         unused = {name for name in functions if not re.search(rf"header\.{name}\b|import .*\b{name}\b", text)}
-        self.assertEqual(unused & set(functions) - {"version", "refusal_text"}, left)
+        self.assertEqual(unused, left)
         self.assertEqual(header.breaker_start_preset(5, words := (_lend.u64 * header.BREAKER_WORDS)()), 0)
         self.assertEqual(tuple(words), Breaker(5).words)
 
@@ -873,6 +881,12 @@ class Whole(Tried):
         self.assertIn("ImportError: the library libflasknib.so is not there: in a clone `make` builds it", self.ran("").stderr)
         for wrong in (os.devnull, BUILT.name, "/no/such/library.so"):
             self.assertIn(f"ImportError: the library {wrong} cannot be used: ", self.ran(wrong).stderr)
+        _version.check(header.VERSION + 1)
+        major, minor, patch = header.VERSION_MAJOR, header.VERSION_MINOR, header.VERSION_PATCH
+        for found, told in ((header.VERSION + 256, f"{major}.{minor + 1}.{patch}"), (header.VERSION + 65536, f"{major + 1}.{minor}.{patch}")):
+            with self.assertRaisesRegex(ImportError, f"it is of version {told}, and this package is for {flasknib.__version__}$") as caught:
+                _version.check(found)
+            self.assertEqual(caught.exception.path, str(SHARED))
         other = pathlib.Path(BUILT.name) / "libother.so"
         subprocess.run(["cc", "-shared", "-fPIC", "-x", "c", "-", "-o", other], input=b"int flasknib_arrive(void) { return 0; }\n", check=True)
         self.assertIn("cannot be used, it is of another version", self.ran(other).stderr)

@@ -15,6 +15,7 @@ Every count and every verdict is a call of the proved library. A state is an obj
 
 `flasknib.header` has the functions of flasknib.h as they stand.
 """
+from . import _version  # noqa: F401
 from ._library import path as library_path
 from .attribute import Attribute, Ect, Method, Mode, answer, offer, read_attribute, write_attribute
 from .blocks import Block, Form, Kind, Record, read_block, read_own, record_at, records, space_label, write_arrivals, write_label, write_records

@@ -20,7 +20,7 @@ class State:
 
     >>> flasknib.Source.of([1] * 9).lost
     Traceback (most recent call last):
-    flasknib.Refused: refused 9: a record is malformed: what that is stands with its layout
+    flasknib.Refused: refused 9: the record is malformed
     """
 
     _words: Words

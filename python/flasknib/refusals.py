@@ -22,7 +22,7 @@ class Refused(Exception):
     ...     flasknib.read_compound(b"", media=1)
     ... except flasknib.Refused as refused:
     ...     print(refused.number, refused.name, "-", refused.text)
-    1 INCOMPLETE - empty input, a header cut off, not one whole block
+    1 INCOMPLETE - the input is empty, or ends in the middle of a block or a header
     """
 
     def __init__(self, number: int, size: Optional[int] = None, block: Optional[int] = None, table: bytes = b"") -> None:

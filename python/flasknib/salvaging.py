@@ -27,7 +27,7 @@ def salvage(trace: Trace) -> Iterator[Salvaged]:
     ...         print(refused)
     ...     else:
     ...         copy += block
-    refused 13 block 1: a block's checksum
+    refused 13 block 1: the block's checksum does not fit
     >>> copy == trace[:512] + trace[1024:]
     True
     """

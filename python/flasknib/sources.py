@@ -24,7 +24,7 @@ class Sources(State):
 
     >>> sources.arrive(7, 1, 0)
     Traceback (most recent call last):
-    flasknib.Refused: refused 15: a new SSRC, and every place of the table is held
+    flasknib.Refused: refused 15: a source is new, and every place of the table is held (at most 16)
     """
 
     def __init__(self, places: int = header.SOURCES_MOST_PLACES) -> None:

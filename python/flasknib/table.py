@@ -46,7 +46,7 @@ def rows(trace: Trace) -> Iterator[Row]:
     ward 3 7 1 1
     >>> list(flasknib.rows(trace[:700]))
     Traceback (most recent call last):
-    flasknib.Refused: refused 1 block 1: empty input, a header cut off, not one whole block
+    flasknib.Refused: refused 1 block 1: the input is empty, or ends in the middle of a block or a header
 
     `pandas.DataFrame(flasknib.rows("night1.trace"))` has a column for each.
     """

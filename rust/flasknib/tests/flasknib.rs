@@ -352,10 +352,16 @@ fn reads_that_fail() {
 fn refusals() {
     for number in 0..=255 {
         match Refusal::of(number) {
-            Some(refusal) => assert!(refusal.number() == number && !refusal.name().is_empty() && !refusal.text().is_empty()),
+            Some(refusal) => {
+                let mut text = [0; header::REFUSAL_TEXT_MOST_BYTES];
+                let length = header::refusal_text(number, &mut text) as usize; // the texts are the library's
+                assert_eq!((refusal.number(), refusal.text().as_bytes()), (number, &text[..length]));
+                assert!(!refusal.name().is_empty());
+            }
             None => assert!(!(1..=header::REFUSALS.len()).contains(&usize::from(number))),
         }
     }
+    assert_eq!(header::version() as usize, header::VERSION);
     let short = counted(&C1).row_into(b"probe 2, left", 1, 0, 0, &mut []).unwrap_err();
     assert_eq!((short.refusal, short.size), (Refusal::Room, Some(41)));
     assert!(short.to_string().starts_with("refused 12: the output is too small") && short.to_string().ends_with("(41 bytes are needed)"));
