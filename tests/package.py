@@ -724,11 +724,11 @@ class Refusing(Tried):
             self.assertEqual((again.block, again.table), (3, b""))
 
     def test_words_that_are_no_feed(self):
-        for words in ([2**64 - 1] * 18, [0] * 17, [5] * 18):
+        for words in ([2**64 - 1] * 18, [0] * 17, [5] * 18, [9] * 18):
             for stretch in (b"", b"x", LABEL):
                 refused = self.refuses(9, Feed.of(words).feed, stretch)
                 self.assertEqual((refused.block, refused.table), (None, b""))
-            self.refuses(9, Feed.of(words).close)
+            self.assertIsNone(self.refuses(9, Feed.of(words).close).block)
         self.refuses(9, Feed.of([0] * 18, bytes(1023)).feed, b"")
 
     def test_a_long_stretch(self):

@@ -1,6 +1,6 @@
 //! A trace that arrives bit by bit, and its table.
 use crate::header::{self, BLOCK_BYTES, HEAD_BYTES, REFUSED_MOST_BYTES, ROW_MOST_BYTES, UPLOAD_KEPT_BYTES, UPLOAD_WORDS};
-use crate::refusals::{counted, taken_apart, written, Refused, Result};
+use crate::refusals::{accepted, taken_apart, written, Result};
 
 /// Bytes that are taken at a time.
 const STRETCH: usize = 128 * BLOCK_BYTES;
@@ -65,21 +65,20 @@ impl Feed {
         table.resize(held + ROW_MOST_BYTES * part.len().div_ceil(BLOCK_BYTES), 0); // at most so many blocks are completed
         let answer = header::feed(&mut self.words, &mut self.kept, part, &mut table[held..]);
         let (number, length) = if answer < 0 { taken_apart(answer) } else { (0, answer as usize) };
-        let of_block = number != 0 && u64::from(number) == self.words[header::UPLOAD_REFUSAL];
         table.truncate(held + length);
-        if of_block {
-            return Err(Refused::of(number).at(self.blocks()));
-        }
-        counted(answer).map(|_| ())
+        self.ended(number)
+    }
+
+    /// The refusal with this number, 0 for none; that of a block, which is kept, with the block. 9 comes first, and is never kept.
+    fn ended(&self, number: u8) -> Result<()> {
+        let kept = u64::from(number) == self.words[header::UPLOAD_REFUSAL] && usize::from(number) != header::REFUSAL_MALFORMED;
+        accepted(number).map_err(|refused| if kept { refused.at(self.blocks()) } else { refused })
     }
 
     /// Ends the trace, or asks how it would end here. Refused with 1 if it ends in the middle of a block or is empty, or with the refusal
     /// that is kept. If nothing is refused nothing has changed, and feeding may go on.
     pub fn close(&mut self) -> Result<()> {
-        match header::feed_close(&mut self.words, &self.kept) {
-            0 => Ok(()),
-            number if u64::from(number) == self.words[header::UPLOAD_REFUSAL] => Err(Refused::of(number).at(self.blocks())),
-            number => Err(Refused::of(number)),
-        }
+        let number = header::feed_close(&mut self.words, &self.kept);
+        self.ended(number)
     }
 }

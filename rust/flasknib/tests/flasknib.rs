@@ -319,9 +319,10 @@ fn a_refused_block_is_repeated() {
     assert_eq!(table, b"ward 3,7,12,3,0,0,0,0,0,0,0\r\n");
     assert_eq!((refused(feed.feed(b"", &mut table)), refused(feed.close()), table.len()), (13, 13, 29));
     assert_eq!(Feed::of(*feed.words(), *feed.kept()), feed);
-    for word in [5, u64::MAX] {
+    for word in [5, 9, u64::MAX] {
         let mut wrong = Feed::of([word; header::UPLOAD_WORDS], [0; header::UPLOAD_KEPT_BYTES]);
-        assert_eq!((refused(wrong.feed(&given, &mut table)), refused(wrong.close()), table.len()), (9, 9, 29));
+        let malformed = Err(Refusal::Malformed.into());
+        assert_eq!((wrong.feed(&given, &mut table), wrong.close(), table.len()), (malformed, malformed, 29));
     }
     let long = trace(&(0..500).map(|n| (n, 1)).collect::<Vec<_>>());
     assert_eq!(table_of(&long, 1 << 20), table_of(&long, 700));
