@@ -69,8 +69,8 @@ def wrong_check(whole):
 
 
 def ecnsalvage():
-    """After an old label 800 blocks, of which every 97th is damaged, in turn: a byte is changed, it is zeros, another source's, another form's, a label, or has a
-    count of 63; two stand at the end of a piece, and two after one another; then a tail. The copy is what is left of them."""
+    """After an old label 1,150 blocks, of which every 97th is damaged, in turn: a byte is changed, it is zeros, another source's, another form's, a
+    label, or has a count of 63; two stand at the end of a piece, and two after one another; then a tail. The copy is what is left of them."""
     label = b"probe 2, left\r\nsecond line"
     zeroth = block(1, len(label), 9, label)
     damaged = (
@@ -82,9 +82,9 @@ def ecnsalvage():
         lambda whole: block(2, 63, 9, whole[8:510]),
     )
     trace, copy = [zeroth], [zeroth]
-    for i in range(1, 801):
+    for i in range(1, 1_151):
         whole = own(9, i)
-        if i % 97 == 0 or i in (256, 257, 512, 700, 701):
+        if i % 97 == 0 or i in (700, 701, 1_024, 1_025):
             trace.append(damaged[i % len(damaged)](whole))
         else:
             trace.append(whole)
@@ -93,9 +93,9 @@ def ecnsalvage():
 
 
 def ecnlabel():
-    """An old label with four retired bytes, and 600 blocks."""
+    """An old label with four retired bytes, and 1,150 blocks."""
     label = b"probe 2,\r\nleft\n\rsecond line"
-    blocks = [own(9, i) for i in range(1, 601)]
+    blocks = [own(9, i) for i in range(1, 1_151)]
     spaced = label.replace(b"\r", b" ").replace(b"\n", b" ")
     return b"".join([block(1, len(label), 9, label), *blocks]), b"".join([block(1, len(spaced), 9, spaced), *blocks])
 

@@ -1,10 +1,11 @@
 """run.py BIN FAULTS.so FOLDER: the programs in BIN if a read or a write fails, is interrupted, is not ready or moves few bytes, and if a trace comes bit by bit.
 
-A trace of 800 arrivals blocks; that of ecnsalvage has damaged ones. If the calls can be made again, both outputs are those of an undisturbed run: on standard
-error the number of ecnlabel, the list of ecnsalvage, and else nothing. If a read fails, the output is that of the whole blocks before it, and `refused 1
-block I` follows, on standard output by ecntable and ecnstreams and on standard error by the others; if a write fails, standard output is cut off. Both say so
-in one line on standard error, and then ecnlabel prints no number. If a trace comes through a pipe, what its whole blocks give is there before the next bytes are
-sent. dd copies a file of which reads fail, and ecnsalvage takes the image. Each check that does not hold is printed; the last line says how many runs there were.
+A trace of 800 arrivals blocks, and for ecnlabel and ecnsalvage of 1,150; that of ecnsalvage has damaged ones. If the calls can be made again, both outputs
+are those of an undisturbed run: on standard error the number of ecnlabel, the list of ecnsalvage, and else nothing. If a read fails, the output is that of
+the whole blocks before it, and `refused 1 block I` follows, on standard output by ecntable and ecnstreams and on standard error by the others; if a write
+fails, standard output is cut off. Both say so in one line on standard error, and then ecnlabel prints no number. If a trace comes through a pipe, what its
+whole blocks give is there before the next bytes are sent. dd copies a file of which reads fail, and ecnsalvage takes the image. Each check that does not hold
+is printed; the last line says how many runs there were.
 """
 import errno
 import functools
@@ -20,7 +21,7 @@ import sys
 import threading
 import time
 
-BLOCK, BLOCKS = 512, 801
+BLOCK = 512
 LABEL = b"ward 3, bed 12: " + b"x" * 300
 # By form: the records of a full block, and how the first part of one, its time, is packed
 FORMS = {1: (62, lambda time: struct.pack(">I", time)), 2: (50, lambda time: struct.pack(">HI", time >> 32, time & 0xFFFFFFFF))}
@@ -53,6 +54,8 @@ class Ecntable:
     name, form, usage = "ecntable", 1, b"usage: ecntable <TRACE >TABLE\n"
     # What stands on standard error after an undisturbed run.
     told = b""
+    # How many blocks the trace has.
+    blocks = 801
     # How many blocks are read at a time behind block 0; a write that brings more than 1,000 bytes, and what those before it bring; the last.
     piece, write, before, last = 256, 1, 0, 2
     # Reads of at most 700 bytes that fail before anything is printed, and the whole blocks before each.
@@ -61,7 +64,7 @@ class Ecntable:
 
     def given(self):
         """The trace."""
-        return trace(self.form, (BLOCKS - 1) * FORMS[self.form][0], self.ssrcs, self.label)
+        return trace(self.form, (self.blocks - 1) * FORMS[self.form][0], self.ssrcs, self.label)
 
     def learn(self, table):
         self.rows = table.splitlines(keepends=True)
@@ -102,6 +105,7 @@ class Ecnlabel(Ecnforms):
     """Block 0 is a write of its own, and so is what each read gives."""
 
     name, usage, told = "ecnlabel", b"usage: ecnlabel <TRACE >TRACE\n", b"3\r\n"
+    blocks, piece = 1_151, 1_024
     write, before, last, early = 2, BLOCK, 2, ()
     label = LABEL[:100] + b"\r\n" + LABEL[100:] + b"\n"
 
@@ -117,8 +121,9 @@ class Ecnsalvage(Ecnforms):
     nothing of it stands before a write that fails."""
 
     name, usage = "ecnsalvage", b"usage: ecnsalvage <TRACE >TRACE\n"
+    blocks, piece = 1_151, 1_024
     write, before, last, early = 2, BLOCK, 2, ()
-    DAMAGED = (30, 100, 101, 255, 256, 257, 258, 400, 512, 513, 800)
+    DAMAGED = (30, 100, 101, 400, 512, 513, 1_023, 1_024, 1_025, 1_026, 1_150)
     sent = Ecntable.sent
 
     def lines(self, numbers):
@@ -149,7 +154,7 @@ class Ecnstreams(Ecntable):
     last, ssrcs = 1, tuple(range(100, 116))
 
     def printed(self, whole):
-        return b"".join(self.rows if whole == BLOCKS else self.rows[:1])
+        return b"".join(self.rows if whole == self.blocks else self.rows[:1])
 
     def unread(self, whole):
         return self.printed(0) + b"refused 1 block %d\r\n" % whole, b""
@@ -165,7 +170,7 @@ class Tried:
         self.runs, self.wrong = 0, []
         self.whole, told = self.run("undisturbed")
         program.learn(self.whole)
-        self.hold("undisturbed", self.whole, told, program.printed(BLOCKS), program.told)
+        self.hold("undisturbed", self.whole, told, program.printed(program.blocks), program.told)
         if len(self.whole) < 5_000 or b"refused" in self.whole:
             self.wrong.append("undisturbed: not the whole trace")
 
@@ -224,12 +229,12 @@ def injected_reads(tried):
     for size in (1, 511, 700):
         tried.same(f"each read brings at most {size} bytes", f"read short 1 0 {size}")
     tried.same("short reads, interrupted and not ready", f"read short 1 0 700; read fail 9 {errno.EINTR} 3; read wait 30 {errno.EAGAIN} 50")
-    piece = tried.program.piece
-    for call, whole in enumerate([0, *range(1, BLOCKS, piece), BLOCKS], 1):
+    piece, blocks = tried.program.piece, tried.program.blocks
+    for call, whole in enumerate([0, *range(1, blocks, piece), blocks], 1):
         for error in (errno.EIO, errno.EISDIR):
             tried.read_fails(f"read {call} fails with errno {error}", whole, error, f"read fail {call} {error} 1")
     tried.read_fails("read 20 of 700 bytes fails", (BLOCK + 18 * 700) // BLOCK, errno.EIO, f"read short 1 0 700; read fail 20 {errno.EIO} 1")
-    tried.read_fails("interrupted, and then it fails", min(1 + piece, BLOCKS), errno.EIO, f"read fail 3 {errno.EINTR} 2; read fail 5 {errno.EIO} 1")
+    tried.read_fails("interrupted, and then it fails", min(1 + piece, blocks), errno.EIO, f"read fail 3 {errno.EINTR} 2; read fail 5 {errno.EIO} 1")
 
 
 def injected_writes(tried):
@@ -381,14 +386,15 @@ def bad_sticks(tried):
     with zeros. All of these are listed with 13, and the others are copied."""
     data, image = tried.program.given(), tried.path.with_suffix(".image")
     for faults, unread in (("", ()), ("read fail 6 5 1; read fail 500 5 3", (5, 499, 500, 501)), ("read fail 1 5 1", (0,)), ("read fail 2 5 800", range(1, 801))):
+        blocks = tried.program.blocks
         tried.runs += 1
         tried.path.write_bytes(data + data[-BLOCK:][:300])
         words = ["dd", f"if={tried.path.absolute()}", f"of={image.absolute()}", "bs=512", "conv=noerror,sync"]
         subprocess.run(words, stdout=subprocess.DEVNULL, stderr=subprocess.DEVNULL, timeout=60, **tried.preloaded(faults))
-        left_out = sorted({*tried.program.DAMAGED, *unread, BLOCKS})
-        wanted = [data[BLOCK * number : BLOCK * (number + 1)] for number in range(BLOCKS)]
+        left_out = sorted({*tried.program.DAMAGED, *unread, blocks})
+        wanted = [data[BLOCK * number : BLOCK * (number + 1)] for number in range(blocks)]
         got = image.read_bytes()
-        if len(got) != BLOCK * (BLOCKS + 1) or any(any(got[BLOCK * number : BLOCK * (number + 1)]) for number in unread):
+        if len(got) != BLOCK * (blocks + 1) or any(any(got[BLOCK * number : BLOCK * (number + 1)]) for number in unread):
             tried.wrong.append(f"dd with {faults!r}: not the image that README says")
         out, line = b"".join(each for number, each in enumerate(wanted) if number not in left_out), tried.program.lines(left_out)
         with open(image, "rb") as opened:

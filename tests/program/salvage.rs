@@ -8,7 +8,7 @@ use std::fs::read as file;
 pub struct Salvage<'a>(pub [&'a Feed; 3]);
 
 /// So many blocks are read at a time after block 0.
-const PIECE: usize = 256;
+const PIECE: usize = 1_024;
 
 impl Salvage<'_> {
     /// The damaged sample, and what is left of it beside it.
@@ -73,7 +73,7 @@ impl Salvage<'_> {
     /// many.
     pub fn long(&self, draw: &Draw) -> u64 {
         let mut count = 0;
-        for length in [PIECE, PIECE + 1, PIECE + 2, 2 * PIECE, 2 * PIECE + 1, 2 * PIECE + 2, 3 * PIECE + 40] {
+        for length in [PIECE, PIECE + 1, PIECE + 2, 2 * PIECE, 2 * PIECE + 1, 2 * PIECE + 40] {
             let whole = self.sound(draw, draw.of(&FORMS), length - 1);
             let ends: Vec<usize> = (1..length).filter(|&block| (block + 1) % PIECE <= 2).collect();
             let mut sets: Vec<Vec<usize>> = ends.iter().map(|&block| vec![block]).collect();

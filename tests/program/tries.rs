@@ -51,10 +51,10 @@ pub fn cut_tails(feed: &Feed, draw: &Draw) -> u64 {
     count
 }
 
-/// Traces around the ends of pieces of 64 KiB and of 128 KiB, with the longest labels, whole, cut and with one block damaged.
+/// Traces around the ends of pieces of 64 KiB, of 128 KiB and of 512 KiB, with the longest labels, whole, cut and with one block damaged.
 pub fn long_traces(feed: &Feed, draw: &Draw) -> u64 {
     let mut count = 0;
-    for length in [127, 128, 129, 255, 256, 257, 258, 384, 512, 513, 514, 769, 770, 3_000] {
+    for length in [127, 128, 129, 255, 256, 257, 258, 384, 512, 513, 514, 769, 770, 1_024, 1_025, 1_026, 3_000] {
         let label = if draw.one_in(2) { vec![b'"'; 502] } else { vec![b'x'; 502] };
         let mut trace = trace_of(draw, draw.of(&FORMS), &label, 77, length - 1);
         feed.file(&trace);
