@@ -1,7 +1,9 @@
 //! Times the library's calls against plain Rust that gives the same answers. Argument: the machine's word.
 mod arrivals;
+mod blocks;
 mod breaker;
 mod compound;
+mod feeds;
 mod form;
 mod library;
 mod medians;
@@ -246,6 +248,25 @@ fn writing() {
     lines("write_row, a row", &input, &["plain Rust, `write!`"], CALLS, runs);
 }
 
+/// A trace in stretches, beside the whole trace in one feed: the loop over its blocks is that of ecntable's run in one go.
+fn feeding() {
+    let trace = feeds::trace(LABEL, MEDIA);
+    let all = trace.len();
+    let whole = feeds::fed(&trace, all, &mut feeds::room(all));
+    assert!(whole.2 == 0 && whole.1 > 0, "the trace is whole");
+    for stretch in feeds::STRETCHES {
+        assert_eq!(feeds::fed(&trace, stretch, &mut feeds::room(stretch)), whole, "the cuts differ");
+        let timed = |length: usize| -> Run {
+            let (trace, mut rows) = (&trace, feeds::room(length));
+            Box::new(move || {
+                black_box(feeds::fed(black_box(trace), length, &mut rows));
+            })
+        };
+        let input = format!("stretches of {stretch} {}", if stretch == 1 { "byte" } else { "bytes" });
+        lines("feed, a block", &input, &["all in one feed"], feeds::BLOCKS, vec![timed(stretch), timed(all)]);
+    }
+}
+
 fn main() {
     let machine = std::env::args().nth(1).expect("the machine's word");
     let rounds = medians::setting("ROUNDS", 11);
@@ -260,4 +281,5 @@ fn main() {
     breaking(3);
     breaking(32);
     writing();
+    feeding();
 }

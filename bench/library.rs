@@ -36,6 +36,17 @@ extern "C" {
         out: *mut u8,
         room: usize,
     ) -> i64;
+    pub fn flasknib_feed(
+        upload: *mut u64,
+        words: usize,
+        kept: *mut u8,
+        kept_length: usize,
+        stretch: *const u8,
+        stretch_length: usize,
+        out: *mut u8,
+        room: usize,
+    ) -> i64;
+    pub fn flasknib_feed_close(upload: *mut u64, words: usize, kept: *const u8, length: usize) -> u8;
 }
 
 pub type Source = [u64; 10];
@@ -71,4 +82,15 @@ pub fn breaker_report(breaker: &mut [u64; 77], r: &crate::breaker::Report) -> u1
 pub fn write_row(label: &[u8], ssrc: u32, source: &Source, jumped: u64, restarts: u64, out: &mut [u8]) -> i64 {
     let (words, at) = (source.len(), source.as_ptr());
     unsafe { flasknib_write_row(label.as_ptr(), label.len(), ssrc, at, words, jumped, restarts, out.as_mut_ptr(), out.len()) }
+}
+
+pub type Upload = [u64; 18];
+
+pub fn feed(upload: &mut Upload, kept: &mut [u8; 1_024], stretch: &[u8], out: &mut [u8]) -> i64 {
+    let (words, size, room) = (upload.len(), kept.len(), out.len());
+    unsafe { flasknib_feed(upload.as_mut_ptr(), words, kept.as_mut_ptr(), size, stretch.as_ptr(), stretch.len(), out.as_mut_ptr(), room) }
+}
+
+pub fn feed_close(upload: &mut Upload, kept: &[u8; 1_024]) -> u8 {
+    unsafe { flasknib_feed_close(upload.as_mut_ptr(), upload.len(), kept.as_ptr(), kept.len()) }
 }

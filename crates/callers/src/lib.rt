@@ -1,1 +1,2 @@
-// Demand 3 for a caller from C: the statement stands in specs/, its proof in proofs/. There is no code here.
+// Demand 3 for a caller from C: the statement stands in specs/, its proof in proofs/; and values at which the theorems on a feed from C are applied. There is no
+// code here.

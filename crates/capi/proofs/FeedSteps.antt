@@ -62,16 +62,16 @@ module _ (words lent : List ℕ) where
       }
 
   module _ {u : Upload} (e : loaded words ≡ Held u) where
-    fed-is : (stretch : List ℕ) (room : ℕ) → fedOf words lent stretch room ≡ feedOf u lent stretch room
+    pub fed-is : (stretch : List ℕ) (room : ℕ) → fedOf words lent stretch room ≡ feedOf u lent stretch room
     unfolding fedOf
     fed-is stretch room = let h = held words e in rw (h .0) (ap (λ (x : Upload). feedOf x lent stretch room) (sym (h .1)))
 
-    closed-is : closedOf words lent ≡ closeOf u lent
+    pub closed-is : closedOf words lent ≡ closeOf u lent
     unfolding closedOf
     closed-is = let h = held words e in rw (h .0) (ap (λ (x : Upload). closeOf x lent) (sym (h .1)))
 
     -- the words of an upload
-    words-after : (g : Given) → wordsBy words g ≡ feedWords (g .upload)
+    pub words-after : (g : Given) → wordsBy words g ≡ feedWords (g .upload)
     words-after g = ap (λ (b : Bool). cond b (feedWords (g .upload)) words) (held words e .0)
 
     pub feed-held : (stretch old : List ℕ) {fed : Fed} {r : ℤ} {left kept out : List ℕ} → Feeds (feedOf u lent stretch (length old)) old fed kept out

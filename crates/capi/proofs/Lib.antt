@@ -11,6 +11,7 @@ pub mod TableCalls
 pub mod StepLaws
 pub mod RunSteps
 pub mod FeedSteps
+pub mod FeedChains
 pub mod FormsSteps
 pub mod StreamsLaws
 pub mod StreamsSteps

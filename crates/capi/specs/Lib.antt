@@ -11,6 +11,7 @@ pub mod TableSteps
 pub mod StepCalls
 pub mod RunCalls
 pub mod Feeds
+pub mod FeedChains
 pub mod FormsCalls
 pub mod StreamsWords
 pub mod StreamsCalls

@@ -15,7 +15,7 @@ use shell::turns::next_turn;
 // The most that a block prints, over a piece (forms, `blocks-have-room`): 62 records in the place of 50.
 const MOST: usize = BLOCK + BLOCK / 4;
 
-// So many blocks are read at a time.
+// At most so many blocks are read at a time.
 const BLOCKS: usize = 256;
 
 const PIECE: usize = BLOCKS * BLOCK;

@@ -12,7 +12,7 @@ use shell::transfers::Transfer;
 use shell::turns::Turn;
 use shell::turns::next_turn;
 
-// So many blocks are read at a time: what is copied of them is one write, or a few, and the larger a write, the less time the system takes for it.
+// At most so many blocks are read at a time: what is copied of them is one write, or a few, and the larger a write, the less time the system takes for it.
 const BLOCKS: usize = 1024;
 
 // What is copied of a piece is printed where it stands.

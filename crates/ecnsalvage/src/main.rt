@@ -17,7 +17,7 @@ use shell::turns::next_turn;
 // The most that a block lists (salvage, `line-has-room`), and the end (`end-has-room`).
 const MOST: usize = 64;
 
-// So many blocks are read at a time: what is copied of them is one write, or a few, and the larger a write, the less time the system takes for it.
+// At most so many blocks are read at a time: what is copied of them is one write, or a few, and the larger a write, the less time the system takes for it.
 const BLOCKS: usize = 1024;
 
 // What is copied of a piece is printed where it stands.

@@ -20,7 +20,7 @@ use table::write_refused;
 use walk::Ended;
 use walk::number_after;
 
-// So many blocks are read at a time after block 0.
+// At most so many blocks are read at a time after block 0.
 const PIECE: usize = 256 * BLOCK;
 
 // How far a run has come, with the number of the next block, and whether that was refused.

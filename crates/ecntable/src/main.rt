@@ -15,7 +15,7 @@ use shell::turns::next_turn;
 // The longest row (table, `row-fits`).
 const MOST: usize = 1228;
 
-// So many blocks are read at a time.
+// At most so many blocks are read at a time.
 const BLOCKS: usize = 256;
 
 const PIECE: usize = BLOCKS * BLOCK;
