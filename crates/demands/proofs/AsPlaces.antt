@@ -9,7 +9,6 @@ use borrow.Author.Tests.{eqb-true, ltb-true, ltb-false, le-leb, eq-eqb}
 use lib.Dec.{eqb, ltb}
 use lib.ListN.{length, take, drop}
 use Rattle.answers.specs.Conditions.{all}
-use Rattle.answers.specs.declared.Refusal.{Refusal}
 use Rattle.format.specs.Blocks.{bodyAt}
 use Rattle.format.specs.Forms.{shapeOf, width}
 use Rattle.format.specs.declared.Form.{Form}
@@ -18,8 +17,7 @@ use Rattle.source.specs.declared.BlockCount.the-variants as block
 use Rattle.source.specs.declared.Source.{Source}
 use Rattle.source.specs.declared.Totals.{Totals}
 use Rattle.source.specs.Record.{arrivals, sound}
-use Rattle.source.specs.Arrivals.{arrival, after}
-use Rattle.source.specs.Blocks.{Packet, packets, inLimits, jump, restart, countAll, blockCount}
+use Rattle.source.specs.Blocks.{packets, inLimits, blockCount}
 use Rattle.source.proofs.Packets.{Limits}
 use Rattle.source.proofs.Totalled.{length-packets, block-counted}
 use Rattle.trace.specs.Layout.{bodyOf}
@@ -30,6 +28,7 @@ use Rattle.sources.specs.declared.Place.{Place}
 use Rattle.sources.specs.Rules.{rising}
 use Rattle.sources.specs.Stands.{found, put}
 use Rattle.sources.specs.Answers.{outside, behind}
+use Rattle.sources.proofs.Calling.{never-refused}
 use Rattle.sources.proofs.Found.{rising-rest, below-none}
 use Rattle.sources.proofs.Grown.{block-grown}
 use Rattle.mixed.specs.declared.Line.{Line}
@@ -94,11 +93,6 @@ put-renewed new (m ∷ ls) least {l} r e =
         absurd (omega arith)
 
 -- ---- the arrivals of a block
-
-never-refused : (ps : List Packet) (s : Source) (jumps restarts : ℕ) {r : Refusal} {t : Source} → countAll ps s jumps restarts ≡ block.Refused r t → ⊥
-unfolding countAll
-never-refused [] s jumps restarts e = let z : _≡_ {A = ℕ} 0 1 = cc in omega arith
-never-refused (p ∷ ps) s jumps restarts e = let a = arrival s (p .wire) (p .mark) in never-refused ps (after a) (jumps + jump a) (restarts + restart a) e
 
 in-limits : (w : ℕ) (s : List ℕ) → Limits w s → all (inLimits w s) ≡ true
 in-limits w s l = rw (le-leb 4 w (l .wide), eq-eqb (length s % w) 0 (l .whole), le-leb 1 (length s / w) (l .some), le-leb (length s / w) 62 (l .few), l .fit)

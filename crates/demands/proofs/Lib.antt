@@ -15,6 +15,7 @@ pub mod Compounds
 pub mod OneStream
 pub mod AsPlaces
 pub mod LinesAreTable
+pub mod EachRow
 pub mod ReadBack
 pub mod OneCall
 pub mod EachSource

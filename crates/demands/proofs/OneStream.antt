@@ -42,7 +42,7 @@ use Rattle.demands.proofs.LastRow.{totals-parts, last-row}
 use Rattle.demands.proofs.OneRow.{one-last-row}
 use Rattle.demands.proofs.Witnesses.{met}
 
-none-counted : recordsTotals [] ≡ freshTotals
+pub none-counted : recordsTotals [] ≡ freshTotals
 unfolding recordsTotals countAll
 none-counted = refl
 
@@ -55,11 +55,11 @@ module _ (form : Form) (ssrc : ℕ) where
     abbrev own : List Record
     own = recordsBy b (Arrivals form n ssrc)
 
-    counts-own : (us : List Record) → Good (recordsTotals us) → counted form n b (recordsTotals us) ≡ recordsTotals (us ++ own)
+    pub counts-own : (us : List Record) → Good (recordsTotals us) → counted form n b (recordsTotals us) ≡ recordsTotals (us ++ own)
     unfolding counted
     counts-own us g = ap (withBlock (recordsTotals us)) (records-counted b form n ssrc is (recordsTotals us .source) (g .sound .good)) ∙ sym (totals-parts us own)
 
-    still-good : (us : List Record) → Octets b → Good (recordsTotals us) → Good (recordsTotals (us ++ own))
+    pub still-good : (us : List Record) → Octets b → Good (recordsTotals us) → Good (recordsTotals (us ++ own))
     still-good us o g = rw (counts-own us g) at (counted-good form n b (recordsTotals us) o g)
 
     next-is : (ls : List Line) {next : Next (List Line)} → settled byValue (counted form n b) ssrc ls ≡ next → nextOf byValue form b ls ≡ next

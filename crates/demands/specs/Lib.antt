@@ -8,6 +8,7 @@ pub mod PrintedTable
 pub mod BothForms
 pub mod OneStream
 pub mod LinesAreTable
+pub mod EachRow
 pub mod Examples
 pub mod BetweenReports
 pub mod OwnReports
