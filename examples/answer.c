@@ -27,7 +27,7 @@ static int print_answer(const uint64_t *answer)
     int64_t length = flasknib_write_attribute(answer, FLASKNIB_ATTRIBUTE_WORDS, line, sizeof line);
     if (length > 0)
         printf("%.*s\r\n", (int)length, (const char *)line);
-    return FLASKNIB_WRITE_REFUSAL(length);
+    return flasknib_writer_refusal(length);
 }
 
 int main(void)

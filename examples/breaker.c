@@ -18,10 +18,10 @@ enum { SENDER = 9, MEDIA = 1 }; /* the SSRCs of the receiver and of our own stre
 
 static void print_answer(const char *call, uint16_t answer)
 {
-    if (answer >= FLASKNIB_REFUSED)
-        printf("%s: refused, %d\n", call, answer - FLASKNIB_REFUSED);
-    else if (answer >= FLASKNIB_STOP)
-        printf("%s: stop, reason %d\n", call, answer - FLASKNIB_STOP);
+    if (flasknib_breaker_refusal(answer) != 0)
+        printf("%s: refused, %d\n", call, flasknib_breaker_refusal(answer));
+    else if (flasknib_is_stop(answer))
+        printf("%s: stop, reason %d\n", call, flasknib_stop_reason(answer));
     else
         printf("%s: %s\n", call, answer == FLASKNIB_REDUCE ? "reduce" : "go");
 }
@@ -29,16 +29,19 @@ static void print_answer(const char *call, uint16_t answer)
 /* A report at `time` whose highest sequence number is `highest`, from a sender of `rate` bytes per second. */
 static uint16_t report(uint64_t *breaker, uint64_t time, uint32_t highest, uint64_t rate)
 {
-    return flasknib_breaker_report(breaker, FLASKNIB_BREAKER_WORDS, time, highest, 64, 100, 1000, rate);
+    return flasknib_breaker_report_with(breaker, FLASKNIB_BREAKER_WORDS,
+                                        (struct flasknib_report){.time = time, .highest = highest, .fraction = 64},
+                                        (struct flasknib_sending){.rtt = 100, .size = 1000, .rate = rate});
 }
 
 /* Three reports at `rate` bytes per second with the full throughput equation; the last answer. */
 static uint16_t with_full_equation(uint64_t rate)
 {
     uint64_t breaker[FLASKNIB_BREAKER_WORDS];
-    uint16_t answer = flasknib_breaker_start(2, 3, 15000, 0, 1, 0, breaker, FLASKNIB_BREAKER_WORDS);
+    uint16_t answer = flasknib_breaker_start_with((struct flasknib_settings){.k = 2, .m = 3, .timeout = 15000, .full = 1}, 0, breaker,
+                                                  FLASKNIB_BREAKER_WORDS);
 
-    for (int i = 1; i <= 3 && answer == FLASKNIB_GO; i++)
+    for (unsigned i = 1; i <= 3 && answer == FLASKNIB_GO; i++)
         answer = report(breaker, 5000 * i, 1000 * i, rate);
     return answer;
 }
@@ -46,9 +49,10 @@ static uint16_t with_full_equation(uint64_t rate)
 static void worked_examples(void)
 {
     uint64_t breaker[FLASKNIB_BREAKER_WORDS], faster[FLASKNIB_BREAKER_WORDS];
+    struct flasknib_settings settings = flasknib_preset(); /* 3 reports with no new number, 15,000 ms, no reduction, the simplified equation */
 
-    /* k = 2 intervals, m = 3 reports with no new number, 15,000 ms, no reduction, the simplified equation. */
-    print_answer("start at 0", flasknib_breaker_start(2, 3, 15000, 0, 0, 0, breaker, FLASKNIB_BREAKER_WORDS));
+    settings.k = 2; /* intervals */
+    print_answer("start at 0", flasknib_breaker_start_with(settings, 0, breaker, FLASKNIB_BREAKER_WORDS));
     print_answer("report at 5000", report(breaker, 5000, 1000, 244948));
     print_answer("report at 10000", report(breaker, 10000, 2000, 244948));
 
@@ -74,7 +78,7 @@ static void worked_examples(void)
 struct path {
     uint64_t breaker[FLASKNIB_BREAKER_WORDS]; /* the sender's */
     uint64_t kept[FLASKNIB_KEPT_WORDS];       /* what it keeps of the receiver */
-    uint64_t size, rtt, rate;                 /* its packets' bytes, the round trip in ms as it was measured, and the bytes it sends per second */
+    struct flasknib_sending sending;          /* the round trip as it was measured, its packets' bytes, and the bytes it sends per second */
     uint64_t table[FLASKNIB_PLACE_WORDS];     /* what the receiver counts */
 };
 
@@ -89,22 +93,19 @@ static void print_call(const uint64_t *call)
         printf("  heard\n");
 }
 
-/* The breaker's call for a packet. A round trip or a rate above the limit is taken as the limit: a slow path must not hide behind a refusal. */
+/* The breaker's call for a packet. A round trip or a rate above the limit is taken as the limit: a slow path must not hide in a refusal. */
 static uint16_t called(struct path *path, const uint64_t *call, uint64_t time)
 {
-    uint64_t rtt = path->rtt < FLASKNIB_BREAKER_MOST_RTT ? path->rtt : FLASKNIB_BREAKER_MOST_RTT;
-    uint64_t rate = path->rate < FLASKNIB_BREAKER_MOST_RATE ? path->rate : FLASKNIB_BREAKER_MOST_RATE;
-    uint32_t highest = (uint32_t)call[FLASKNIB_CALL_HIGHEST];
+    struct flasknib_sending sending = path->sending;
 
-    if (call[FLASKNIB_CALL_WHICH] == FLASKNIB_WHICH_REPORT_ECN)
-        return flasknib_breaker_report_ecn(path->breaker, FLASKNIB_BREAKER_WORDS, time, highest, (int64_t)call[FLASKNIB_CALL_LOST],
-                                           call[FLASKNIB_CALL_MARKED], call[FLASKNIB_CALL_EXPECTED], rtt, path->size, rate);
-    if (call[FLASKNIB_CALL_WHICH] == FLASKNIB_WHICH_REPORT)
-        return flasknib_breaker_report(path->breaker, FLASKNIB_BREAKER_WORDS, time, highest, call[FLASKNIB_CALL_FRACTION], rtt, path->size, rate);
-    return flasknib_breaker_heard(path->breaker, FLASKNIB_BREAKER_WORDS, time);
+    if (sending.rtt > FLASKNIB_BREAKER_MOST_RTT)
+        sending.rtt = FLASKNIB_BREAKER_MOST_RTT;
+    if (sending.rate > FLASKNIB_BREAKER_MOST_RATE)
+        sending.rate = FLASKNIB_BREAKER_MOST_RATE;
+    return flasknib_breaker_take(path->breaker, FLASKNIB_BREAKER_WORDS, call, time, sending);
 }
 
-/* What a sender does with an RTCP packet: the breaker's answer, or the refusal of the packet. Where the breaker refuses, what was kept is put back,
+/* What a sender does with an RTCP packet: the breaker's answer, or the refusal of the packet. If the breaker refuses, what was kept is put back,
  * so that the next report counts this one's packets too. */
 static uint16_t packet(struct path *path, uint64_t time, const uint8_t *bytes, size_t length)
 {
@@ -120,7 +121,7 @@ static uint16_t packet(struct path *path, uint64_t time, const uint8_t *bytes, s
         return FLASKNIB_REFUSED + refusal;
     print_call(call);
     answer = called(path, call, time);
-    if (answer >= FLASKNIB_REFUSED)
+    if (flasknib_breaker_refusal(answer) != 0)
         memcpy(path->kept, before, sizeof before);
     return answer;
 }
@@ -137,25 +138,25 @@ static size_t marked_second(struct path *path, uint16_t *next, uint8_t *bytes, s
     }
     length = flasknib_sources_write_compound(path->table, FLASKNIB_PLACE_WORDS, SENDER, bytes, room);
     if (length < 0)
-        printf("a compound: refused, %d\n", (int)(-length % 256));
+        printf("a compound: refused, %d\n", flasknib_writer_refusal(length));
     return length < 0 ? 0 : (size_t)length;
 }
 
 /* A compound a second: three of them and the first, which closes no interval, make k = 3 intervals. */
 static void marked_path(void)
 {
-    struct path path = {{0}, {0}, 1000, 100, 125000, {0}};
+    struct path path = {.sending = {.rtt = 100, .size = 1000, .rate = 125000}};
     uint8_t bytes[FLASKNIB_SOURCES_COMPOUND_MOST_BYTES];
     uint16_t next = 0;
 
     print_answer("a path that marks every packet", flasknib_breaker_start_preset(0, path.breaker, FLASKNIB_BREAKER_WORDS));
-    for (int second = 1; second <= 4; second++)
+    for (unsigned second = 1; second <= 4; second++)
         print_answer("its compound", packet(&path, 1000 * second, bytes, marked_second(&path, &next, bytes, sizeof bytes)));
 }
 
 static void refusals(void)
 {
-    struct path path = {{0}, {0}, 1000, 70000, 200000000, {0}};
+    struct path path = {.sending = {.rtt = 70000, .size = 1000, .rate = 200000000}};
     uint8_t bytes[FLASKNIB_SOURCES_COMPOUND_MOST_BYTES];
     uint16_t next = 0;
     size_t length;

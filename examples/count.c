@@ -13,7 +13,7 @@ static const uint8_t rebooted[] = {0x75, 0x30, 2, 0, 0x75, 0x31, 2, 0, 0x75, 0x3
 static const char label[] = "probe 2, left";
 static const uint32_t media = 1, sender = 9;
 
-/* What is counted: a source's record, fresh where it is all zero, and its jumps and restarts. */
+/* What is counted: a source's record, fresh if it is all zero, and its jumps and restarts. */
 struct totals {
     uint64_t source[FLASKNIB_SOURCE_WORDS];
     uint64_t jumped, restarts;
@@ -39,9 +39,9 @@ static int count_block(struct totals *totals, const uint8_t *records, size_t len
 {
     int64_t answer = flasknib_count_block(totals->source, FLASKNIB_SOURCE_WORDS, records, length, width);
     if (answer < 0)
-        return (int)-answer;
-    totals->jumped += FLASKNIB_BLOCK_JUMPS(answer);
-    totals->restarts += FLASKNIB_BLOCK_RESTARTS(answer);
+        return flasknib_writer_refusal(answer);
+    totals->jumped += flasknib_block_jumps(answer);
+    totals->restarts += flasknib_block_restarts(answer);
     return 0;
 }
 
@@ -49,10 +49,10 @@ static int count_block(struct totals *totals, const uint8_t *records, size_t len
 static void print_words(const char *name, const uint8_t *bytes, int64_t answer)
 {
     printf("%s:", name);
-    if (FLASKNIB_WRITE_REFUSAL(answer) != 0)
-        printf(" refused %d", FLASKNIB_WRITE_REFUSAL(answer));
-    if (FLASKNIB_WRITE_REFUSAL(answer) == FLASKNIB_REFUSAL_ROOM)
-        printf(", %zu bytes", FLASKNIB_WRITE_SIZE(answer));
+    if (flasknib_writer_refusal(answer) != 0)
+        printf(" refused %d", flasknib_writer_refusal(answer));
+    if (flasknib_writer_refusal(answer) == FLASKNIB_REFUSAL_ROOM)
+        printf(", %zu bytes", flasknib_writer_size(answer));
     for (int64_t i = 0; i < answer; i++)
         printf("%s%02X", i % 4 == 0 ? " " : "", bytes[i]);
     printf("\n");
@@ -63,7 +63,7 @@ static int print_text(const uint8_t *bytes, int64_t answer)
 {
     if (answer > 0)
         fwrite(bytes, 1, (size_t)answer, stdout);
-    return FLASKNIB_WRITE_REFUSAL(answer);
+    return flasknib_writer_refusal(answer);
 }
 
 static void print_reports(const uint64_t *source)
@@ -82,8 +82,13 @@ static void print_reports(const uint64_t *source)
 
 static int64_t write_row(const struct totals *totals, uint8_t *out, size_t room)
 {
-    return flasknib_write_row((const uint8_t *)label, sizeof label - 1, media, totals->source, FLASKNIB_SOURCE_WORDS, totals->jumped,
-                              totals->restarts, out, room);
+    return flasknib_write_row_with((struct flasknib_row){.label = (const uint8_t *)label,
+                                                         .length = sizeof label - 1,
+                                                         .ssrc = media,
+                                                         .source = totals->source,
+                                                         .jumped = totals->jumped,
+                                                         .restarts = totals->restarts},
+                                   out, room);
 }
 
 /* Prints the head line and a row of whatever length. Gives a refusal, 0 for none. */
@@ -93,11 +98,11 @@ static int print_table(const struct totals *totals)
     uint8_t head[FLASKNIB_HEAD_BYTES], none[1];
     int64_t asked = write_row(totals, none, 0);
     print_words("row in 0 bytes", none, asked);
-    if (FLASKNIB_WRITE_REFUSAL(asked) != FLASKNIB_REFUSAL_ROOM)
-        return FLASKNIB_WRITE_REFUSAL(asked);
+    if (flasknib_writer_refusal(asked) != FLASKNIB_REFUSAL_ROOM)
+        return flasknib_writer_refusal(asked);
 
     /* Asked again with just that much room, it writes. */
-    size_t size = FLASKNIB_WRITE_SIZE(asked);
+    size_t size = flasknib_writer_size(asked);
     uint8_t *row = malloc(size);
     if (row == NULL)
         return EXIT_FAILURE;
@@ -121,7 +126,7 @@ int main(void)
     if (refusal != 0)
         return refusal;
 
-    /* After a reboot the first packet jumps, and the second, which has the number behind it, is counted as the first of all. */
+    /* After a reboot the first packet jumps, and the second, which has the number after it, is counted as the first of all. */
     refusal = count_block(&totals, rebooted, sizeof rebooted, 4);
     if (refusal != 0)
         return refusal;

@@ -12,7 +12,7 @@
 
 #include "flasknib.h"
 
-using Source = std::array<std::uint64_t, FLASKNIB_SOURCE_WORDS>; // fresh where it is all zero
+using Source = std::array<std::uint64_t, FLASKNIB_SOURCE_WORDS>; // fresh if it is all zero
 using Bytes = std::vector<std::uint8_t>;
 
 constexpr std::string_view label = "probe 2, left";
@@ -23,7 +23,7 @@ struct Totals {
     std::uint64_t jumped = 0, restarts = 0;
 };
 
-// Thrown where a call is refused.
+// Thrown if a call is refused.
 struct Refused {
     int number;
 };
@@ -49,9 +49,9 @@ template <typename Writer> static std::size_t size_of(Writer write)
 {
     std::uint8_t none = 0;
     const std::int64_t asked = write(&none, std::size_t{0});
-    if (FLASKNIB_WRITE_REFUSAL(asked) != FLASKNIB_REFUSAL_ROOM)
-        throw Refused{FLASKNIB_WRITE_REFUSAL(asked)};
-    return FLASKNIB_WRITE_SIZE(asked);
+    if (flasknib_writer_refusal(asked) != FLASKNIB_REFUSAL_ROOM)
+        throw Refused{flasknib_writer_refusal(asked)};
+    return flasknib_writer_size(asked);
 }
 
 // What a writer writes in just that much room.
@@ -60,7 +60,7 @@ template <typename Writer> static Bytes written(Writer write)
     Bytes out(size_of(write));
     const std::int64_t answer = write(out.data(), out.size());
     if (answer < 0)
-        throw Refused{FLASKNIB_WRITE_REFUSAL(answer)};
+        throw Refused{flasknib_writer_refusal(answer)};
     return out;
 }
 
@@ -68,8 +68,14 @@ template <typename Writer> static Bytes written(Writer write)
 static auto row(const Totals &totals)
 {
     return [&totals](std::uint8_t *out, std::size_t room) {
-        return flasknib_write_row(reinterpret_cast<const std::uint8_t *>(label.data()), label.size(), media, totals.source.data(),
-                                  totals.source.size(), totals.jumped, totals.restarts, out, room);
+        flasknib_row row{};
+        row.label = reinterpret_cast<const std::uint8_t *>(label.data());
+        row.length = label.size();
+        row.ssrc = media;
+        row.source = totals.source.data();
+        row.jumped = totals.jumped;
+        row.restarts = totals.restarts;
+        return flasknib_write_row_with(row, out, room);
     };
 }
 
@@ -93,9 +99,9 @@ static void count_block(Totals &totals, const std::uint8_t *records, std::size_t
 {
     const std::int64_t answer = flasknib_count_block(totals.source.data(), totals.source.size(), records, length, width);
     if (answer < 0)
-        throw Refused{static_cast<int>(-answer)};
-    totals.jumped += FLASKNIB_BLOCK_JUMPS(answer);
-    totals.restarts += FLASKNIB_BLOCK_RESTARTS(answer);
+        throw Refused{flasknib_writer_refusal(answer)};
+    totals.jumped += flasknib_block_jumps(answer);
+    totals.restarts += flasknib_block_restarts(answer);
 }
 
 static void print_reports(const Source &source)

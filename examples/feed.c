@@ -31,8 +31,8 @@ static void print(size_t length)
 static int take(size_t length)
 {
     int64_t answer = flasknib_feed(upload, FLASKNIB_UPLOAD_WORDS, kept, sizeof kept, stretch, length, out, sizeof out);
-    int refusal = FLASKNIB_WRITE_REFUSAL(answer);
-    print(refusal != 0 ? FLASKNIB_WRITE_SIZE(answer) : (size_t)answer);
+    int refusal = flasknib_writer_refusal(answer);
+    print(refusal != 0 ? flasknib_writer_size(answer) : (size_t)answer);
     return refusal;
 }
 

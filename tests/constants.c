@@ -48,8 +48,8 @@ static void jumps(void)
 
     counted(source);
     answer = flasknib_count_block(source, FLASKNIB_SOURCE_WORDS, records, sizeof records, 4);
-    CHECK(FLASKNIB_BLOCK_JUMPS(answer) == 2);
-    CHECK(FLASKNIB_BLOCK_RESTARTS(answer) == 1);
+    CHECK(flasknib_block_jumps(answer) == 2);
+    CHECK(flasknib_block_restarts(answer) == 1);
 }
 
 /* A record of 2^48 arrivals, all of number 5 with ECT(0). */
@@ -245,7 +245,7 @@ static uint16_t reported(uint64_t fraction, uint64_t rtt, uint64_t size, uint64_
 {
     uint64_t breaker[FLASKNIB_BREAKER_WORDS];
 
-    flasknib_breaker_start(FLASKNIB_PRESET_K, FLASKNIB_PRESET_M, FLASKNIB_PRESET_TIMEOUT, 0, 0, 0, breaker, FLASKNIB_BREAKER_WORDS);
+    CHECK(flasknib_breaker_start_with(flasknib_preset(), 0, breaker, FLASKNIB_BREAKER_WORDS) == FLASKNIB_GO);
     return flasknib_breaker_report(breaker, FLASKNIB_BREAKER_WORDS, 10, 1, fraction, rtt, size, rate);
 }
 
@@ -253,7 +253,7 @@ static uint16_t reported_ecn(int64_t lost, uint64_t marked, uint64_t expected)
 {
     uint64_t breaker[FLASKNIB_BREAKER_WORDS];
 
-    flasknib_breaker_start(FLASKNIB_PRESET_K, FLASKNIB_PRESET_M, FLASKNIB_PRESET_TIMEOUT, 0, 0, 0, breaker, FLASKNIB_BREAKER_WORDS);
+    CHECK(flasknib_breaker_start_with(flasknib_preset(), 0, breaker, FLASKNIB_BREAKER_WORDS) == FLASKNIB_GO);
     return flasknib_breaker_report_ecn(breaker, FLASKNIB_BREAKER_WORDS, 10, 1, lost, marked, expected, 1, 1, 1);
 }
 
@@ -395,7 +395,115 @@ static void blocks(void)
 /* Whether a writer asked with room 0 answers this size. */
 static int asks(int64_t answer, size_t size)
 {
-    return FLASKNIB_WRITE_REFUSAL(answer) == FLASKNIB_REFUSAL_ROOM && FLASKNIB_WRITE_SIZE(answer) == size;
+    return flasknib_writer_refusal(answer) == FLASKNIB_REFUSAL_ROOM && flasknib_writer_size(answer) == size;
+}
+
+/* A writer's answer and a breaker's, taken apart at their limits; the names of version 0.1. */
+static void answers(void)
+{
+    const int64_t room = -(256 * 65 + FLASKNIB_REFUSAL_ROOM), block = 256 * 3 + 2;
+    int calls = 0;
+
+    CHECK(flasknib_writer_refusal(0) == 0 && flasknib_writer_size(0) == 0);
+    CHECK(flasknib_writer_refusal(INT64_MAX) == 0 && flasknib_writer_size(INT64_MAX) == 0);
+    CHECK(flasknib_writer_refusal(-9) == 9 && flasknib_writer_size(-9) == 0);
+    CHECK(flasknib_writer_refusal(room) == FLASKNIB_REFUSAL_ROOM && flasknib_writer_size(room) == 65);
+    CHECK(flasknib_writer_size(INT64_MIN) == (size_t)1 << 55);
+    CHECK(flasknib_block_jumps(block) == 2 && flasknib_block_restarts(block) == 3);
+    CHECK(flasknib_block_jumps(-10) == 0 && flasknib_block_restarts(-10) == 0);
+    CHECK(FLASKNIB_WRITE_REFUSAL(room - calls++) == FLASKNIB_REFUSAL_ROOM && FLASKNIB_WRITE_SIZE(room) == 65);
+    CHECK(FLASKNIB_BLOCK_JUMPS(block + calls++) == 3 && FLASKNIB_BLOCK_RESTARTS(block) == 3);
+    CHECK(calls == 2);
+    for (int reason = FLASKNIB_REASON_TIMEOUT; reason <= FLASKNIB_REASON_CONGESTION; reason++) {
+        uint16_t answer = (uint16_t)(FLASKNIB_STOP + reason);
+        CHECK(flasknib_is_stop(answer) && flasknib_stop_reason(answer) == reason && flasknib_breaker_refusal(answer) == 0);
+    }
+    CHECK(!flasknib_is_stop(FLASKNIB_GO) && flasknib_stop_reason(FLASKNIB_GO) == 0 && flasknib_breaker_refusal(FLASKNIB_GO) == 0);
+    CHECK(!flasknib_is_stop(FLASKNIB_REDUCE) && flasknib_breaker_refusal(FLASKNIB_REDUCE) == 0);
+    CHECK(!flasknib_is_stop(FLASKNIB_REFUSED + 1) && flasknib_stop_reason(FLASKNIB_REFUSED + 1) == 0);
+    CHECK(flasknib_breaker_refusal(FLASKNIB_REFUSED + FLASKNIB_REFUSAL_TIME) == FLASKNIB_REFUSAL_TIME);
+}
+
+/* Each function over a struct does what the plain one does, with all its numbers different. */
+static void named_settings(void)
+{
+    const struct flasknib_settings settings = {5, 6, 7000, 1, 0}, other = {7, 8, 9000, 0, 1};
+    uint64_t plain[FLASKNIB_BREAKER_WORDS], named[FLASKNIB_BREAKER_WORDS];
+
+    CHECK(flasknib_breaker_start(5, 6, 7000, 1, 0, 10, plain, FLASKNIB_BREAKER_WORDS) == FLASKNIB_GO);
+    CHECK(flasknib_breaker_start_with(settings, 10, named, FLASKNIB_BREAKER_WORDS) == FLASKNIB_GO);
+    CHECK(memcmp(plain, named, sizeof plain) == 0);
+    CHECK(flasknib_breaker_start(7, 8, 9000, 0, 1, 10, plain, FLASKNIB_BREAKER_WORDS) == FLASKNIB_GO);
+    CHECK(flasknib_breaker_start_with(other, 10, named, FLASKNIB_BREAKER_WORDS) == FLASKNIB_GO);
+    CHECK(memcmp(plain, named, sizeof plain) == 0);
+    CHECK(flasknib_breaker_start_preset(10, plain, FLASKNIB_BREAKER_WORDS) == FLASKNIB_GO);
+    CHECK(flasknib_breaker_start_with(flasknib_preset(), 10, named, FLASKNIB_BREAKER_WORDS) == FLASKNIB_GO);
+    CHECK(memcmp(plain, named, sizeof plain) == 0);
+    CHECK(flasknib_breaker_start_with(settings, 10, named, FLASKNIB_BREAKER_WORDS - 1) == FLASKNIB_REFUSED + FLASKNIB_REFUSAL_ROOM);
+}
+
+enum { AT_LIMIT = 244948 }; /* bytes per second at which a quarter of the packets lost is just allowed, with 1,000 bytes each and 100 ms */
+
+/* A report with a quarter lost, by its fraction or its counts, after two such reports with k = 2, made by the plain call, over structs or by a packet's call. */
+static uint16_t quarter_lost(int how, uint64_t rate, uint64_t *breaker)
+{
+    const struct flasknib_sending sending = {100, 1000, rate};
+    uint16_t answer = flasknib_breaker_start(2, 3, 15000, 0, 0, 0, breaker, FLASKNIB_BREAKER_WORDS);
+
+    for (uint32_t i = 1; i <= 3 && answer == FLASKNIB_GO; i++) {
+        const struct flasknib_report report = {5000 * (uint64_t)i, 1000 * i, 64};
+        const struct flasknib_report_ecn report_ecn = {5000 * (uint64_t)i, 1000 * i, 10, 15, 100};
+        const uint64_t by_fraction[FLASKNIB_CALL_WORDS] = {FLASKNIB_WHICH_REPORT, 1000 * i, 64, 0, 0, 0};
+        const uint64_t by_counts[FLASKNIB_CALL_WORDS] = {FLASKNIB_WHICH_REPORT_ECN, 1000 * i, 0, 10, 15, 100};
+        if (how == 0)
+            answer = flasknib_breaker_report(breaker, FLASKNIB_BREAKER_WORDS, report.time, 1000 * i, 64, 100, 1000, rate);
+        else if (how == 1)
+            answer = flasknib_breaker_report_with(breaker, FLASKNIB_BREAKER_WORDS, report, sending);
+        else if (how == 2)
+            answer = flasknib_breaker_report_ecn_with(breaker, FLASKNIB_BREAKER_WORDS, report_ecn, sending);
+        else
+            answer = flasknib_breaker_take(breaker, FLASKNIB_BREAKER_WORDS, how == 3 ? by_fraction : by_counts, report.time, sending);
+    }
+    return answer;
+}
+
+static void named_reports(void)
+{
+    static const uint64_t heard[FLASKNIB_CALL_WORDS] = {FLASKNIB_WHICH_HEARD};
+    uint64_t plain[FLASKNIB_BREAKER_WORDS], named[FLASKNIB_BREAKER_WORDS];
+
+    for (int how = 0; how <= 4; how++) {
+        CHECK(quarter_lost(0, AT_LIMIT, plain) == FLASKNIB_GO);
+        CHECK(quarter_lost(how, AT_LIMIT, named) == FLASKNIB_GO && memcmp(plain, named, sizeof plain) == 0);
+        CHECK(quarter_lost(how, AT_LIMIT + 1, named) == FLASKNIB_STOP + FLASKNIB_REASON_CONGESTION);
+    }
+    CHECK(quarter_lost(0, AT_LIMIT, named) == FLASKNIB_GO);
+    const struct flasknib_sending none = {0, 0, 0};
+    CHECK(flasknib_breaker_take(named, FLASKNIB_BREAKER_WORDS, heard, 16000, none) == FLASKNIB_GO);
+    CHECK(flasknib_breaker_heard(plain, FLASKNIB_BREAKER_WORDS, 16000) == FLASKNIB_GO && memcmp(plain, named, sizeof plain) == 0);
+}
+
+static void named_bytes(void)
+{
+    static const uint64_t times[] = {1, 2};
+    static const uint16_t numbers[] = {3, 4};
+    static const uint8_t marks[] = {FLASKNIB_MARK_CE, FLASKNIB_MARK_ECT0}, label[] = {'w', 'a', 'r', 'd'};
+    const struct flasknib_ecn_report later = {8, 8, 8}, earlier = {5, 6, 7};
+    const struct flasknib_arrivals arrivals = {FLASKNIB_FORM_TWO, SSRC, 2, times, numbers, marks};
+    uint8_t plain[FLASKNIB_ROW_MOST_BYTES], named[FLASKNIB_ROW_MOST_BYTES];
+    uint64_t source[FLASKNIB_SOURCE_WORDS], counts[FLASKNIB_ECN_WORDS];
+    const struct flasknib_row row = {label, sizeof label, SSRC, source, 2, 1};
+    int64_t length;
+
+    CHECK(flasknib_ecn_between_with(later, earlier, counts, FLASKNIB_ECN_WORDS) == 0);
+    CHECK(counts[FLASKNIB_ECN_LOST] == 1 && counts[FLASKNIB_ECN_MARKED] == 2 && counts[FLASKNIB_ECN_EXPECTED] == 3);
+    CHECK(flasknib_ecn_between_with(earlier, later, counts, FLASKNIB_ECN_WORDS) == FLASKNIB_REFUSAL_LIMITS);
+    CHECK(flasknib_write_arrivals(FLASKNIB_FORM_TWO, times, 2, numbers, 2, marks, 2, SSRC, plain, sizeof plain) == FLASKNIB_BLOCK_BYTES);
+    CHECK(flasknib_write_arrivals_with(arrivals, named, sizeof named) == FLASKNIB_BLOCK_BYTES);
+    CHECK(memcmp(plain, named, FLASKNIB_BLOCK_BYTES) == 0);
+    counted(source);
+    length = flasknib_write_row(label, sizeof label, SSRC, source, FLASKNIB_SOURCE_WORDS, 2, 1, plain, sizeof plain);
+    CHECK(length > 0 && flasknib_write_row_with(row, named, sizeof named) == length && memcmp(plain, named, (size_t)length) == 0);
 }
 
 /* Each refusal has a text, and no other number has one. */
@@ -429,8 +537,8 @@ static void sizes(void)
     CHECK(asks(flasknib_write_refused(255, UINT64_MAX, out, 0), FLASKNIB_REFUSED_MOST_BYTES));
     memset(label, '"', sizeof label);
     row = flasknib_write_row(label, sizeof label, SSRC, source, FLASKNIB_SOURCE_WORDS, 0, 0, out, 0);
-    CHECK(FLASKNIB_WRITE_REFUSAL(row) == FLASKNIB_REFUSAL_ROOM);
-    CHECK(FLASKNIB_WRITE_SIZE(row) > 2 * FLASKNIB_LABEL_MOST_BYTES && FLASKNIB_WRITE_SIZE(row) <= FLASKNIB_ROW_MOST_BYTES);
+    CHECK(flasknib_writer_refusal(row) == FLASKNIB_REFUSAL_ROOM);
+    CHECK(flasknib_writer_size(row) > 2 * FLASKNIB_LABEL_MOST_BYTES && flasknib_writer_size(row) <= FLASKNIB_ROW_MOST_BYTES);
 }
 
 static void tables(void)
@@ -524,10 +632,10 @@ static void upload_words(void)
     CHECK(upload[FLASKNIB_UPLOAD_KEPT] == 11);
     CHECK(upload[FLASKNIB_UPLOAD_REFUSAL] == 0);
     int64_t asked = flasknib_feed(upload, words, kept, sizeof kept, trace + cut, sizeof trace - cut, rows, 0);
-    CHECK(FLASKNIB_WRITE_REFUSAL(asked) == FLASKNIB_REFUSAL_ROOM);
+    CHECK(flasknib_writer_refusal(asked) == FLASKNIB_REFUSAL_ROOM);
     int64_t answer = flasknib_feed(upload, words, kept, sizeof kept, trace + cut, sizeof trace - cut, rows, sizeof rows);
-    CHECK(FLASKNIB_WRITE_REFUSAL(answer) == FLASKNIB_REFUSAL_CONTENTS);
-    CHECK(FLASKNIB_WRITE_SIZE(answer) == FLASKNIB_WRITE_SIZE(asked) && FLASKNIB_WRITE_SIZE(answer) > 0);
+    CHECK(flasknib_writer_refusal(answer) == FLASKNIB_REFUSAL_CONTENTS);
+    CHECK(flasknib_writer_size(answer) == flasknib_writer_size(asked) && flasknib_writer_size(answer) > 0);
     CHECK(upload[FLASKNIB_UPLOAD_FORM] == FLASKNIB_FORM_TWO);
     CHECK(upload[FLASKNIB_UPLOAD_LABEL_LENGTH] == 3);
     CHECK(upload[FLASKNIB_UPLOAD_SSRC] == SSRC);
@@ -668,6 +776,10 @@ int main(void)
     report_limits();
     breaker_words();
     stops();
+    answers();
+    named_settings();
+    named_reports();
+    named_bytes();
     blocks();
     texts();
     sizes();

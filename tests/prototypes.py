@@ -5,6 +5,7 @@ The source is each `pub extern "C" fn` of crates/capi. Declarations stand in inc
 Python and the crate in Rust; and, by hand, in the benchmarks. Result, order, types, constness and names of the parameters are compared; a slice is a
 pointer, to const unless it is `&mut`, and the count behind it. Two rules on names: what the source calls `words` is called by its record elsewhere (`source`, `sources`, `forms`, `upload`); and the
 count behind a pointer is `words` or `NAME_words`, of bytes `length` or `NAME_length`, of the lists of an arrivals block `n_NAME`, of `out` always `room`.
+In the header each function is marked, so that its answer is used and no pointer is null.
 The manual page has each function once under RETURN VALUE, beside others with its result. Copies are then broken in several ways, and each must be found.
 """
 import glob
@@ -19,7 +20,7 @@ PACKAGE, CRATE, TIMED = "python/flasknib/header.py", "rust/flasknib/src/header.r
 C_TYPES = {f"{sign}int{bits}_t": f"{'u' if sign else 'i'}{bits}" for sign in ("u", "") for bits in (8, 16, 32, 64)} | {"size_t": "usize"}
 LISTS = {"times", "numbers", "marks"}
 
-PROTOTYPE = re.compile(r"^(?P<result>\w+) (?P<name>flasknib_\w+)\((?P<parameters>[^)]*)\);", re.M)
+PROTOTYPE = re.compile(r"^(?P<result>\w+) (?P<name>flasknib_\w+)\((?P<parameters>[^)]*)\)(?:\s+(?P<mark>FLASKNIB_\w+))?;", re.M)
 RUST = re.compile(r"^ *(?:pub )?fn (?P<name>flasknib_\w+)\((?P<parameters>[^)]*)\) -> (?P<result>\w+);", re.M)
 RATTLE = re.compile(r'^pub extern "C" fn (?P<name>flasknib_\w+)\((?P<parameters>[^)]*)\) -> (?P<result>\w+)', re.M)
 
@@ -170,6 +171,14 @@ def different(files, header):
             yield f"{PACKAGE}: {name} is not called as the header has it"
 
 
+def unmarked(files):
+    """Functions of the header whose answer may be dropped, or whose pointers may be null."""
+    for d in PROTOTYPE.finditer(re.sub(r"/\*.*?\*/", "", files[HEADER], flags=re.S)):
+        mark = "FLASKNIB_MUST_USE_NONNULL" if "*" in d["parameters"] else "FLASKNIB_MUST_USE"
+        if d["mark"] != mark:
+            yield f"{HEADER}: {d['name']} is not marked with {mark}"
+
+
 def unreturned(files, header):
     """Functions that RETURN VALUE of the manual page has not once, or beside one with another result."""
     page = files[MANUAL].partition(".SH RETURN VALUE\n")[2].partition("\n.SH ")[0]
@@ -192,7 +201,7 @@ def faults(files):
     for name in sorted(set(source) & set(header)):
         if not fits(header[name], source[name]):
             wrong.append(f"{HEADER}: {name} is {shown(header[name])}, and in crates/capi {shown(source[name])}")
-    return wrong + [*undeclared(files, header), *different(files, header), *unreturned(files, header)], len(source)
+    return wrong + [*undeclared(files, header), *different(files, header), *unmarked(files), *unreturned(files, header)], len(source)
 
 
 # ---- broken copies: in each file one declaration is changed, in these ways (a pattern, and what takes its place)
@@ -207,6 +216,8 @@ IN_C = EVERYWHERE | {
     "another result": (r"^int64_t", "int32_t"),
     "counts exchanged": (r"length(.*)words", r"words\1length"),
     "a pointer without its count": (r"size_t words, ", ""),
+    "its mark gone": (r"\s+FLASKNIB_MUST_USE_NONNULL", ""),
+    "another mark": (r"FLASKNIB_MUST_USE_NONNULL", "FLASKNIB_MUST_USE"),
 }
 IN_RATTLE = EVERYWHERE | {
     "a width changed": (r"ssrc: u32", "ssrc: u16"),

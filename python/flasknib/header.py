@@ -34,7 +34,6 @@ REFUSAL_RULES = 16
 REFUSAL_FORM_TWO = 17
 REFUSAL_ATTRIBUTE = 18
 REFUSAL_RETIRED = 19
-VERSION = 512
 REFUSAL_TEXT_MOST_BYTES = 80
 SOURCE_WORDS = 10
 SOURCE_BASE = 0
@@ -246,7 +245,7 @@ _version = bind("flasknib_version", u32)
 
 
 def version() -> int:
-    """The version of the library that is linked: 65,536 * major + 256 * minor + patch."""
+    """Gives the version of the library that is linked, as FLASKNIB_VERSION is made."""
     return _version()
 
 
@@ -254,8 +253,8 @@ _refusal_text = bind("flasknib_refusal_text", i64, u8, memory, usize)
 
 
 def refusal_text(number: int, out: Buffer) -> int:
-    """Writes what a refusal means, one sentence in ASCII, not ended by a zero byte. Gives its length, or
-    minus a refusal: 10 a number that is no refusal's (1 to 19), 12."""
+    """Writes what a refusal means, in ASCII, not ended by a zero byte. Gives the length, or minus a refusal:
+    10 a number that is no refusal's (1 to 19), 12."""
     number = fits(number, u8)
     lent_out = written(out)
     return _refusal_text(number, lent_out, len(lent_out))
@@ -265,8 +264,9 @@ _arrive = bind("flasknib_arrive", u8, pointer(u64), usize, u16, u8)
 
 
 def arrive(source: Words, wire: int, mark: int) -> int:
-    """Counts one arrival. Gives 0 or FLASKNIB_RESTARTED and the next record, or refusal 9, 10 for a mark
-    above 3, 8 or 7. Refusal 7 stores the next record too: only the remembered number differs."""
+    """Counts one arrival, of the wire number `wire` with the mark `mark`. Gives 0, or FLASKNIB_RESTARTED.
+    Refusals: 9; 10 for a mark above 3; 8; 7. Changes `source` to the next record; refusal 7 too, in which
+    only the remembered number differs."""
     wire = fits(wire, u16)
     mark = fits(mark, u8)
     return _arrive(source, len(source), wire, mark)
@@ -280,9 +280,10 @@ def count_block(source: Words, records: Buffer, width: int) -> int:
     looked at, and then the wire number (2, big-endian), the mark and a byte that is not judged here; so a
     width of FLASKNIB_RECORD_ONE_BYTES or FLASKNIB_RECORD_TWO_BYTES, or 4 without a time, or any other from 4
     on. A record that is a jump, or that comes when 2^48 are counted, is left out, and the next one is taken.
-    Gives 256 * restarts + jumps and the next record, or minus refusal 9, or 10 for a width below 4, a length
-    that is no multiple of it, no record, more than 62 or a mark above 3 in any of them. The first packet of
-    the pair that makes a restart is a jump, the second is counted as a restart alone."""
+    The first packet of the pair that makes a restart is a jump, the second is counted only as a restart.
+    Gives 256 * restarts + jumps: flasknib_block_jumps and flasknib_block_restarts take it apart. Refusals, as
+    minus the number: 9; 10 for a width below 4, a length that is no multiple of it, no record, more than 62
+    or a mark above 3 in any of them. Changes `source` to the next record."""
     width = fits(width, usize)
     lent_records = read(records)
     apart(source, lent_records)
@@ -293,9 +294,9 @@ _lost = bind("flasknib_lost", u8, pointer(u64), usize, pointer(u64), usize)
 
 
 def lost(source: Words, found: Words) -> int:
-    """The packets lost: highest - base + 1, less the different numbers that arrived. Negative where packets
-    from before the base came, and 0 in the fresh record. Gives 0 and 1 word, signed, at the front of `found`,
-    or refusal 9, or 12 where `found` has no word."""
+    """The packets lost: highest - base + 1, less the different numbers that arrived. Negative if packets from
+    before the base came, and 0 in the fresh record. Gives 0, and 1 word, signed. Refusals: 9; 12 if `found`
+    has no word. Changes the front of `found`."""
     apart(found, source)
     return _lost(source, len(source), found, len(found))
 
@@ -306,7 +307,7 @@ _write_feedback = bind("flasknib_write_feedback", i64, pointer(u64), usize, u32,
 def write_feedback(source: Words, sender: int, media: int, out: Buffer) -> int:
     """Writes the ECN feedback packet of RFC 6679, 32 bytes, from the SSRC `sender` about the SSRC `media`. It
     has highest, ECT(0) and ECT(1) modulo 2^32, and CE, not-ECT, lost and duplicates modulo 65,536. Gives its
-    length, or minus refusal 9, or 12 with its size."""
+    length. Refusals, as minus the number: 9; 12 with its size. Changes the front of `out`."""
     sender = fits(sender, u32)
     media = fits(media, u32)
     lent_out = written(out)
@@ -319,8 +320,8 @@ _write_summary = bind("flasknib_write_summary", i64, pointer(u64), usize, u32, m
 
 def write_summary(source: Words, media: int, out: Buffer) -> int:
     """Writes the XR ECN summary block of RFC 6679 with one entry, 24 bytes, about the SSRC `media`: the same
-    counters, without highest. The caller puts it into an XR packet. Gives its length, or minus refusal 9, or
-    12 with its size."""
+    counters, without highest. The caller puts it into an XR packet. Gives its length. Refusals, as minus the
+    number: 9; 12 with its size. Changes the front of `out`."""
     media = fits(media, u32)
     lent_out = written(out)
     apart(lent_out, source)
@@ -331,9 +332,9 @@ _sources_arrive = bind("flasknib_sources_arrive", u8, pointer(u64), usize, u32, 
 
 
 def sources_arrive(sources: Words, ssrc: int, wire: int, mark: int) -> int:
-    """Counts one arrival of the source `ssrc`, as flasknib_arrive does. Gives 0 or FLASKNIB_RESTARTED and the
-    next table, or refusal 16, 9, 10, 15, 8 or 7. Refusal 7 stores the next table too: only the remembered
-    number of that source's place differs."""
+    """Counts one arrival of the source `ssrc`, as flasknib_arrive does. Gives 0, or FLASKNIB_RESTARTED.
+    Refusals: 16; 9; 10 for a mark above 3; 15; 8; 7. Changes `sources` to the next table; refusal 7 too, in
+    which only the remembered number of that source's place differs."""
     ssrc = fits(ssrc, u32)
     wire = fits(wire, u16)
     mark = fits(mark, u8)
@@ -345,7 +346,8 @@ _sources_count_block = bind("flasknib_sources_count_block", i64, pointer(u64), u
 
 def sources_count_block(sources: Words, ssrc: int, records: Buffer, width: int) -> int:
     """Counts the records of one arrivals block of the source `ssrc`, as flasknib_count_block does. Gives 256
-    * restarts + jumps and the next table, or minus refusal 16, 9, 10 (as there) or 15."""
+    * restarts + jumps: flasknib_block_jumps and flasknib_block_restarts take it apart. Refusals, as minus the
+    number: 16; 9; 10 as in flasknib_count_block; 15. Changes `sources` to the next table."""
     ssrc = fits(ssrc, u32)
     width = fits(width, usize)
     lent_records = read(records)
@@ -358,8 +360,8 @@ _sources_write_compound = bind("flasknib_sources_write_compound", i64, pointer(u
 
 def sources_write_compound(sources: Words, sender: int, out: Buffer) -> int:
     """Writes a compound from the SSRC `sender`: an RR without report blocks (RFC 3550) and one ECN feedback
-    packet for each held place, in order; 8 bytes and 32 for each. Gives its length, or minus refusal 16 or 9,
-    or 12 with its size."""
+    packet for each held place, in order; 8 bytes and 32 for each. Gives its length. Refusals, as minus the
+    number: 16; 9; 12 with its size. Changes the front of `out`."""
     sender = fits(sender, u32)
     lent_out = written(out)
     apart(lent_out, sources)
@@ -370,8 +372,8 @@ _sources_place = bind("flasknib_sources_place", u8, pointer(u64), usize, usize, 
 
 
 def sources_place(sources: Words, place: int, found: Words) -> int:
-    """The words of one held place, counted from 0. Gives 0 and 11 words at the front of `found`, or refusal
-    16, 9, 10 for a place that is not held, or 12 where `found` has fewer words."""
+    """The words of one held place, counted from 0. Gives 0, and 11 words. Refusals: 16; 9; 10 for a place
+    that is not held; 12 if `found` has fewer words. Changes the front of `found`."""
     place = fits(place, usize)
     apart(found, sources)
     return _sources_place(sources, len(sources), place, found, len(found))
@@ -381,10 +383,10 @@ _read_compound = bind("flasknib_read_compound", u8, memory, usize, u32, u8, poin
 
 
 def read_compound(bytes: Buffer, media: int, profile: int, found: Words) -> int:
-    """Reads a compound, the payload of one UDP packet, for what it reports about the SSRC `media`. Gives 0
-    and 24 words at the front of `found`, or refusal 10 for another profile than the two, 1 to 6, or 10 for
-    too many bytes, or 12 where `found` has fewer words. A fault anywhere in the compound refuses all of
-    it."""
+    """Reads a compound, the payload of one UDP packet, for what it reports about the SSRC `media`. A fault
+    anywhere in the compound refuses all of it. Gives 0, and 24 words. Refusals: 10 for another profile than
+    the two; 1 for no bytes; 10 for too many; the first of 1 to 6, packet by packet; 12 if `found` has fewer
+    words. Changes the front of `found`."""
     media = fits(media, u32)
     profile = fits(profile, u8)
     lent_bytes = read(bytes)
@@ -399,10 +401,10 @@ def ecn_between(later_highest: int, later_ce: int, later_lost: int, earlier_high
     """What came between two ECN reports of one receiver about one source, the later and the earlier one, each
     with the highest number, the packets marked with CE and the packets lost as the packets carry them: of ECN
     feedback words 9, 12 and 14 of the compound; of a summary entry words 19 and 21, with the highest number
-    of the report block beside it, word 3. Gives 0 and 3 words at the front of `counts`, as
-    flasknib_breaker_report_ecn takes them, or refusal 10 where the highest number went back (a difference of
-    2^31 or more), or 12 where `counts` has fewer words. They are the true numbers where at most 65,535
-    packets were marked and -32,768 to 32,767 lost in between; not where the receiver began to count anew."""
+    of the report block beside it, word 3. They are the true numbers if at most 65,535 packets were marked and
+    -32,768 to 32,767 lost in between; not if the receiver began to count anew. Gives 0, and 3 words, as
+    flasknib_breaker_report_ecn takes them. Refusals: 10 if the highest number went back (a difference of 2^31
+    or more); 12 if `counts` has fewer words. Changes the front of `counts`."""
     later_highest = fits(later_highest, u32)
     later_ce = fits(later_ce, u16)
     later_lost = fits(later_lost, u16)
@@ -416,9 +418,8 @@ _since16 = bind("flasknib_since16", u16, u16, u16)
 
 
 def since16(later: int, earlier: int) -> int:
-    """What came between two reports, counter by counter: the later one minus the earlier one, modulo its
-    width. Reports carry the highest number, ECT(0) and ECT(1) in 32 bits, CE, not-ECT, lost and duplicates in
-    16. It is the true count where that is from 0 to 2^16 - 1, or to 2^32 - 1."""
+    """What came between two reports, of a counter that they carry in 16 bits: CE, not-ECT, duplicates. Gives
+    the later minus the earlier, modulo 2^16: the true count if that is from 0 to 2^16 - 1."""
     later = fits(later, u16)
     earlier = fits(earlier, u16)
     return _since16(later, earlier)
@@ -428,9 +429,8 @@ _since32 = bind("flasknib_since32", u32, u32, u32)
 
 
 def since32(later: int, earlier: int) -> int:
-    """What came between two reports, counter by counter: the later one minus the earlier one, modulo its
-    width. Reports carry the highest number, ECT(0) and ECT(1) in 32 bits, CE, not-ECT, lost and duplicates in
-    16. It is the true count where that is from 0 to 2^16 - 1, or to 2^32 - 1."""
+    """What came between two reports, of a counter that they carry in 32 bits: the highest number, ECT(0),
+    ECT(1). Gives the later minus the earlier, modulo 2^32: the true count if that is from 0 to 2^32 - 1."""
     later = fits(later, u32)
     earlier = fits(earlier, u32)
     return _since32(later, earlier)
@@ -440,7 +440,8 @@ _lost_since = bind("flasknib_lost_since", i16, u16, u16)
 
 
 def lost_since(later: int, earlier: int) -> int:
-    """The same of packets lost, which can fall: the difference is read as signed, -32,768 to 32,767."""
+    """What came between two reports, of packets lost, which can fall: they carry it in 16 bits. Gives the
+    later minus the earlier, modulo 2^16 and read as signed, -32,768 to 32,767."""
     later = fits(later, u16)
     earlier = fits(earlier, u16)
     return _lost_since(later, earlier)
@@ -450,10 +451,10 @@ _breaker_start = bind("flasknib_breaker_start", u16, u64, u64, u64, u8, u8, u64,
 
 
 def breaker_start(k: int, m: int, timeout: int, reduce: int, full: int, time: int, breaker: Words) -> int:
-    """Starts a breaker: Go and the record, or refusal 10, or 12 where `breaker` has fewer than 77 words.
-    `reduce` and `full` are 0 or 1, else refusal 10. With `full` the congestion rule takes the full throughput
-    equation (RFC 8083, section 4.3, with b = 1 and t_RTO = 4 * Tr), which reacts earlier where much is lost;
-    without, the simplified one."""
+    """Starts a breaker. With `full` the congestion rule takes the full throughput equation (RFC 8083, section
+    4.3, with b = 1 and t_RTO = 4 * Tr), which reacts earlier if much is lost; without, the simplified one.
+    Gives FLASKNIB_GO, and the record. Refusals: 10, also for a `reduce` or `full` that is not 0 or 1; 12 if
+    `breaker` has fewer than 77 words. Changes the front of `breaker`."""
     k = fits(k, u64)
     m = fits(m, u64)
     timeout = fits(timeout, u64)
@@ -467,8 +468,9 @@ _breaker_start_preset = bind("flasknib_breaker_start_preset", u16, u64, pointer(
 
 
 def breaker_start_preset(time: int, breaker: Words) -> int:
-    """The same with the preset settings: k = 3, m = 3, a timeout of 15,000 ms, no reductions, the simplified
-    equation. Refusal 10 is then for a time of 2^48 ms or more."""
+    """Starts a breaker with the preset settings: k = 3, m = 3, a timeout of 15,000 ms, no reductions, the
+    simplified equation. Gives FLASKNIB_GO, and the record. Refusals: 10 for a time of 2^48 ms or more; 12 if
+    `breaker` has fewer than 77 words. Changes the front of `breaker`."""
     time = fits(time, u64)
     return _breaker_start_preset(time, breaker, len(breaker))
 
@@ -477,8 +479,9 @@ _breaker_report = bind("flasknib_breaker_report", u16, pointer(u64), usize, u64,
 
 
 def breaker_report(breaker: Words, time: int, highest: int, fraction: int, rtt: int, size: int, rate: int) -> int:
-    """A report that came at `time`: its extended highest sequence number and its fraction lost, in 256ths, 0
-    to 255. Refusals 9, 10, 11. A stopped breaker answers its stop."""
+    """Takes a report that came at `time`: its extended highest sequence number and its fraction lost, in
+    256ths, 0 to 255. Gives FLASKNIB_GO, FLASKNIB_REDUCE or a stop. A stopped breaker answers its stop, after
+    9 only. Refusals: 9; 10; 11. Changes `breaker` to the next record; a stopped one stays as it is."""
     time = fits(time, u64)
     highest = fits(highest, u32)
     fraction = fits(fraction, u64)
@@ -492,12 +495,13 @@ _breaker_report_ecn = bind("flasknib_breaker_report_ecn", u16, pointer(u64), usi
 
 
 def breaker_report_ecn(breaker: Words, time: int, highest: int, lost: int, marked: int, expected: int, rtt: int, size: int, rate: int) -> int:
-    """A report with ECN counts in the place of the fraction lost: of the `expected` packets of its interval,
-    `lost` were lost (negative where some came that were counted as lost before) and `marked` were marked with
-    CE. The fraction is 256 * min(lost + marked, expected) / expected rounded down, at most 255; a negative
-    `lost` is 0 there, and where none were expected the fraction is 0. Refusals 9, 10, 11; 10 also where
-    `marked` or `expected` is above 2^31, or `lost` outside -2^31 to 2^31. A stopped breaker answers its
-    stop."""
+    """Takes a report with ECN counts in the place of the fraction lost: of the `expected` packets of its
+    interval, `lost` were lost (negative if some came that were counted as lost before) and `marked` were
+    marked with CE. The fraction is 256 * min(lost + marked, expected) / expected rounded down, at most 255; a
+    negative `lost` is 0 there, and if none were expected the fraction is 0. Gives FLASKNIB_GO,
+    FLASKNIB_REDUCE or a stop. A stopped breaker answers its stop, after 9 only. Refusals: 9; 10, also for a
+    `marked` or `expected` above 2^31, or a `lost` outside -2^31 to 2^31; 11. Changes `breaker` to the next
+    record; a stopped one stays as it is."""
     time = fits(time, u64)
     highest = fits(highest, u32)
     lost = fits(lost, i64)
@@ -513,8 +517,9 @@ _breaker_tick = bind("flasknib_breaker_tick", u16, pointer(u64), usize, u64)
 
 
 def breaker_tick(breaker: Words, time: int) -> int:
-    """A tick, as from a timer: only whether the timeout has passed at `time`. Refusals 9, 10, 11. A stopped
-    breaker answers its stop."""
+    """Takes a tick, as from a timer: only whether the timeout has passed at `time`. Gives FLASKNIB_GO or a
+    stop. A stopped breaker answers its stop, after 9 only. Refusals: 9; 10; 11. Changes `breaker` only if it
+    stops now."""
     time = fits(time, u64)
     return _breaker_tick(breaker, len(breaker), time)
 
@@ -523,8 +528,9 @@ _breaker_heard = bind("flasknib_breaker_heard", u16, pointer(u64), usize, u64)
 
 
 def breaker_heard(breaker: Words, time: int) -> int:
-    """A packet that is no report was heard: a Go moves the time from which the timeout is measured to `time`,
-    and nothing else. Refusals 9, 10, 11. A stopped breaker answers its stop."""
+    """Takes a packet that was heard and is no report: a Go moves the time from which the timeout is measured
+    to `time`, and nothing else. Gives FLASKNIB_GO or a stop. A stopped breaker answers its stop, after 9
+    only. Refusals: 9; 10; 11. Changes `breaker` to the next record; a stopped one stays as it is."""
     time = fits(time, u64)
     return _breaker_heard(breaker, len(breaker), time)
 
@@ -533,16 +539,17 @@ _breaker_call = bind("flasknib_breaker_call", u8, pointer(u64), usize, pointer(u
 
 
 def breaker_call(found: Words, kept: Words, call: Words) -> int:
-    """The call for a packet, by the 24 words that flasknib_read_compound gave of it and the 4 words kept of
-    its receiver. Gives 0, the 6 words of the call at the front of `call`, and what is kept then in the place
-    of what was; or refusal 9, or 12 where `call` has fewer than 6 words. 9 is for - another number of words
-    than 24 or 4; a word 0, 7, 16 or 23 of the compound, or a first one of what is kept, above 1; - where a
-    report block is there, a fraction past 8 bits or a highest number past 32; where feedback is there, a
-    highest number past 32 bits, CE or lost past 16; where a summary entry is there, CE or lost past 16; the
-    same of what is kept; - kept words that are not 0 where none is kept. No other word is looked at. What the
-    reader gave and an earlier call kept is never refused with 9, and the breaker takes the losses that it
-    gives: time, round trip, packet size and rate are the caller's. Where the breaker refuses the call, put
-    the kept words back to what they were before, so that the next report counts from there."""
+    """Says which call a packet is for, by the 24 words that flasknib_read_compound gave of it and the 4 words
+    kept of its receiver. What the reader gave and an earlier call kept is never refused with 9, and the
+    breaker takes the losses that this call gives: time, round trip, packet size and rate are the caller's.
+    flasknib_breaker_take makes the call. Gives 0, the 6 words of the call, and what is kept then. Refusals:
+    9; 12 if `call` has fewer than 6 words. 9 is for - another number of words than 24 or 4; a word 0, 7, 16
+    or 23 of the compound, or a first one of what is kept, above 1; - if a report block is there, a fraction
+    past 8 bits or a highest number past 32; if feedback is there, a highest number past 32 bits, CE or lost
+    past 16; if a summary entry is there, CE or lost past 16; the same of what is kept; - kept words that are
+    not 0 if none is kept. No other word is looked at. Changes the front of `call`, and `kept`. If the breaker
+    then refuses the call, put the kept words back to what they were before, so that the next report counts
+    from there."""
     apart(kept, call, found)
     apart(call, found)
     return _breaker_call(found, len(found), kept, len(kept), call, len(call))
@@ -552,9 +559,9 @@ _read_attribute = bind("flasknib_read_attribute", u8, memory, usize, pointer(u64
 
 
 def read_attribute(line: Buffer, found: Words) -> int:
-    """Reads a line. Gives 0 and 11 words at the front of `found`, or refusal 10 for over 255 bytes, 18 for a
-    line that is not well formed, an empty one too, 10 for over 8 methods or 8 parameters, known or not, or 12
-    if `found` has fewer words."""
+    """Reads a line. Gives 0, and 11 words. Refusals: 10 for over 255 bytes; 18 for a line that is not well
+    formed, an empty one too; 10 for over 8 methods or 8 parameters, known or not; 12 if `found` has fewer
+    words. Changes the front of `found`."""
     lent_line = read(line)
     apart(found, lent_line)
     return _read_attribute(lent_line, len(lent_line), found, len(found))
@@ -565,8 +572,9 @@ _write_attribute = bind("flasknib_write_attribute", i64, pointer(u64), usize, me
 
 def write_attribute(attribute: Words, out: Buffer) -> int:
     """Writes the line of a record, 22 to 84 bytes, in lower case and with no CR LF: the methods, then the
-    mode, then the ect. Gives its length, or minus refusal 9, 10 for no method or over 8, or 12 with its size.
-    What it writes reads back to the same words, but for 0 after the last method."""
+    mode, then the ect. What it writes reads back to the same words, but for 0 after the last method. Gives
+    its length. Refusals, as minus the number: 9; 10 for no method or over 8; 12 with its size. Changes the
+    front of `out`."""
     lent_out = written(out)
     apart(lent_out, attribute)
     return _write_attribute(attribute, len(attribute), lent_out, len(lent_out))
@@ -577,10 +585,10 @@ _answer = bind("flasknib_answer", u8, pointer(u64), usize, pointer(u64), usize, 
 
 def answer(offer: Words, ours: Words, found: Words) -> int:
     """Answers an offer by our abilities, the record that we would offer: the first of our methods that the
-    offer names, our mode and our ect. Gives 0 and 11 words at the front of `found`. Gives FLASKNIB_LEFT_OUT,
-    and changes no word, whatever `words` is, if no method is common, or both modes are setonly or both
-    readonly. Refusal 9 for either record, 10 for over 8 methods in either, or 12 if `found` has fewer
-    words."""
+    offer names, our mode and our ect. Gives 0, and 11 words; or FLASKNIB_LEFT_OUT, whatever `words` is, if no
+    method is common, or both modes are setonly or both readonly. Refusals: 9 for either record; 10 for over 8
+    methods in either; 12 if `found` has fewer words. Changes the front of `found`, and no word of it for
+    FLASKNIB_LEFT_OUT."""
     apart(found, offer, ours)
     return _answer(offer, len(offer), ours, len(ours), found, len(found))
 
@@ -589,9 +597,9 @@ _read_block = bind("flasknib_read_block", u8, memory, usize, pointer(u64), usize
 
 
 def read_block(block: Buffer, found: Words) -> int:
-    """Reads a block of 512 bytes, of either form. Gives 0 and 3 words at the front of `found`, or refusal 1
-    for another length than 512, 13, or 14 for contents against the rules above, or 12 where `found` has fewer
-    words."""
+    """Reads a block of 512 bytes, of either form. Gives 0, and 3 words. Refusals: 1 for another length than
+    512; 13; 14 for contents against the rules above; 12 if `found` has fewer words. Changes the front of
+    `found`."""
     lent_block = read(block)
     apart(found, lent_block)
     return _read_block(lent_block, len(lent_block), found, len(found))
@@ -602,10 +610,10 @@ _read_own = bind("flasknib_read_own", u8, u8, u32, memory, usize)
 
 def read_own(form: int, ssrc: int, block: Buffer) -> int:
     """Judges a later block at its place: it must hold arrivals of the form and the SSRC of block 0, which
-    flasknib_read_block gives (kind 1 is form 1, kind 3 form 2). Gives 0, or refusal 10 for another form than
-    the two, 1 for another length than 512, 13, or 14 for contents against the rules above, a label, or
-    another form or SSRC. So ecntable judges each later block. The program ecnsalvage copies block 0 and each
-    later block for which this is 0, and lists the others."""
+    flasknib_read_block gives (kind 1 is form 1, kind 3 form 2). So ecntable judges each later block. The
+    program ecnsalvage copies block 0 and each later block for which this is 0, and lists the others. Gives 0.
+    Refusals: 10 for another form than the two; 1 for another length than 512; 13; 14 for contents against the
+    rules above, a label, or another form or SSRC. Changes nothing."""
     form = fits(form, u8)
     ssrc = fits(ssrc, u32)
     lent_block = read(block)
@@ -616,10 +624,10 @@ _record_at = bind("flasknib_record_at", u8, memory, usize, usize, pointer(u64), 
 
 
 def record_at(block: Buffer, i: int, found: Words) -> int:
-    """The record `i`, counted from 0, of an arrivals block of either form. Gives 0 and 3 words at the front
-    of `found`, or refusal 1 for another length than 512, 14 for a kind that is not arrivals or a count
-    outside its form's limits, 10 for an `i` not below the count, or 12 where `found` has fewer words. Nothing
-    else of the block is judged: flasknib_read_block does that, once a block."""
+    """The record `i`, counted from 0, of an arrivals block of either form. Nothing else of the block is
+    judged: flasknib_read_block does that, once a block. Gives 0, and 3 words. Refusals: 1 for another length
+    than 512; 14 for a kind that is not arrivals or a count outside its form's limits; 10 for an `i` not below
+    the count; 12 if `found` has fewer words. Changes the front of `found`."""
     i = fits(i, usize)
     lent_block = read(block)
     apart(found, lent_block)
@@ -630,9 +638,9 @@ _write_label = bind("flasknib_write_label", i64, u8, memory, usize, u32, memory,
 
 
 def write_label(form: int, label: Buffer, ssrc: int, out: Buffer) -> int:
-    """Writes the label block of a new label, 512 bytes. Gives its length, or minus refusal 10 for another
-    form than the two or a label against the rules above, 19 for a label with a retired byte, or 12 with its
-    size."""
+    """Writes the label block of a new label, 512 bytes. Gives its length. Refusals, as minus the number: 10
+    for another form than the two or a label against the rules above; 19 for a label with a retired byte; 12
+    with its size. Changes the front of `out`."""
     form = fits(form, u8)
     ssrc = fits(ssrc, u32)
     lent_label = read(label)
@@ -646,9 +654,9 @@ _space_label = bind("flasknib_space_label", i64, memory, usize, memory, usize)
 
 def space_label(zeroth: Buffer, out: Buffer) -> int:
     """Writes block 0 of a trace again, 512 bytes, with one space in the place of each retired byte of its
-    label. Form, length and SSRC stay, and the checksum is the one that fits. Gives the number of bytes
-    replaced, 0 to 502, or minus refusal 1, 13 or 14 for the block (14 for arrivals too), or 12 with its size.
-    The program ecnlabel does this to block 0 and copies the others."""
+    label. Form, length and SSRC stay, and the checksum is the one that fits. The program ecnlabel does this
+    to block 0 and copies the others. Gives the number of bytes replaced, 0 to 502. Refusals, as minus the
+    number: 1, 13 or 14 for the block (14 for arrivals too); 12 with its size. Changes the front of `out`."""
     lent_zeroth = read(zeroth)
     lent_out = written(out)
     apart(lent_out, lent_zeroth)
@@ -660,9 +668,9 @@ _write_arrivals = bind("flasknib_write_arrivals", i64, u8, pointer(u64), usize, 
 
 def write_arrivals(form: int, times: Words, numbers: Numbers, marks: Buffer, ssrc: int, out: Buffer) -> int:
     """Writes an arrivals block, 512 bytes, of three lists, one entry to a record: times in ms, wire numbers
-    and marks, as numbers of the machine. Gives its length, or minus refusal 10 for another form than the two,
-    lists of unequal length, no record or more than the form has to a block, a time that the form has no bytes
-    for or a mark above 3, or 12 with its size."""
+    and marks, as numbers of the machine. Gives its length. Refusals, as minus the number: 10 for another form
+    than the two, lists of unequal length, no record or more than the form has to a block, a time that the
+    form has no bytes for or a mark above 3; 12 with its size. Changes the front of `out`."""
     form = fits(form, u8)
     ssrc = fits(ssrc, u32)
     lent_marks = read(marks)
@@ -675,9 +683,10 @@ _write_records = bind("flasknib_write_records", i64, u8, memory, usize, u32, mem
 
 
 def write_records(form: int, records: Buffer, ssrc: int, out: Buffer) -> int:
-    """Writes the same block from the bytes of its records, each as a block has it, big-endian. Gives its
-    length, or minus refusal 10 for another form than the two, a record that is not whole, no record or more
-    than the form has to a block, a mark above 3 or a last byte that is not 0, or 12 with its size."""
+    """Writes the same block as flasknib_write_arrivals from the bytes of its records, each as a block has it,
+    big-endian. Gives its length. Refusals, as minus the number: 10 for another form than the two, a record
+    that is not whole, no record or more than the form has to a block, a mark above 3 or a last byte that is
+    not 0; 12 with its size. Changes the front of `out`."""
     form = fits(form, u8)
     ssrc = fits(ssrc, u32)
     lent_records = read(records)
@@ -690,8 +699,8 @@ _write_head = bind("flasknib_write_head", i64, memory, usize)
 
 
 def write_head(out: Buffer) -> int:
-    """Writes the table's head line, 65 bytes with its CR LF. Gives its length, or minus refusal 12 with its
-    size."""
+    """Writes the table's head line, 65 bytes with its CR LF. Gives its length. Refusals, as minus the number:
+    12 with its size. Changes the front of `out`."""
     lent_out = written(out)
     return _write_head(lent_out, len(lent_out))
 
@@ -701,8 +710,8 @@ _write_row = bind("flasknib_write_row", i64, memory, usize, u32, pointer(u64), u
 
 def write_row(label: Buffer, ssrc: int, source: Words, jumped: int, restarts: int, out: Buffer) -> int:
     """Writes a row of the table, at most 1,228 bytes with its CR LF, of the values of one source's record.
-    Gives its length, or minus refusal 9, 10 for a label against the rules above or for `jumped` or `restarts`
-    above 2^48, or 12 with its size."""
+    Gives its length. Refusals, as minus the number: 9; 10 for a label against the rules above or for `jumped`
+    or `restarts` above 2^48; 12 with its size. Changes the front of `out`."""
     ssrc = fits(ssrc, u32)
     jumped = fits(jumped, u64)
     restarts = fits(restarts, u64)
@@ -717,7 +726,7 @@ _write_refused = bind("flasknib_write_refused", i64, u8, u64, memory, usize)
 
 def write_refused(number: int, block: int, out: Buffer) -> int:
     """Writes the line `refused N block I`, at most 40 bytes with its CR LF, of any refusal's number and any
-    block's. Gives its length, or minus refusal 12 with its size."""
+    block's. Gives its length. Refusals, as minus the number: 12 with its size. Changes the front of `out`."""
     number = fits(number, u8)
     block = fits(block, u64)
     lent_out = written(out)
@@ -728,8 +737,8 @@ _run_start = bind("flasknib_run_start", u8, memory, usize, pointer(u64), usize)
 
 
 def run_start(zeroth: Buffer, run: Words) -> int:
-    """Takes block 0, which must be a label block of either form. Gives 0 and 15 words at the front of `run`,
-    or refusal 1, 13 or 14 (14 for arrivals too), or 12 where `run` has fewer words."""
+    """Takes block 0, which must be a label block of either form. Gives 0, and 15 words. Refusals: 1, 13 or 14
+    for the block (14 for arrivals too); 12 if `run` has fewer words. Changes the front of `run`."""
     lent_zeroth = read(zeroth)
     apart(run, lent_zeroth)
     return _run_start(lent_zeroth, len(lent_zeroth), run, len(run))
@@ -741,11 +750,11 @@ _run_block = bind("flasknib_run_block", i64, pointer(u64), usize, memory, usize,
 def run_block(run: Words, zeroth: Buffer, block: Buffer, out: Buffer) -> int:
     """Takes a later block, which must hold arrivals of the label's form and SSRC, and writes the row after
     it, at most FLASKNIB_ROW_MOST_BYTES. `zeroth` is block 0, from which the row has its label: lend the same
-    bytes to every call. Gives the row's length and the next run, or minus refusal 9, also for a block 0 that
-    is not 512 bytes, has another form, length of the label or SSRC than the run, or a label against the
-    rules; 1, 13 or 14 for the block; or 12 with the row's size. Nothing else of block 0 is compared, neither
-    its label nor its checksum: with another label of the same length the row has that one. A refused call
-    changes nothing."""
+    bytes to every call. Of block 0 nothing is compared but what 9 names, neither its label nor its checksum:
+    with another label of the same length the row has that one. Gives the row's length. Refusals, as minus the
+    number: 9, also for a block 0 that is not 512 bytes, has another form, length of the label or SSRC than
+    the run, or a label against the rules; 1, 13 or 14 for the block; 12 with the row's size. Changes `run` to
+    the next run, and the front of `out`."""
     lent_zeroth = read(zeroth)
     lent_block = read(block)
     lent_out = written(out)
@@ -759,10 +768,11 @@ _feed = bind("flasknib_feed", i64, pointer(u64), usize, memory, usize, memory, u
 
 def feed(upload: Words, kept: Buffer, stretch: Buffer, out: Buffer) -> int:
     """Takes a stretch of a trace, and writes the rows of all blocks that it completes, each at most
-    FLASKNIB_ROW_MOST_BYTES. Gives their length and the next upload, or minus refusal 9; the kept one; 10 for
-    more than 2^48 bytes in all; 12 with the rows' size; or 13 or 14 for a block. That one comes with the
-    length of the rows before it, which are written, as 12 with its size: FLASKNIB_WRITE_SIZE gives it. It is
-    kept, and every later call repeats it with length 0. Any other refused call changes nothing."""
+    FLASKNIB_ROW_MOST_BYTES. Gives the rows' length. Refusals, as minus the number: 9; the kept one; 10 for
+    more than 2^48 bytes in all; 12 with the rows' size; 13 or 14 for a block. That one comes with the length
+    of the rows before it, which are written, as 12 with its size: flasknib_writer_size gives it. It is kept,
+    and every later call repeats it with length 0. Changes `upload` and `kept` to the next upload, and the
+    front of `out`; so does refusal 13 or 14 of a block. Any other refusal changes nothing."""
     lent_kept = written(kept)
     lent_stretch = read(stretch)
     lent_out = written(out)
@@ -776,9 +786,9 @@ _feed_close = bind("flasknib_feed_close", u8, pointer(u64), usize, memory, usize
 
 
 def feed_close(upload: Words, kept: Buffer) -> int:
-    """Ends a trace, or asks how it would end. Gives 0, or refusal 9; the kept one; or 1 for a partial block,
-    or for block 0 of an empty trace, which is kept. A call that gives 0 changes nothing, and feeding may go
-    on."""
+    """Ends a trace, or asks how it would end. Gives 0, and feeding may go on. Refusals: 9; the kept one; 1
+    for a partial block, or for block 0 of an empty trace, which is kept. Changes the kept refusal in `upload`
+    for that 1, and nothing otherwise."""
     lent_kept = read(kept)
     apart(upload, lent_kept)
     return _feed_close(upload, len(upload), lent_kept, len(lent_kept))
@@ -789,8 +799,9 @@ _forms_start = bind("flasknib_forms_start", i64, memory, usize, pointer(u64), us
 
 def forms_start(zeroth: Buffer, forms: Words, out: Buffer) -> int:
     """Takes block 0, which must be a label block of either form, and writes it in the other form, 512 bytes.
-    Gives its length and the 3 words of a conversion that holds no record, or minus refusal 9 for another
-    number of words, 1, 13 or 14 for the block (14 for arrivals too), or 12 with its size."""
+    Gives its length, and the 3 words of a conversion that holds no record. Refusals, as minus the number: 9
+    for another number of words than 3; 1, 13 or 14 for the block (14 for arrivals too); 12 with its size.
+    Changes `forms` and the front of `out`."""
     lent_zeroth = read(zeroth)
     lent_out = written(out)
     apart(forms, lent_out, lent_zeroth)
@@ -804,9 +815,9 @@ _forms_block = bind("flasknib_forms_block", i64, pointer(u64), usize, memory, us
 def forms_block(forms: Words, part: Buffer, block: Buffer, out: Buffer) -> int:
     """Takes a later block, which must hold arrivals of the label's form and SSRC, and writes the blocks that
     are full with its records: 0, 512 or 1,024 bytes. The records left over are held in the part. Gives the
-    blocks' length and the next conversion, or minus refusal 9, 1, 13 or 14 for the block, 17 for a time of
-    2^32 ms or more, which only form 2 has bytes for, or 12 with the blocks' size. A refused call changes
-    nothing, the part neither."""
+    blocks' length. Refusals, as minus the number: 9; 1, 13 or 14 for the block; 17 for a time of 2^32 ms or
+    more, which only form 2 has bytes for; 12 with the blocks' size. Changes `forms` and `part` to the next
+    conversion, and the front of `out`."""
     lent_part = written(part)
     lent_block = read(block)
     lent_out = written(out)
@@ -820,8 +831,8 @@ _forms_close = bind("flasknib_forms_close", i64, pointer(u64), usize, memory, us
 
 
 def forms_close(forms: Words, part: Buffer, out: Buffer) -> int:
-    """Writes the records that are held as a last block, 512 bytes, or nothing where there are none. Gives its
-    length, or minus refusal 9, or 12 with its size."""
+    """Writes the records that are held as a last block, 512 bytes, or nothing if there are none. Gives its
+    length. Refusals, as minus the number: 9; 12 with its size. Changes the front of `out`."""
     lent_part = read(part)
     lent_out = written(out)
     apart(lent_out, forms, lent_part)
@@ -832,9 +843,9 @@ _streams_start = bind("flasknib_streams_start", u8, memory, usize, pointer(u64),
 
 
 def streams_start(zeroth: Buffer, run: Words) -> int:
-    """Takes block 0, which must be a label block of either form; its SSRC binds nothing. Gives 0 and 3 words
-    at the front of `run`, for a run that holds no line, or refusal 1, 13 or 14 (14 for arrivals too), or 12
-    where `run` has fewer words."""
+    """Takes block 0, which must be a label block of either form; its SSRC binds nothing. Gives 0, and 3
+    words, of a run that holds no line. Refusals: 1, 13 or 14 for the block (14 for arrivals too); 12 if `run`
+    has fewer words. Changes the front of `run`."""
     lent_zeroth = read(zeroth)
     apart(run, lent_zeroth)
     return _streams_start(lent_zeroth, len(lent_zeroth), run, len(run))
@@ -845,8 +856,8 @@ _streams_block = bind("flasknib_streams_block", u8, pointer(u64), usize, pointer
 
 def streams_block(run: Words, lines: Words, block: Buffer) -> int:
     """Takes a later block, which must hold arrivals of the label's form, and counts them in the line of their
-    SSRC; a new SSRC gets a line. Gives 0, the next run and the lines, or refusal 9, 1, 13 or 14 for the
-    block, 9 for the line of its SSRC, or 15 for a seventeenth SSRC. A refused call changes no word."""
+    SSRC; a new SSRC gets a line. Gives 0. Refusals: 9; 1, 13 or 14 for the block; 9 for the line of its SSRC;
+    15 for a seventeenth SSRC. Changes `run` to the next run, and `lines`."""
     lent_block = read(block)
     apart(run, lines, lent_block)
     apart(lines, lent_block)
@@ -858,10 +869,10 @@ _streams_row = bind("flasknib_streams_row", i64, pointer(u64), usize, usize, poi
 
 def streams_row(run: Words, i: int, lines: Words, zeroth: Buffer, out: Buffer) -> int:
     """Writes the row of line i, counted from 0, at most FLASKNIB_ROW_MOST_BYTES. `zeroth` is block 0, from
-    which the row has its label. Gives the row's length, or minus refusal 9, also for a line with an SSRC of
-    2^32 or more and for a block 0 that is not 512 bytes, has another form or length of the label than the
-    run, or a label against the rules (nothing else of it is compared); 10 for no such line; or 12 with the
-    row's size."""
+    which the row has its label. Gives the row's length. Refusals, as minus the number: 9, also for a block 0
+    that is not 512 bytes, has another form or length of the label than the run, or a label against the rules
+    (nothing else of it is compared); 10 for no such line; 9 for that line, also for an SSRC of 2^32 or more;
+    12 with the row's size. Changes the front of `out`."""
     i = fits(i, usize)
     lent_zeroth = read(zeroth)
     lent_out = written(out)

@@ -27,7 +27,6 @@ pub const REFUSAL_RULES: usize = 16;
 pub const REFUSAL_FORM_TWO: usize = 17;
 pub const REFUSAL_ATTRIBUTE: usize = 18;
 pub const REFUSAL_RETIRED: usize = 19;
-pub const VERSION: usize = 512;
 pub const REFUSAL_TEXT_MOST_BYTES: usize = 80;
 pub const SOURCE_WORDS: usize = 10;
 pub const SOURCE_BASE: usize = 0;
@@ -331,19 +330,20 @@ pub mod raw {
     }
 }
 
-/// The version of the library that is linked: 65,536 * major + 256 * minor + patch.
+/// Gives the version of the library that is linked, as FLASKNIB_VERSION is made.
 pub fn version() -> u32 {
     unsafe { raw::flasknib_version() }
 }
 
-/// Writes what a refusal means, one sentence in ASCII, not ended by a zero byte. Gives its length, or minus a
-/// refusal: 10 a number that is no refusal's (1 to 19), 12.
+/// Writes what a refusal means, in ASCII, not ended by a zero byte. Gives the length, or minus a refusal: 10
+/// a number that is no refusal's (1 to 19), 12.
 pub fn refusal_text(number: u8, out: &mut [u8]) -> i64 {
     unsafe { raw::flasknib_refusal_text(number, out.as_mut_ptr(), out.len()) }
 }
 
-/// Counts one arrival. Gives 0 or FLASKNIB_RESTARTED and the next record, or refusal 9, 10 for a mark above
-/// 3, 8 or 7. Refusal 7 stores the next record too: only the remembered number differs.
+/// Counts one arrival, of the wire number `wire` with the mark `mark`. Gives 0, or FLASKNIB_RESTARTED.
+/// Refusals: 9; 10 for a mark above 3; 8; 7. Changes `source` to the next record; refusal 7 too, in which
+/// only the remembered number differs.
 pub fn arrive(source: &mut [u64], wire: u16, mark: u8) -> u8 {
     unsafe { raw::flasknib_arrive(source.as_mut_ptr(), source.len(), wire, mark) }
 }
@@ -352,63 +352,66 @@ pub fn arrive(source: &mut [u64], wire: u16, mark: u8) -> u8 {
 /// looked at, and then the wire number (2, big-endian), the mark and a byte that is not judged here; so a
 /// width of FLASKNIB_RECORD_ONE_BYTES or FLASKNIB_RECORD_TWO_BYTES, or 4 without a time, or any other from 4
 /// on. A record that is a jump, or that comes when 2^48 are counted, is left out, and the next one is taken.
-/// Gives 256 * restarts + jumps and the next record, or minus refusal 9, or 10 for a width below 4, a length
-/// that is no multiple of it, no record, more than 62 or a mark above 3 in any of them. The first packet of
-/// the pair that makes a restart is a jump, the second is counted as a restart alone.
+/// The first packet of the pair that makes a restart is a jump, the second is counted only as a restart.
+/// Gives 256 * restarts + jumps: flasknib_block_jumps and flasknib_block_restarts take it apart. Refusals, as
+/// minus the number: 9; 10 for a width below 4, a length that is no multiple of it, no record, more than 62
+/// or a mark above 3 in any of them. Changes `source` to the next record.
 pub fn count_block(source: &mut [u64], records: &[u8], width: usize) -> i64 {
     unsafe { raw::flasknib_count_block(source.as_mut_ptr(), source.len(), records.as_ptr(), records.len(), width) }
 }
 
-/// The packets lost: highest - base + 1, less the different numbers that arrived. Negative where packets from
-/// before the base came, and 0 in the fresh record. Gives 0 and 1 word, signed, at the front of `found`, or
-/// refusal 9, or 12 where `found` has no word.
+/// The packets lost: highest - base + 1, less the different numbers that arrived. Negative if packets from
+/// before the base came, and 0 in the fresh record. Gives 0, and 1 word, signed. Refusals: 9; 12 if `found`
+/// has no word. Changes the front of `found`.
 pub fn lost(source: &[u64], found: &mut [u64]) -> u8 {
     unsafe { raw::flasknib_lost(source.as_ptr(), source.len(), found.as_mut_ptr(), found.len()) }
 }
 
 /// Writes the ECN feedback packet of RFC 6679, 32 bytes, from the SSRC `sender` about the SSRC `media`. It
 /// has highest, ECT(0) and ECT(1) modulo 2^32, and CE, not-ECT, lost and duplicates modulo 65,536. Gives its
-/// length, or minus refusal 9, or 12 with its size.
+/// length. Refusals, as minus the number: 9; 12 with its size. Changes the front of `out`.
 pub fn write_feedback(source: &[u64], sender: u32, media: u32, out: &mut [u8]) -> i64 {
     unsafe { raw::flasknib_write_feedback(source.as_ptr(), source.len(), sender, media, out.as_mut_ptr(), out.len()) }
 }
 
 /// Writes the XR ECN summary block of RFC 6679 with one entry, 24 bytes, about the SSRC `media`: the same
-/// counters, without highest. The caller puts it into an XR packet. Gives its length, or minus refusal 9, or
-/// 12 with its size.
+/// counters, without highest. The caller puts it into an XR packet. Gives its length. Refusals, as minus the
+/// number: 9; 12 with its size. Changes the front of `out`.
 pub fn write_summary(source: &[u64], media: u32, out: &mut [u8]) -> i64 {
     unsafe { raw::flasknib_write_summary(source.as_ptr(), source.len(), media, out.as_mut_ptr(), out.len()) }
 }
 
-/// Counts one arrival of the source `ssrc`, as flasknib_arrive does. Gives 0 or FLASKNIB_RESTARTED and the
-/// next table, or refusal 16, 9, 10, 15, 8 or 7. Refusal 7 stores the next table too: only the remembered
-/// number of that source's place differs.
+/// Counts one arrival of the source `ssrc`, as flasknib_arrive does. Gives 0, or FLASKNIB_RESTARTED.
+/// Refusals: 16; 9; 10 for a mark above 3; 15; 8; 7. Changes `sources` to the next table; refusal 7 too, in
+/// which only the remembered number of that source's place differs.
 pub fn sources_arrive(sources: &mut [u64], ssrc: u32, wire: u16, mark: u8) -> u8 {
     unsafe { raw::flasknib_sources_arrive(sources.as_mut_ptr(), sources.len(), ssrc, wire, mark) }
 }
 
 /// Counts the records of one arrivals block of the source `ssrc`, as flasknib_count_block does. Gives 256 *
-/// restarts + jumps and the next table, or minus refusal 16, 9, 10 (as there) or 15.
+/// restarts + jumps: flasknib_block_jumps and flasknib_block_restarts take it apart. Refusals, as minus the
+/// number: 16; 9; 10 as in flasknib_count_block; 15. Changes `sources` to the next table.
 pub fn sources_count_block(sources: &mut [u64], ssrc: u32, records: &[u8], width: usize) -> i64 {
     unsafe { raw::flasknib_sources_count_block(sources.as_mut_ptr(), sources.len(), ssrc, records.as_ptr(), records.len(), width) }
 }
 
 /// Writes a compound from the SSRC `sender`: an RR without report blocks (RFC 3550) and one ECN feedback
-/// packet for each held place, in order; 8 bytes and 32 for each. Gives its length, or minus refusal 16 or 9,
-/// or 12 with its size.
+/// packet for each held place, in order; 8 bytes and 32 for each. Gives its length. Refusals, as minus the
+/// number: 16; 9; 12 with its size. Changes the front of `out`.
 pub fn sources_write_compound(sources: &[u64], sender: u32, out: &mut [u8]) -> i64 {
     unsafe { raw::flasknib_sources_write_compound(sources.as_ptr(), sources.len(), sender, out.as_mut_ptr(), out.len()) }
 }
 
-/// The words of one held place, counted from 0. Gives 0 and 11 words at the front of `found`, or refusal 16,
-/// 9, 10 for a place that is not held, or 12 where `found` has fewer words.
+/// The words of one held place, counted from 0. Gives 0, and 11 words. Refusals: 16; 9; 10 for a place that
+/// is not held; 12 if `found` has fewer words. Changes the front of `found`.
 pub fn sources_place(sources: &[u64], place: usize, found: &mut [u64]) -> u8 {
     unsafe { raw::flasknib_sources_place(sources.as_ptr(), sources.len(), place, found.as_mut_ptr(), found.len()) }
 }
 
-/// Reads a compound, the payload of one UDP packet, for what it reports about the SSRC `media`. Gives 0 and
-/// 24 words at the front of `found`, or refusal 10 for another profile than the two, 1 to 6, or 10 for too
-/// many bytes, or 12 where `found` has fewer words. A fault anywhere in the compound refuses all of it.
+/// Reads a compound, the payload of one UDP packet, for what it reports about the SSRC `media`. A fault
+/// anywhere in the compound refuses all of it. Gives 0, and 24 words. Refusals: 10 for another profile than
+/// the two; 1 for no bytes; 10 for too many; the first of 1 to 6, packet by packet; 12 if `found` has fewer
+/// words. Changes the front of `found`.
 pub fn read_compound(bytes: &[u8], media: u32, profile: u8, found: &mut [u64]) -> u8 {
     unsafe { raw::flasknib_read_compound(bytes.as_ptr(), bytes.len(), media, profile, found.as_mut_ptr(), found.len()) }
 }
@@ -416,255 +419,268 @@ pub fn read_compound(bytes: &[u8], media: u32, profile: u8, found: &mut [u64]) -
 /// What came between two ECN reports of one receiver about one source, the later and the earlier one, each
 /// with the highest number, the packets marked with CE and the packets lost as the packets carry them: of ECN
 /// feedback words 9, 12 and 14 of the compound; of a summary entry words 19 and 21, with the highest number
-/// of the report block beside it, word 3. Gives 0 and 3 words at the front of `counts`, as
-/// flasknib_breaker_report_ecn takes them, or refusal 10 where the highest number went back (a difference of
-/// 2^31 or more), or 12 where `counts` has fewer words. They are the true numbers where at most 65,535
-/// packets were marked and -32,768 to 32,767 lost in between; not where the receiver began to count anew.
+/// of the report block beside it, word 3. They are the true numbers if at most 65,535 packets were marked and
+/// -32,768 to 32,767 lost in between; not if the receiver began to count anew. Gives 0, and 3 words, as
+/// flasknib_breaker_report_ecn takes them. Refusals: 10 if the highest number went back (a difference of 2^31
+/// or more); 12 if `counts` has fewer words. Changes the front of `counts`.
 pub fn ecn_between(later_highest: u32, later_ce: u16, later_lost: u16, earlier_highest: u32, earlier_ce: u16, earlier_lost: u16, counts: &mut [u64]) -> u8 {
     unsafe { raw::flasknib_ecn_between(later_highest, later_ce, later_lost, earlier_highest, earlier_ce, earlier_lost, counts.as_mut_ptr(), counts.len()) }
 }
 
-/// What came between two reports, counter by counter: the later one minus the earlier one, modulo its width.
-/// Reports carry the highest number, ECT(0) and ECT(1) in 32 bits, CE, not-ECT, lost and duplicates in 16. It
-/// is the true count where that is from 0 to 2^16 - 1, or to 2^32 - 1.
+/// What came between two reports, of a counter that they carry in 16 bits: CE, not-ECT, duplicates. Gives the
+/// later minus the earlier, modulo 2^16: the true count if that is from 0 to 2^16 - 1.
 pub fn since16(later: u16, earlier: u16) -> u16 {
     unsafe { raw::flasknib_since16(later, earlier) }
 }
 
-/// What came between two reports, counter by counter: the later one minus the earlier one, modulo its width.
-/// Reports carry the highest number, ECT(0) and ECT(1) in 32 bits, CE, not-ECT, lost and duplicates in 16. It
-/// is the true count where that is from 0 to 2^16 - 1, or to 2^32 - 1.
+/// What came between two reports, of a counter that they carry in 32 bits: the highest number, ECT(0),
+/// ECT(1). Gives the later minus the earlier, modulo 2^32: the true count if that is from 0 to 2^32 - 1.
 pub fn since32(later: u32, earlier: u32) -> u32 {
     unsafe { raw::flasknib_since32(later, earlier) }
 }
 
-/// The same of packets lost, which can fall: the difference is read as signed, -32,768 to 32,767.
+/// What came between two reports, of packets lost, which can fall: they carry it in 16 bits. Gives the later
+/// minus the earlier, modulo 2^16 and read as signed, -32,768 to 32,767.
 pub fn lost_since(later: u16, earlier: u16) -> i16 {
     unsafe { raw::flasknib_lost_since(later, earlier) }
 }
 
-/// Starts a breaker: Go and the record, or refusal 10, or 12 where `breaker` has fewer than 77 words.
-/// `reduce` and `full` are 0 or 1, else refusal 10. With `full` the congestion rule takes the full throughput
-/// equation (RFC 8083, section 4.3, with b = 1 and t_RTO = 4 * Tr), which reacts earlier where much is lost;
-/// without, the simplified one.
+/// Starts a breaker. With `full` the congestion rule takes the full throughput equation (RFC 8083, section
+/// 4.3, with b = 1 and t_RTO = 4 * Tr), which reacts earlier if much is lost; without, the simplified one.
+/// Gives FLASKNIB_GO, and the record. Refusals: 10, also for a `reduce` or `full` that is not 0 or 1; 12 if
+/// `breaker` has fewer than 77 words. Changes the front of `breaker`.
 pub fn breaker_start(k: u64, m: u64, timeout: u64, reduce: u8, full: u8, time: u64, breaker: &mut [u64]) -> u16 {
     unsafe { raw::flasknib_breaker_start(k, m, timeout, reduce, full, time, breaker.as_mut_ptr(), breaker.len()) }
 }
 
-/// The same with the preset settings: k = 3, m = 3, a timeout of 15,000 ms, no reductions, the simplified
-/// equation. Refusal 10 is then for a time of 2^48 ms or more.
+/// Starts a breaker with the preset settings: k = 3, m = 3, a timeout of 15,000 ms, no reductions, the
+/// simplified equation. Gives FLASKNIB_GO, and the record. Refusals: 10 for a time of 2^48 ms or more; 12 if
+/// `breaker` has fewer than 77 words. Changes the front of `breaker`.
 pub fn breaker_start_preset(time: u64, breaker: &mut [u64]) -> u16 {
     unsafe { raw::flasknib_breaker_start_preset(time, breaker.as_mut_ptr(), breaker.len()) }
 }
 
-/// A report that came at `time`: its extended highest sequence number and its fraction lost, in 256ths, 0 to
-/// 255. Refusals 9, 10, 11. A stopped breaker answers its stop.
+/// Takes a report that came at `time`: its extended highest sequence number and its fraction lost, in 256ths,
+/// 0 to 255. Gives FLASKNIB_GO, FLASKNIB_REDUCE or a stop. A stopped breaker answers its stop, after 9 only.
+/// Refusals: 9; 10; 11. Changes `breaker` to the next record; a stopped one stays as it is.
 pub fn breaker_report(breaker: &mut [u64], time: u64, highest: u32, fraction: u64, rtt: u64, size: u64, rate: u64) -> u16 {
     unsafe { raw::flasknib_breaker_report(breaker.as_mut_ptr(), breaker.len(), time, highest, fraction, rtt, size, rate) }
 }
 
-/// A report with ECN counts in the place of the fraction lost: of the `expected` packets of its interval,
-/// `lost` were lost (negative where some came that were counted as lost before) and `marked` were marked with
-/// CE. The fraction is 256 * min(lost + marked, expected) / expected rounded down, at most 255; a negative
-/// `lost` is 0 there, and where none were expected the fraction is 0. Refusals 9, 10, 11; 10 also where
-/// `marked` or `expected` is above 2^31, or `lost` outside -2^31 to 2^31. A stopped breaker answers its stop.
+/// Takes a report with ECN counts in the place of the fraction lost: of the `expected` packets of its
+/// interval, `lost` were lost (negative if some came that were counted as lost before) and `marked` were
+/// marked with CE. The fraction is 256 * min(lost + marked, expected) / expected rounded down, at most 255; a
+/// negative `lost` is 0 there, and if none were expected the fraction is 0. Gives FLASKNIB_GO,
+/// FLASKNIB_REDUCE or a stop. A stopped breaker answers its stop, after 9 only. Refusals: 9; 10, also for a
+/// `marked` or `expected` above 2^31, or a `lost` outside -2^31 to 2^31; 11. Changes `breaker` to the next
+/// record; a stopped one stays as it is.
 #[allow(clippy::too_many_arguments)]
 pub fn breaker_report_ecn(breaker: &mut [u64], time: u64, highest: u32, lost: i64, marked: u64, expected: u64, rtt: u64, size: u64, rate: u64) -> u16 {
     unsafe { raw::flasknib_breaker_report_ecn(breaker.as_mut_ptr(), breaker.len(), time, highest, lost, marked, expected, rtt, size, rate) }
 }
 
-/// A tick, as from a timer: only whether the timeout has passed at `time`. Refusals 9, 10, 11. A stopped
-/// breaker answers its stop.
+/// Takes a tick, as from a timer: only whether the timeout has passed at `time`. Gives FLASKNIB_GO or a stop.
+/// A stopped breaker answers its stop, after 9 only. Refusals: 9; 10; 11. Changes `breaker` only if it stops
+/// now.
 pub fn breaker_tick(breaker: &mut [u64], time: u64) -> u16 {
     unsafe { raw::flasknib_breaker_tick(breaker.as_mut_ptr(), breaker.len(), time) }
 }
 
-/// A packet that is no report was heard: a Go moves the time from which the timeout is measured to `time`,
-/// and nothing else. Refusals 9, 10, 11. A stopped breaker answers its stop.
+/// Takes a packet that was heard and is no report: a Go moves the time from which the timeout is measured to
+/// `time`, and nothing else. Gives FLASKNIB_GO or a stop. A stopped breaker answers its stop, after 9 only.
+/// Refusals: 9; 10; 11. Changes `breaker` to the next record; a stopped one stays as it is.
 pub fn breaker_heard(breaker: &mut [u64], time: u64) -> u16 {
     unsafe { raw::flasknib_breaker_heard(breaker.as_mut_ptr(), breaker.len(), time) }
 }
 
-/// The call for a packet, by the 24 words that flasknib_read_compound gave of it and the 4 words kept of its
-/// receiver. Gives 0, the 6 words of the call at the front of `call`, and what is kept then in the place of
-/// what was; or refusal 9, or 12 where `call` has fewer than 6 words. 9 is for - another number of words than
-/// 24 or 4; a word 0, 7, 16 or 23 of the compound, or a first one of what is kept, above 1; - where a report
-/// block is there, a fraction past 8 bits or a highest number past 32; where feedback is there, a highest
-/// number past 32 bits, CE or lost past 16; where a summary entry is there, CE or lost past 16; the same of
-/// what is kept; - kept words that are not 0 where none is kept. No other word is looked at. What the reader
-/// gave and an earlier call kept is never refused with 9, and the breaker takes the losses that it gives:
-/// time, round trip, packet size and rate are the caller's. Where the breaker refuses the call, put the kept
-/// words back to what they were before, so that the next report counts from there.
+/// Says which call a packet is for, by the 24 words that flasknib_read_compound gave of it and the 4 words
+/// kept of its receiver. What the reader gave and an earlier call kept is never refused with 9, and the
+/// breaker takes the losses that this call gives: time, round trip, packet size and rate are the caller's.
+/// flasknib_breaker_take makes the call. Gives 0, the 6 words of the call, and what is kept then. Refusals:
+/// 9; 12 if `call` has fewer than 6 words. 9 is for - another number of words than 24 or 4; a word 0, 7, 16
+/// or 23 of the compound, or a first one of what is kept, above 1; - if a report block is there, a fraction
+/// past 8 bits or a highest number past 32; if feedback is there, a highest number past 32 bits, CE or lost
+/// past 16; if a summary entry is there, CE or lost past 16; the same of what is kept; - kept words that are
+/// not 0 if none is kept. No other word is looked at. Changes the front of `call`, and `kept`. If the breaker
+/// then refuses the call, put the kept words back to what they were before, so that the next report counts
+/// from there.
 pub fn breaker_call(found: &[u64], kept: &mut [u64], call: &mut [u64]) -> u8 {
     unsafe { raw::flasknib_breaker_call(found.as_ptr(), found.len(), kept.as_mut_ptr(), kept.len(), call.as_mut_ptr(), call.len()) }
 }
 
-/// Reads a line. Gives 0 and 11 words at the front of `found`, or refusal 10 for over 255 bytes, 18 for a
-/// line that is not well formed, an empty one too, 10 for over 8 methods or 8 parameters, known or not, or 12
-/// if `found` has fewer words.
+/// Reads a line. Gives 0, and 11 words. Refusals: 10 for over 255 bytes; 18 for a line that is not well
+/// formed, an empty one too; 10 for over 8 methods or 8 parameters, known or not; 12 if `found` has fewer
+/// words. Changes the front of `found`.
 pub fn read_attribute(line: &[u8], found: &mut [u64]) -> u8 {
     unsafe { raw::flasknib_read_attribute(line.as_ptr(), line.len(), found.as_mut_ptr(), found.len()) }
 }
 
 /// Writes the line of a record, 22 to 84 bytes, in lower case and with no CR LF: the methods, then the mode,
-/// then the ect. Gives its length, or minus refusal 9, 10 for no method or over 8, or 12 with its size. What
-/// it writes reads back to the same words, but for 0 after the last method.
+/// then the ect. What it writes reads back to the same words, but for 0 after the last method. Gives its
+/// length. Refusals, as minus the number: 9; 10 for no method or over 8; 12 with its size. Changes the front
+/// of `out`.
 pub fn write_attribute(attribute: &[u64], out: &mut [u8]) -> i64 {
     unsafe { raw::flasknib_write_attribute(attribute.as_ptr(), attribute.len(), out.as_mut_ptr(), out.len()) }
 }
 
 /// Answers an offer by our abilities, the record that we would offer: the first of our methods that the offer
-/// names, our mode and our ect. Gives 0 and 11 words at the front of `found`. Gives FLASKNIB_LEFT_OUT, and
-/// changes no word, whatever `words` is, if no method is common, or both modes are setonly or both readonly.
-/// Refusal 9 for either record, 10 for over 8 methods in either, or 12 if `found` has fewer words.
+/// names, our mode and our ect. Gives 0, and 11 words; or FLASKNIB_LEFT_OUT, whatever `words` is, if no
+/// method is common, or both modes are setonly or both readonly. Refusals: 9 for either record; 10 for over 8
+/// methods in either; 12 if `found` has fewer words. Changes the front of `found`, and no word of it for
+/// FLASKNIB_LEFT_OUT.
 pub fn answer(offer: &[u64], ours: &[u64], found: &mut [u64]) -> u8 {
     unsafe { raw::flasknib_answer(offer.as_ptr(), offer.len(), ours.as_ptr(), ours.len(), found.as_mut_ptr(), found.len()) }
 }
 
-/// Reads a block of 512 bytes, of either form. Gives 0 and 3 words at the front of `found`, or refusal 1 for
-/// another length than 512, 13, or 14 for contents against the rules above, or 12 where `found` has fewer
-/// words.
+/// Reads a block of 512 bytes, of either form. Gives 0, and 3 words. Refusals: 1 for another length than 512;
+/// 13; 14 for contents against the rules above; 12 if `found` has fewer words. Changes the front of `found`.
 pub fn read_block(block: &[u8], found: &mut [u64]) -> u8 {
     unsafe { raw::flasknib_read_block(block.as_ptr(), block.len(), found.as_mut_ptr(), found.len()) }
 }
 
 /// Judges a later block at its place: it must hold arrivals of the form and the SSRC of block 0, which
-/// flasknib_read_block gives (kind 1 is form 1, kind 3 form 2). Gives 0, or refusal 10 for another form than
-/// the two, 1 for another length than 512, 13, or 14 for contents against the rules above, a label, or
-/// another form or SSRC. So ecntable judges each later block. The program ecnsalvage copies block 0 and each
-/// later block for which this is 0, and lists the others.
+/// flasknib_read_block gives (kind 1 is form 1, kind 3 form 2). So ecntable judges each later block. The
+/// program ecnsalvage copies block 0 and each later block for which this is 0, and lists the others. Gives 0.
+/// Refusals: 10 for another form than the two; 1 for another length than 512; 13; 14 for contents against the
+/// rules above, a label, or another form or SSRC. Changes nothing.
 pub fn read_own(form: u8, ssrc: u32, block: &[u8]) -> u8 {
     unsafe { raw::flasknib_read_own(form, ssrc, block.as_ptr(), block.len()) }
 }
 
-/// The record `i`, counted from 0, of an arrivals block of either form. Gives 0 and 3 words at the front of
-/// `found`, or refusal 1 for another length than 512, 14 for a kind that is not arrivals or a count outside
-/// its form's limits, 10 for an `i` not below the count, or 12 where `found` has fewer words. Nothing else of
-/// the block is judged: flasknib_read_block does that, once a block.
+/// The record `i`, counted from 0, of an arrivals block of either form. Nothing else of the block is judged:
+/// flasknib_read_block does that, once a block. Gives 0, and 3 words. Refusals: 1 for another length than
+/// 512; 14 for a kind that is not arrivals or a count outside its form's limits; 10 for an `i` not below the
+/// count; 12 if `found` has fewer words. Changes the front of `found`.
 pub fn record_at(block: &[u8], i: usize, found: &mut [u64]) -> u8 {
     unsafe { raw::flasknib_record_at(block.as_ptr(), block.len(), i, found.as_mut_ptr(), found.len()) }
 }
 
-/// Writes the label block of a new label, 512 bytes. Gives its length, or minus refusal 10 for another form
-/// than the two or a label against the rules above, 19 for a label with a retired byte, or 12 with its size.
+/// Writes the label block of a new label, 512 bytes. Gives its length. Refusals, as minus the number: 10 for
+/// another form than the two or a label against the rules above; 19 for a label with a retired byte; 12 with
+/// its size. Changes the front of `out`.
 pub fn write_label(form: u8, label: &[u8], ssrc: u32, out: &mut [u8]) -> i64 {
     unsafe { raw::flasknib_write_label(form, label.as_ptr(), label.len(), ssrc, out.as_mut_ptr(), out.len()) }
 }
 
 /// Writes block 0 of a trace again, 512 bytes, with one space in the place of each retired byte of its label.
-/// Form, length and SSRC stay, and the checksum is the one that fits. Gives the number of bytes replaced, 0
-/// to 502, or minus refusal 1, 13 or 14 for the block (14 for arrivals too), or 12 with its size. The program
-/// ecnlabel does this to block 0 and copies the others.
+/// Form, length and SSRC stay, and the checksum is the one that fits. The program ecnlabel does this to block
+/// 0 and copies the others. Gives the number of bytes replaced, 0 to 502. Refusals, as minus the number: 1,
+/// 13 or 14 for the block (14 for arrivals too); 12 with its size. Changes the front of `out`.
 pub fn space_label(zeroth: &[u8], out: &mut [u8]) -> i64 {
     unsafe { raw::flasknib_space_label(zeroth.as_ptr(), zeroth.len(), out.as_mut_ptr(), out.len()) }
 }
 
 /// Writes an arrivals block, 512 bytes, of three lists, one entry to a record: times in ms, wire numbers and
-/// marks, as numbers of the machine. Gives its length, or minus refusal 10 for another form than the two,
-/// lists of unequal length, no record or more than the form has to a block, a time that the form has no bytes
-/// for or a mark above 3, or 12 with its size.
+/// marks, as numbers of the machine. Gives its length. Refusals, as minus the number: 10 for another form
+/// than the two, lists of unequal length, no record or more than the form has to a block, a time that the
+/// form has no bytes for or a mark above 3; 12 with its size. Changes the front of `out`.
 pub fn write_arrivals(form: u8, times: &[u64], numbers: &[u16], marks: &[u8], ssrc: u32, out: &mut [u8]) -> i64 {
     unsafe { raw::flasknib_write_arrivals(form, times.as_ptr(), times.len(), numbers.as_ptr(), numbers.len(), marks.as_ptr(), marks.len(), ssrc, out.as_mut_ptr(), out.len()) }
 }
 
-/// Writes the same block from the bytes of its records, each as a block has it, big-endian. Gives its length,
-/// or minus refusal 10 for another form than the two, a record that is not whole, no record or more than the
-/// form has to a block, a mark above 3 or a last byte that is not 0, or 12 with its size.
+/// Writes the same block as flasknib_write_arrivals from the bytes of its records, each as a block has it,
+/// big-endian. Gives its length. Refusals, as minus the number: 10 for another form than the two, a record
+/// that is not whole, no record or more than the form has to a block, a mark above 3 or a last byte that is
+/// not 0; 12 with its size. Changes the front of `out`.
 pub fn write_records(form: u8, records: &[u8], ssrc: u32, out: &mut [u8]) -> i64 {
     unsafe { raw::flasknib_write_records(form, records.as_ptr(), records.len(), ssrc, out.as_mut_ptr(), out.len()) }
 }
 
-/// Writes the table's head line, 65 bytes with its CR LF. Gives its length, or minus refusal 12 with its
-/// size.
+/// Writes the table's head line, 65 bytes with its CR LF. Gives its length. Refusals, as minus the number: 12
+/// with its size. Changes the front of `out`.
 pub fn write_head(out: &mut [u8]) -> i64 {
     unsafe { raw::flasknib_write_head(out.as_mut_ptr(), out.len()) }
 }
 
 /// Writes a row of the table, at most 1,228 bytes with its CR LF, of the values of one source's record. Gives
-/// its length, or minus refusal 9, 10 for a label against the rules above or for `jumped` or `restarts` above
-/// 2^48, or 12 with its size.
+/// its length. Refusals, as minus the number: 9; 10 for a label against the rules above or for `jumped` or
+/// `restarts` above 2^48; 12 with its size. Changes the front of `out`.
 pub fn write_row(label: &[u8], ssrc: u32, source: &[u64], jumped: u64, restarts: u64, out: &mut [u8]) -> i64 {
     unsafe { raw::flasknib_write_row(label.as_ptr(), label.len(), ssrc, source.as_ptr(), source.len(), jumped, restarts, out.as_mut_ptr(), out.len()) }
 }
 
 /// Writes the line `refused N block I`, at most 40 bytes with its CR LF, of any refusal's number and any
-/// block's. Gives its length, or minus refusal 12 with its size.
+/// block's. Gives its length. Refusals, as minus the number: 12 with its size. Changes the front of `out`.
 pub fn write_refused(number: u8, block: u64, out: &mut [u8]) -> i64 {
     unsafe { raw::flasknib_write_refused(number, block, out.as_mut_ptr(), out.len()) }
 }
 
-/// Takes block 0, which must be a label block of either form. Gives 0 and 15 words at the front of `run`, or
-/// refusal 1, 13 or 14 (14 for arrivals too), or 12 where `run` has fewer words.
+/// Takes block 0, which must be a label block of either form. Gives 0, and 15 words. Refusals: 1, 13 or 14
+/// for the block (14 for arrivals too); 12 if `run` has fewer words. Changes the front of `run`.
 pub fn run_start(zeroth: &[u8], run: &mut [u64]) -> u8 {
     unsafe { raw::flasknib_run_start(zeroth.as_ptr(), zeroth.len(), run.as_mut_ptr(), run.len()) }
 }
 
 /// Takes a later block, which must hold arrivals of the label's form and SSRC, and writes the row after it,
 /// at most FLASKNIB_ROW_MOST_BYTES. `zeroth` is block 0, from which the row has its label: lend the same
-/// bytes to every call. Gives the row's length and the next run, or minus refusal 9, also for a block 0 that
-/// is not 512 bytes, has another form, length of the label or SSRC than the run, or a label against the
-/// rules; 1, 13 or 14 for the block; or 12 with the row's size. Nothing else of block 0 is compared, neither
-/// its label nor its checksum: with another label of the same length the row has that one. A refused call
-/// changes nothing.
+/// bytes to every call. Of block 0 nothing is compared but what 9 names, neither its label nor its checksum:
+/// with another label of the same length the row has that one. Gives the row's length. Refusals, as minus the
+/// number: 9, also for a block 0 that is not 512 bytes, has another form, length of the label or SSRC than
+/// the run, or a label against the rules; 1, 13 or 14 for the block; 12 with the row's size. Changes `run` to
+/// the next run, and the front of `out`.
 pub fn run_block(run: &mut [u64], zeroth: &[u8], block: &[u8], out: &mut [u8]) -> i64 {
     unsafe { raw::flasknib_run_block(run.as_mut_ptr(), run.len(), zeroth.as_ptr(), zeroth.len(), block.as_ptr(), block.len(), out.as_mut_ptr(), out.len()) }
 }
 
 /// Takes a stretch of a trace, and writes the rows of all blocks that it completes, each at most
-/// FLASKNIB_ROW_MOST_BYTES. Gives their length and the next upload, or minus refusal 9; the kept one; 10 for
-/// more than 2^48 bytes in all; 12 with the rows' size; or 13 or 14 for a block. That one comes with the
-/// length of the rows before it, which are written, as 12 with its size: FLASKNIB_WRITE_SIZE gives it. It is
-/// kept, and every later call repeats it with length 0. Any other refused call changes nothing.
+/// FLASKNIB_ROW_MOST_BYTES. Gives the rows' length. Refusals, as minus the number: 9; the kept one; 10 for
+/// more than 2^48 bytes in all; 12 with the rows' size; 13 or 14 for a block. That one comes with the length
+/// of the rows before it, which are written, as 12 with its size: flasknib_writer_size gives it. It is kept,
+/// and every later call repeats it with length 0. Changes `upload` and `kept` to the next upload, and the
+/// front of `out`; so does refusal 13 or 14 of a block. Any other refusal changes nothing.
 pub fn feed(upload: &mut [u64], kept: &mut [u8], stretch: &[u8], out: &mut [u8]) -> i64 {
     unsafe { raw::flasknib_feed(upload.as_mut_ptr(), upload.len(), kept.as_mut_ptr(), kept.len(), stretch.as_ptr(), stretch.len(), out.as_mut_ptr(), out.len()) }
 }
 
-/// Ends a trace, or asks how it would end. Gives 0, or refusal 9; the kept one; or 1 for a partial block, or
-/// for block 0 of an empty trace, which is kept. A call that gives 0 changes nothing, and feeding may go on.
+/// Ends a trace, or asks how it would end. Gives 0, and feeding may go on. Refusals: 9; the kept one; 1 for a
+/// partial block, or for block 0 of an empty trace, which is kept. Changes the kept refusal in `upload` for
+/// that 1, and nothing otherwise.
 pub fn feed_close(upload: &mut [u64], kept: &[u8]) -> u8 {
     unsafe { raw::flasknib_feed_close(upload.as_mut_ptr(), upload.len(), kept.as_ptr(), kept.len()) }
 }
 
 /// Takes block 0, which must be a label block of either form, and writes it in the other form, 512 bytes.
-/// Gives its length and the 3 words of a conversion that holds no record, or minus refusal 9 for another
-/// number of words, 1, 13 or 14 for the block (14 for arrivals too), or 12 with its size.
+/// Gives its length, and the 3 words of a conversion that holds no record. Refusals, as minus the number: 9
+/// for another number of words than 3; 1, 13 or 14 for the block (14 for arrivals too); 12 with its size.
+/// Changes `forms` and the front of `out`.
 pub fn forms_start(zeroth: &[u8], forms: &mut [u64], out: &mut [u8]) -> i64 {
     unsafe { raw::flasknib_forms_start(zeroth.as_ptr(), zeroth.len(), forms.as_mut_ptr(), forms.len(), out.as_mut_ptr(), out.len()) }
 }
 
 /// Takes a later block, which must hold arrivals of the label's form and SSRC, and writes the blocks that are
 /// full with its records: 0, 512 or 1,024 bytes. The records left over are held in the part. Gives the
-/// blocks' length and the next conversion, or minus refusal 9, 1, 13 or 14 for the block, 17 for a time of
-/// 2^32 ms or more, which only form 2 has bytes for, or 12 with the blocks' size. A refused call changes
-/// nothing, the part neither.
+/// blocks' length. Refusals, as minus the number: 9; 1, 13 or 14 for the block; 17 for a time of 2^32 ms or
+/// more, which only form 2 has bytes for; 12 with the blocks' size. Changes `forms` and `part` to the next
+/// conversion, and the front of `out`.
 pub fn forms_block(forms: &mut [u64], part: &mut [u8], block: &[u8], out: &mut [u8]) -> i64 {
     unsafe { raw::flasknib_forms_block(forms.as_mut_ptr(), forms.len(), part.as_mut_ptr(), part.len(), block.as_ptr(), block.len(), out.as_mut_ptr(), out.len()) }
 }
 
-/// Writes the records that are held as a last block, 512 bytes, or nothing where there are none. Gives its
-/// length, or minus refusal 9, or 12 with its size.
+/// Writes the records that are held as a last block, 512 bytes, or nothing if there are none. Gives its
+/// length. Refusals, as minus the number: 9; 12 with its size. Changes the front of `out`.
 pub fn forms_close(forms: &[u64], part: &[u8], out: &mut [u8]) -> i64 {
     unsafe { raw::flasknib_forms_close(forms.as_ptr(), forms.len(), part.as_ptr(), part.len(), out.as_mut_ptr(), out.len()) }
 }
 
-/// Takes block 0, which must be a label block of either form; its SSRC binds nothing. Gives 0 and 3 words at
-/// the front of `run`, for a run that holds no line, or refusal 1, 13 or 14 (14 for arrivals too), or 12
-/// where `run` has fewer words.
+/// Takes block 0, which must be a label block of either form; its SSRC binds nothing. Gives 0, and 3 words,
+/// of a run that holds no line. Refusals: 1, 13 or 14 for the block (14 for arrivals too); 12 if `run` has
+/// fewer words. Changes the front of `run`.
 pub fn streams_start(zeroth: &[u8], run: &mut [u64]) -> u8 {
     unsafe { raw::flasknib_streams_start(zeroth.as_ptr(), zeroth.len(), run.as_mut_ptr(), run.len()) }
 }
 
 /// Takes a later block, which must hold arrivals of the label's form, and counts them in the line of their
-/// SSRC; a new SSRC gets a line. Gives 0, the next run and the lines, or refusal 9, 1, 13 or 14 for the
-/// block, 9 for the line of its SSRC, or 15 for a seventeenth SSRC. A refused call changes no word.
+/// SSRC; a new SSRC gets a line. Gives 0. Refusals: 9; 1, 13 or 14 for the block; 9 for the line of its SSRC;
+/// 15 for a seventeenth SSRC. Changes `run` to the next run, and `lines`.
 pub fn streams_block(run: &mut [u64], lines: &mut [u64], block: &[u8]) -> u8 {
     unsafe { raw::flasknib_streams_block(run.as_mut_ptr(), run.len(), lines.as_mut_ptr(), lines.len(), block.as_ptr(), block.len()) }
 }
 
 /// Writes the row of line i, counted from 0, at most FLASKNIB_ROW_MOST_BYTES. `zeroth` is block 0, from which
-/// the row has its label. Gives the row's length, or minus refusal 9, also for a line with an SSRC of 2^32 or
-/// more and for a block 0 that is not 512 bytes, has another form or length of the label than the run, or a
-/// label against the rules (nothing else of it is compared); 10 for no such line; or 12 with the row's size.
+/// the row has its label. Gives the row's length. Refusals, as minus the number: 9, also for a block 0 that
+/// is not 512 bytes, has another form or length of the label than the run, or a label against the rules
+/// (nothing else of it is compared); 10 for no such line; 9 for that line, also for an SSRC of 2^32 or more;
+/// 12 with the row's size. Changes the front of `out`.
 pub fn streams_row(run: &[u64], i: usize, lines: &[u64], zeroth: &[u8], out: &mut [u8]) -> i64 {
     unsafe { raw::flasknib_streams_row(run.as_ptr(), run.len(), i, lines.as_ptr(), lines.len(), zeroth.as_ptr(), zeroth.len(), out.as_mut_ptr(), out.len()) }
 }
