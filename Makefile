@@ -18,6 +18,9 @@ static := target/lib/libflasknib.a
 soname := libflasknib.so.$(basename $(VERSION))
 shared := target/lib/libflasknib.so.$(VERSION)
 manual := $(PROGRAMS:%=man/%.1) man/ecn.1
+# In share/doc as in the tree, so that the links from one to the other lead on.
+pages := docs/LIBRARY.md docs/TABLE.md docs/TRACE.md
+examples := $(wildcard examples/*.c examples/*.cpp examples/*.py examples/*.expected)
 built := $(binaries) $(static) $(shared) target/man/flasknib.3 target/SHA256SUMS
 to := $(DESTDIR)$(PREFIX)
 
@@ -68,8 +71,8 @@ target/SHA256SUMS: $(binaries) $(static) $(shared) packaging/sums
 	cd target && ../packaging/sums $(PROGRAMS:%=bin/%) $(static:target/%=%) $(shared:target/%=%) >SHA256SUMS
 
 install: $(built)
-	install -d "$(to)/bin" "$(to)/include" "$(to)/lib/pkgconfig" "$(to)/share/man/man1" "$(to)/share/man/man3" "$(to)/share/doc/flasknib" \
-		"$(to)/share/flasknib/ecnlib" "$(to)/share/flasknib/flasknib"
+	install -d "$(to)/bin" "$(to)/include" "$(to)/lib/pkgconfig" "$(to)/share/man/man1" "$(to)/share/man/man3" "$(to)/share/doc/flasknib/docs" \
+		"$(to)/share/doc/flasknib/examples/rust" "$(to)/share/flasknib/ecnlib" "$(to)/share/flasknib/flasknib"
 	install -m 755 $(binaries) "$(to)/bin"
 	install -m 644 include/flasknib.h "$(to)/include"
 	install -m 644 $(static) $(shared) "$(to)/lib"
@@ -79,7 +82,13 @@ install: $(built)
 	chmod 644 "$(to)/lib/pkgconfig/flasknib.pc"
 	install -m 644 $(manual) "$(to)/share/man/man1"
 	install -m 644 target/man/flasknib.3 "$(to)/share/man/man3"
-	install -m 644 target/SHA256SUMS "$(to)/share/doc/flasknib"
+	for name in $$(packaging/functions include/flasknib.h); do \
+		echo .so man3/flasknib.3 >"$(to)/share/man/man3/$$name.3" && chmod 644 "$(to)/share/man/man3/$$name.3" || exit 1; \
+	done
+	install -m 644 target/SHA256SUMS README.md "$(to)/share/doc/flasknib"
+	install -m 644 $(pages) "$(to)/share/doc/flasknib/docs"
+	install -m 644 $(examples) "$(to)/share/doc/flasknib/examples"
+	install -m 644 examples/rust/*.rs "$(to)/share/doc/flasknib/examples/rust"
 	install -m 644 tools/wireshark/ecn.lua "$(to)/share/flasknib"
 	install -m 644 tools/ecnlib/*.py "$(to)/share/flasknib/ecnlib"
 	install -m 644 python/flasknib/*.py python/flasknib/py.typed "$(to)/share/flasknib/flasknib"
