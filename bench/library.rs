@@ -2,7 +2,7 @@
 
 extern "C" {
     pub fn flasknib_arrive(source: *mut u64, words: usize, wire: u16, mark: u8) -> u8;
-    pub fn flasknib_sources_arrive(table: *mut u64, words: usize, ssrc: u32, wire: u16, mark: u8) -> u8;
+    pub fn flasknib_sources_arrive(sources: *mut u64, words: usize, ssrc: u32, wire: u16, mark: u8) -> u8;
     pub fn flasknib_count_block(source: *mut u64, words: usize, records: *const u8, length: usize, width: usize) -> i64;
     pub fn flasknib_read_compound(bytes: *const u8, length: usize, media: u32, profile: u8, found: *mut u64, words: usize) -> u8;
     pub fn flasknib_breaker_start(

@@ -131,8 +131,7 @@ enum {
 };
 
 /* The version in the header as one number: 65,536 * major + 256 * minor + patch. */
-#define FLASKNIB_VERSION                                                                           \
-    (65536 * FLASKNIB_VERSION_MAJOR + 256 * FLASKNIB_VERSION_MINOR + FLASKNIB_VERSION_PATCH)
+#define FLASKNIB_VERSION (65536 * 0 + 256 * 2 + 0)
 
 /* Gives the version of the library that is linked, as FLASKNIB_VERSION is made. */
 uint32_t flasknib_version(void) FLASKNIB_MUST_USE;

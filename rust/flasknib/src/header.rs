@@ -27,6 +27,7 @@ pub const REFUSAL_RULES: usize = 16;
 pub const REFUSAL_FORM_TWO: usize = 17;
 pub const REFUSAL_ATTRIBUTE: usize = 18;
 pub const REFUSAL_RETIRED: usize = 19;
+pub const VERSION: usize = 512;
 pub const REFUSAL_TEXT_MOST_BYTES: usize = 80;
 pub const SOURCE_WORDS: usize = 10;
 pub const SOURCE_BASE: usize = 0;
