@@ -1,6 +1,6 @@
 """The arrivals in a file of rows: a CSV file that people or `ecn records` wrote, or tshark's own fields."""
 import re
-from typing import Dict, Iterator, NamedTuple, Optional, Tuple
+from typing import Dict, Iterator, List, NamedTuple, Optional, Tuple
 
 from . import sheets
 from .blocks import MARKS, Form, Record
@@ -25,23 +25,28 @@ class Arrival(NamedTuple):
     record: Record
 
 
-def said(row: sheets.Cells, value: str) -> str:
-    """The column that says a value in this row: the only one of its columns that is not empty, or the first that is there."""
-    there = [name for name in COLUMNS[value] if name in row.cells]
-    filled = [name for name in there if row.cells[name]]
+def said(row: sheets.Cells, names: List[str]) -> str:
+    """The column that says a value in this row: the only one of its columns that is not empty."""
+    cells = row.cells
+    filled = [name for name in names if cells[name]]
+    return filled[0] if len(filled) == 1 and "," not in cells[filled[0]] else doubtful(row, filled, names)
+
+
+def doubtful(row: sheets.Cells, filled: List[str], names: List[str]) -> str:
+    """The same if no column says it, or several do, or one has several values."""
     if len(filled) > 1:
-        raise Ended(REFUSED, f"{row.where}: the {value} stands in the column {' and in the column '.join(filled)}; leave out one of them")
-    name = (filled or there)[0]
-    if not filled and "." in name:
+        raise Ended(REFUSED, f"{row.where}: one thing stands in the column {' and in the column '.join(filled)}; leave out one of them")
+    name = (filled or names)[0]
+    if "." in name and not filled:
         raise Ended(REFUSED, f"{row.where}: {name} is empty, so this is no RTP packet over IP; -Y rtp in tshark's line leaves out others")
-    if "," in row.cells[name] and "." in name:
+    if "." in name:
         raise Ended(REFUSED, f"{row.where}: {name} has several values, as in a tunnel; -E occurrence=l in tshark's line takes the last, innermost one")
     return name
 
 
-def time_in(row: sheets.Cells, form: Form) -> int:
+def time_in(row: sheets.Cells, name: str, form: Form) -> int:
     """The time in ms; seconds are rounded down to it."""
-    name, limit = said(row, "time"), 256**form.time
+    limit = 256**form.time
     text = row.cells[name]
     if name == "time":
         found = row.number(name, 2**64)
@@ -57,16 +62,14 @@ def time_in(row: sheets.Cells, form: Form) -> int:
     return found
 
 
-def mark_in(row: sheets.Cells) -> int:
-    name = said(row, "mark")
+def mark_in(row: sheets.Cells, name: str) -> int:
     mark = MARK_NAMES.get(row.cells[name].lower())
     if mark is None:
         raise Ended(REFUSED, f"{row.where}: {name} {row.cells[name]!r} is not 0 to 3, nor one of {', '.join((*MARKS, *TABLE_MARKS))}")
     return mark
 
 
-def source_in(row: sheets.Cells) -> int:
-    name = said(row, "ssrc")
+def source_in(row: sheets.Cells, name: str) -> int:
     number = ssrc_in(row.cells[name])
     if number is None:
         raise Ended(REFUSED, f"{row.where}: {name} {row.cells[name]!r} is no whole number from 0 to {2**32 - 1}, nor 0x and up to 8 hexadecimal digits")
@@ -79,6 +82,8 @@ def arrivals_in(rows: sheets.Sheet, form: Form, ssrc: Optional[int]) -> Iterator
     rows.need(*(value for value in ("time", "number", "mark") if not there[value]), known=KNOWN)
     if bool(there["ssrc"]) == (ssrc is not None):
         raise Ended(REFUSED, f"{rows.name}: give the source once, by a column {' or '.join(there['ssrc'] or ['ssrc'])} or by --ssrc")
+    times, numbers, marks, sources = there.values()
     for row in rows:
-        source = source_in(row) if ssrc is None else ssrc
-        yield Arrival(source, Record(time_in(row, form), row.number(said(row, "number"), 2**16), mark_in(row)))
+        source = source_in(row, said(row, sources)) if ssrc is None else ssrc
+        record = Record(time_in(row, said(row, times), form), row.number(said(row, numbers), 2**16), mark_in(row, said(row, marks)))
+        yield Arrival(source, record)

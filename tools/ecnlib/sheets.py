@@ -12,11 +12,15 @@ MOST_LINE = 100_000  # characters; a longer line is no row of numbers
 
 
 class Cells(NamedTuple):
-    """A row: where it stands, and its cells by column, without the spaces around them."""
+    """A row: its file, its line, and its cells by column, without the spaces around them."""
 
-    where: str
+    name: str
     line: int
     cells: dict
+
+    @property
+    def where(self) -> str:
+        return f"{self.name}, line {self.line}"
 
     def number(self, name: str, limit: int, least: int = 0) -> int:
         """A whole number below a limit."""
@@ -76,10 +80,11 @@ class Sheet:
                     yield self.cells(row)
 
     def cells(self, row: List[str]) -> Cells:
-        where, more = f"{self.name}, line {self.read}", len(row) - len(self.columns)
+        more = len(row) - len(self.columns)
+        found = Cells(self.name, self.read, dict(zip(self.columns, [*map(str.strip, row), *[""] * -more])))
         if more > 0:
-            raise Ended(REFUSED, f"{where}: {more} more than the {many(len(self.columns), 'field')} of the head line")
-        return Cells(where, self.read, dict(zip(self.columns, [*map(str.strip, row), *[""] * -more])))
+            raise Ended(REFUSED, f"{found.where}: {more} more than the {many(len(self.columns), 'field')} of the head line")
+        return found
 
 
 @contextlib.contextmanager
