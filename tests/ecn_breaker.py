@@ -76,7 +76,8 @@ class Replays(Breakers):
 
     def test_a_reduction_and_its_trial(self):
         rates = (125000000,) * 2 + (1,) * 2 + (125000000,) * 4
-        self.assertEqual([answer for answer, _ in self.answers(reports(*rates), "--k", "1", "--reduce")], ["go", "reduce", "go", "go", "reduce", "stop", "stop", "stop"])
+        found = [answer for answer, _ in self.answers(reports(*rates), "--k", "1", "--reduce")]
+        self.assertEqual(found, ["go", "reduce", "go", "go", "reduce", "stop", "stop", "stop"])
         self.assertIn("reduce by rule 3, congestion: 125,000,000 bytes/s is above", self.breaker(reports(*rates), "--k", "1", "--reduce").stdout)
 
     def test_rate_0_is_not_tested(self):
@@ -90,7 +91,8 @@ class Replays(Breakers):
         self.assertEqual((last["answer"], last["p"]), ("stop", str(1000 * 64 + 1000 * 66)))
 
     def test_lines_that_the_breaker_refuses(self):
-        text = HEAD + "report,5,1,0,1,1,1\nreport,5,2,0,1,1,1\nreport,6,2,256,1,1,1\nheard,8,,,,,\nreport,7,2,0,1,1,1\nreport,9,2,0,70000,0,1\nreport,9,2,0,1,0,1\ntick,10\n"
+        text = HEAD + "report,5,1,0,1,1,1\nreport,5,2,0,1,1,1\nreport,6,2,256,1,1,1\nheard,8,,,,,\n"
+        text += "report,7,2,0,1,1,1\nreport,9,2,0,70000,0,1\nreport,9,2,0,1,0,1\ntick,10\n"
         self.assertEqual([row["refused"] for row in self.rows(text, status=1)], ["", "11", "10", "", "11", "10", "10", ""])
         ran = self.breaker(text, status=1)
         for told in (
@@ -177,7 +179,8 @@ class Numbers(unittest.TestCase):
                 if draw.random() < 0.5:
                     losses = {"lost": draw.choice((-3, 0, 7)), "marked": draw.choice((0, 9)), "expected": draw.choice((0, 10, 1000))}
                 near = draw.choice((0, 1, 20000, 31607, 244949, 125000000))
-                cells = {"kind": kind, "time": max(time, 0), "highest": highest, "rtt": draw.choice((0, 1, 100, 60000)), "size": draw.choice((1, 1000, 65535)), "rate": near}
+                sent = {"rtt": draw.choice((0, 1, 100, 60000)), "size": draw.choice((1, 1000, 65535)), "rate": near}
+                cells = {"kind": kind, "time": max(time, 0), "highest": highest, **sent}
                 found = link.answered(sheets.Cells("here", line, {name: str(value) for name, value in {**cells, **losses}.items()}))
                 met[found.word if found.word != "stop" else f"stop {found.rule}"] += 1
                 if found.word == "stop":

@@ -63,7 +63,8 @@ class Check(Tried):
         rows = self.rows(*TRACES, status=1)
         self.assertEqual([row["trace"] for row in rows], [str(path) for path in TRACES])
         wrong = [row for row in rows if row["refused"] != "0"]
-        self.assertEqual([(os.path.basename(row["trace"]), row["blocks"], row["refused"], row["number"], row["block"]) for row in wrong], [("damaged.trace", "10", "2", "13", "5")])
+        found = [(os.path.basename(row["trace"]), *(row[name] for name in ("blocks", "refused", "number", "block"))) for row in wrong]
+        self.assertEqual(found, [("damaged.trace", "10", "2", "13", "5")])
         self.assertEqual([row["form"] for row in rows if "weeks" in row["trace"]], ["2"])
         text = self.check(SAMPLES / "c1.trace").stdout
         self.assertRegex(text, r'^trace .*first refusal\n.*c1.trace +"probe 2, left" +1 +1 +2 +0 +-\n$')

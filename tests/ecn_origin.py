@@ -113,7 +113,8 @@ class Origins(Tried):
         self.made()
         said = json.loads(self.origin.read_text())
         wrong = [b"", b"{", b"[]", b"null", b"{}", self.copy.read_bytes(), b"[" * 100000, b'{"origin": 1}', json.dumps({**said, "origin": 2}).encode()]
-        wrong += [json.dumps({**said, part: value}).encode() for part in ("trace", "table", "program") for value in (None, 5, {}, {**said[part], "name": 5}, {**said[part], "name": "a\0b"})]
+        for part in ("trace", "table", "program"):
+            wrong += [json.dumps({**said, part: value}).encode() for value in (None, 5, {}, *({**said[part], "name": name} for name in (5, "a\0b")))]
         wrong += [json.dumps({**said, "program": {**said["program"], "name": "../../bin/sh"}}).encode(), b"x" * (1 << 21)]
         for text in wrong:
             self.origin.write_bytes(text)

@@ -20,8 +20,8 @@ program. Another build of the program is well if it makes the same table.
 
     ecn check --origin night1.csv.origin
 
-Exit status: 0 no block is refused, or each table is the same; 1 one is refused, differs or is missing; 2 a read or a write failed, the library or the program is not there, or the
-arguments are wrong.
+Exit status: 0 no block is refused, or each table is the same; 1 one is refused, differs or is missing; 2 a read or a write
+failed, the library or the program is not there, or the arguments are wrong.
 """
 import argparse
 import csv
