@@ -102,6 +102,13 @@ extern "C" {
 #define FLASKNIB_MUST_USE_NONNULL
 #endif
 
+/* A cast of which C++ does not warn (-Wold-style-cast); only for the functions below. */
+#ifdef __cplusplus
+#define FLASKNIB_AS(type, value) static_cast<type>(value)
+#else
+#define FLASKNIB_AS(type, value) ((type)(value))
+#endif
+
 /* Refusals, each with the text that flasknib_refusal_text writes. 7 stores in the record the number
  * that would follow the jump. 11 is given to a report that is not later than the last report or
  * start, or earlier than a heard packet, and to a tick or a heard packet earlier than these. If bytes
@@ -159,7 +166,7 @@ int64_t flasknib_refusal_text(uint8_t number, uint8_t *out, size_t room) FLASKNI
  * Gives its number, or 0 if there is none. */
 static inline int flasknib_writer_refusal(int64_t answer)
 {
-    return answer < 0 ? (int)-(answer % 256) : 0;
+    return answer < 0 ? FLASKNIB_AS(int, -(answer % 256)) : 0;
 }
 
 /* The size in a writer's answer.
@@ -167,7 +174,7 @@ static inline int flasknib_writer_refusal(int64_t answer)
  * flasknib_feed, or 0 if there is another refusal or a length. */
 static inline size_t flasknib_writer_size(int64_t answer)
 {
-    return answer < 0 ? (size_t)-(answer / 256) : 0;
+    return answer < 0 ? FLASKNIB_AS(size_t, -(answer / 256)) : 0;
 }
 
 /* The names of version 0.1 for these two. The next version has only the functions. */
@@ -257,14 +264,14 @@ int64_t flasknib_count_block(uint64_t *source, size_t words, const uint8_t *reco
  * Gives 0 for a refusal. */
 static inline uint64_t flasknib_block_jumps(int64_t answer)
 {
-    return answer < 0 ? 0 : (uint64_t)answer % 256;
+    return answer < 0 ? 0 : FLASKNIB_AS(uint64_t, answer % 256);
 }
 
 /* The restarts in an answer of flasknib_count_block or flasknib_sources_count_block.
  * Gives 0 for a refusal. */
 static inline uint64_t flasknib_block_restarts(int64_t answer)
 {
-    return answer < 0 ? 0 : (uint64_t)answer / 256;
+    return answer < 0 ? 0 : FLASKNIB_AS(uint64_t, answer / 256);
 }
 
 /* The names of version 0.1 for these two. The next version has only the functions. */
@@ -774,11 +781,11 @@ uint8_t flasknib_breaker_call(const uint64_t *found, size_t found_words, uint64_
 static inline uint16_t flasknib_breaker_take(uint64_t *breaker, size_t words, const uint64_t *call,
                                              uint64_t time, struct flasknib_sending sending)
 {
-    uint32_t highest = (uint32_t)call[FLASKNIB_CALL_HIGHEST];
+    uint32_t highest = FLASKNIB_AS(uint32_t, call[FLASKNIB_CALL_HIGHEST]);
 
     if (call[FLASKNIB_CALL_WHICH] == FLASKNIB_WHICH_REPORT_ECN)
         return flasknib_breaker_report_ecn(breaker, words, time, highest,
-                                           (int64_t)call[FLASKNIB_CALL_LOST],
+                                           FLASKNIB_AS(int64_t, call[FLASKNIB_CALL_LOST]),
                                            call[FLASKNIB_CALL_MARKED], call[FLASKNIB_CALL_EXPECTED],
                                            sending.rtt, sending.size, sending.rate);
     if (call[FLASKNIB_CALL_WHICH] == FLASKNIB_WHICH_REPORT)
@@ -1235,6 +1242,8 @@ uint8_t flasknib_streams_block(uint64_t *run, size_t words, uint64_t *lines, siz
 int64_t flasknib_streams_row(const uint64_t *run, size_t words, size_t i, const uint64_t *lines,
                              size_t line_words, const uint8_t *zeroth, size_t zeroth_length,
                              uint8_t *out, size_t room) FLASKNIB_MUST_USE_NONNULL;
+
+#undef FLASKNIB_AS
 
 #ifdef __cplusplus
 }
