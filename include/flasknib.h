@@ -456,9 +456,9 @@ struct flasknib_ecn_report {
 };
 
 /* flasknib_ecn_between, with its numbers by name. */
-static inline uint8_t flasknib_ecn_between_with(struct flasknib_ecn_report later,
-                                                struct flasknib_ecn_report earlier,
-                                                uint64_t *counts, size_t words)
+static inline FLASKNIB_MUST_USE_NONNULL uint8_t flasknib_ecn_between_with(
+    struct flasknib_ecn_report later, struct flasknib_ecn_report earlier, uint64_t *counts,
+    size_t words)
 {
     return flasknib_ecn_between(later.highest, later.ce, later.lost, earlier.highest, earlier.ce,
                                 earlier.lost, counts, words);
@@ -612,8 +612,8 @@ static inline struct flasknib_settings flasknib_preset(void)
 }
 
 /* flasknib_breaker_start, with its numbers by name. */
-static inline uint16_t flasknib_breaker_start_with(struct flasknib_settings settings, uint64_t time,
-                                                   uint64_t *breaker, size_t words)
+static inline FLASKNIB_MUST_USE_NONNULL uint16_t flasknib_breaker_start_with(
+    struct flasknib_settings settings, uint64_t time, uint64_t *breaker, size_t words)
 {
     return flasknib_breaker_start(settings.k, settings.m, settings.timeout, settings.reduce,
                                   settings.full, time, breaker, words);
@@ -651,9 +651,8 @@ struct flasknib_sending {
 };
 
 /* flasknib_breaker_report, with its numbers by name. */
-static inline uint16_t flasknib_breaker_report_with(uint64_t *breaker, size_t words,
-                                                    struct flasknib_report report,
-                                                    struct flasknib_sending sending)
+static inline FLASKNIB_MUST_USE_NONNULL uint16_t flasknib_breaker_report_with(
+    uint64_t *breaker, size_t words, struct flasknib_report report, struct flasknib_sending sending)
 {
     return flasknib_breaker_report(breaker, words, report.time, report.highest, report.fraction,
                                    sending.rtt, sending.size, sending.rate);
@@ -683,9 +682,9 @@ struct flasknib_report_ecn {
 };
 
 /* flasknib_breaker_report_ecn, with its numbers by name. */
-static inline uint16_t flasknib_breaker_report_ecn_with(uint64_t *breaker, size_t words,
-                                                        struct flasknib_report_ecn report,
-                                                        struct flasknib_sending sending)
+static inline FLASKNIB_MUST_USE_NONNULL uint16_t flasknib_breaker_report_ecn_with(
+    uint64_t *breaker, size_t words, struct flasknib_report_ecn report,
+    struct flasknib_sending sending)
 {
     return flasknib_breaker_report_ecn(breaker, words, report.time, report.highest, report.lost,
                                        report.marked, report.expected, sending.rtt, sending.size,
@@ -778,8 +777,9 @@ uint8_t flasknib_breaker_call(const uint64_t *found, size_t found_words, uint64_
 /* Makes the call that a packet is for: flasknib_breaker_heard, _report or _report_ecn at `time`, by
  * the 6 words that flasknib_breaker_call gave.
  * Gives what that call gives, with its refusals, and changes what it changes. */
-static inline uint16_t flasknib_breaker_take(uint64_t *breaker, size_t words, const uint64_t *call,
-                                             uint64_t time, struct flasknib_sending sending)
+static inline FLASKNIB_MUST_USE_NONNULL uint16_t flasknib_breaker_take(
+    uint64_t *breaker, size_t words, const uint64_t *call, uint64_t time,
+    struct flasknib_sending sending)
 {
     uint32_t highest = FLASKNIB_AS(uint32_t, call[FLASKNIB_CALL_HIGHEST]);
 
@@ -986,8 +986,8 @@ struct flasknib_arrivals {
 };
 
 /* flasknib_write_arrivals, with what it takes by name. No list may be null. */
-static inline int64_t flasknib_write_arrivals_with(struct flasknib_arrivals arrivals, uint8_t *out,
-                                                   size_t room)
+static inline FLASKNIB_MUST_USE_NONNULL int64_t flasknib_write_arrivals_with(
+    struct flasknib_arrivals arrivals, uint8_t *out, size_t room)
 {
     return flasknib_write_arrivals(arrivals.form, arrivals.times, arrivals.count, arrivals.numbers,
                                    arrivals.count, arrivals.marks, arrivals.count, arrivals.ssrc,
@@ -1038,7 +1038,8 @@ struct flasknib_row {
 };
 
 /* flasknib_write_row, with what it takes by name. Neither label nor source may be null. */
-static inline int64_t flasknib_write_row_with(struct flasknib_row row, uint8_t *out, size_t room)
+static inline FLASKNIB_MUST_USE_NONNULL int64_t flasknib_write_row_with(
+    struct flasknib_row row, uint8_t *out, size_t room)
 {
     return flasknib_write_row(row.label, row.length, row.ssrc, row.source, FLASKNIB_SOURCE_WORDS,
                               row.jumped, row.restarts, out, room);
