@@ -6,7 +6,7 @@ use native.Mathlib.Omega.{arith}
 use lib.Dec.{ltb}
 use Rattle.wide.proofs.Order.{same-order}
 use Rattle.roots.specs.Fractions.{Fraction, whole, _times_, square}
-use Rattle.breaker.specs.Throughput.{throughputSquared}
+use Rattle.breaker.specs.Throughput.{simplifiedSquared}
 use Rattle.breaker.specs.Theorems.{AboveTenTimes, SquaresCompare}
 use Rattle.breaker.proofs.Products.{squared}
 
@@ -17,7 +17,7 @@ doubled a b = same-order a b (2 * a) (2 * b) (λ h. omega arith) (λ h. omega ar
 -- 10² · X²
 abbrev bound : ℕ → ℕ → ℕ → ℕ → Fraction
 bound Tr P s W =
-    square (whole 10) times throughputSquared (whole s) (record { top = Tr; bottom = 1000 }) (whole 1) (record { top = P; bottom = 256 * W })
+    square (whole 10) times simplifiedSquared (whole s) (record { top = Tr; bottom = 1000 }) (whole 1) (record { top = P; bottom = 256 * W })
 
 pub above-ten-times : AboveTenTimes
 above-ten-times rate Tr P s W =

@@ -25,7 +25,7 @@ use Rattle.breaker.specs.Condition.{condition}
 use Rattle.breaker.specs.Calls.{startOf, preset, reportOf}
 use Rattle.breaker.specs.Runs.{Call, report, tick, heard, called, answersOf, after}
 use Rattle.roots.specs.Fractions.{Fraction, whole, _times_, square, above}
-use Rattle.breaker.specs.Throughput.{throughputSquared}
+use Rattle.breaker.specs.Throughput.{simplifiedSquared}
 
 -- a start that is not refused makes a sound record
 abbrev pub SoundStart : Type 0
@@ -74,7 +74,7 @@ AboveTenTimes =
     (rate Tr P s W : ℕ)
     → condition rate Tr P s W
     ≡ above (square (whole rate))
-    (square (whole 10) times throughputSquared (whole s) (record { top = Tr; bottom = 1000 }) (whole 1) (record { top = P; bottom = 256 * W }))
+    (square (whole 10) times simplifiedSquared (whole s) (record { top = Tr; bottom = 1000 }) (whole 1) (record { top = P; bottom = 256 * W }))
 
 -- comparing squares is comparing the numbers
 abbrev pub SquaresCompare : Type 0

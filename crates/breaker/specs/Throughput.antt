@@ -3,5 +3,5 @@
 use Rattle.roots.specs.Fractions.{Fraction, whole, _times_, _over_, square}
 
 -- X²
-abbrev pub throughputSquared : Fraction → Fraction → Fraction → Fraction → Fraction
-throughputSquared s Tr b p = square s over (square Tr times ((whole 2 times (b times p)) over whole 3))
+abbrev pub simplifiedSquared : Fraction → Fraction → Fraction → Fraction → Fraction
+simplifiedSquared s Tr b p = square s over (square Tr times ((whole 2 times (b times p)) over whole 3))

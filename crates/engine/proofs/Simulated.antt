@@ -26,7 +26,7 @@ use Rattle.source.proofs.Rows.{bit-le}
 use Rattle.source.proofs.Kept.{counted-arrivals}
 use Rattle.source.proofs.Answers.{arrival-later}
 use Rattle.engine.specs.declared.lean.Lean.{Lean}
-use Rattle.engine.specs.Lean.{byte, rememberedAs, since, restored, unit, raised, ahead, behind, cleared, restarted, skipped, jumped, takenBy, above, taken}
+use Rattle.engine.specs.Lean.{byte, rememberedAs, stillCounted, restored, unit, raised, ahead, behind, cleared, restarted, skipped, jumped, takenBy, above, taken}
 use Rattle.engine.proofs.Near.{distance-nat}
 use Rattle.engine.proofs.Bytes.{units, mark-byte, byte-raised, byte-units, cleared-bytes}
 
@@ -66,13 +66,13 @@ module _ (s : Source) (t : Lean) (g : Stands s t) (mark : ℕ) (m : mark ≤ 3) 
       let z = mark-byte mark m .6 in
       up again 6 0 (omega arith) ∙ add-zero (byte 6 (t .counts))
 
-  since-same : (again : Bool) (n : ℕ) → since (t .counts + units mark again) n ≡ since (t .counts) n
-  unfolding since
+  since-same : (again : Bool) (n : ℕ) → stillCounted (t .counts + units mark again) n ≡ stillCounted (t .counts) n
+  unfolding stillCounted
   since-same again n = ap (λ (b : ℕ). cond (eqb b 0) n 0) (none-six again)
 
   grown : (again : Bool) (n k u : ℕ) → bit (eqb (2 + mark) k) + bit again * bit (eqb 1 k) ≡ u
-      → since (t .counts + units mark again) n + byte k (t .counts + units mark again) ≡ since (t .counts) n + byte k (t .counts) + u
-  grown again n k u e = ap₂ _+_ (since-same again n) (up again k u e) ∙ sym (add-assoc (since (t .counts) n) (byte k (t .counts)) u)
+      → stillCounted (t .counts + units mark again) n + byte k (t .counts + units mark again) ≡ stillCounted (t .counts) n + byte k (t .counts) + u
+  grown again n k u e = ap₂ _+_ (since-same again n) (up again k u e) ∙ sym (add-assoc (stillCounted (t .counts) n) (byte k (t .counts)) u)
 
   counted-restored : (h : ℕ) (past : History) (again : Bool) (n : ℕ) → n ≡ restored s t .duplicates + bit again
       → restored s (raised t h past (units mark again)) ≡ spec.counted (restored s t) mark (restored s t .base) (extended (pos h)) n past
@@ -131,7 +131,7 @@ module _ (s : Source) (t : Lean) (g : Stands s t) (mark : ℕ) (m : mark ≤ 3) 
   -- ---- a jump that is left out
 
   skipped-follows : (number : ℕ) → Follows s t (skipped t number) (Refused Jump (spec.remembering (restored s t) (spec.next (record { 0 = number }))))
-  unfolding restored spec.remembering rememberedAs since
+  unfolding restored spec.remembering rememberedAs stillCounted
   skipped-follows number = record {
     state = λ i. record {
       base = extended (pos (t .base));
@@ -155,7 +155,7 @@ module _ (s : Source) (t : Lean) (g : Stands s t) (mark : ℕ) (m : mark ≤ 3) 
       one : (k : ℕ) → byte k (t .counts + 1) ≡ byte k (t .counts) + bit (eqb 0 k)
       one k = byte-raised (t .counts) 0 k (g .small 0 (omega arith))
 
-      same : (n k : ℕ) → bit (eqb 0 k) ≡ 0 → since (t .counts + 1) n + byte k (t .counts + 1) ≡ since (t .counts) n + byte k (t .counts)
+      same : (n k : ℕ) → bit (eqb 0 k) ≡ 0 → stillCounted (t .counts + 1) n + byte k (t .counts + 1) ≡ stillCounted (t .counts) n + byte k (t .counts)
       same n k e =
           ap₂ _+_ (ap (λ (b : ℕ). cond (eqb b 0) n 0) (one 6 ∙ add-zero (byte 6 (t .counts))))
           (one k ∙ ap (λ (b : ℕ). byte k (t .counts) + b) e ∙ add-zero (byte k (t .counts)))
@@ -185,11 +185,11 @@ module _ (s : Source) (t : Lean) (g : Stands s t) (mark : ℕ) (m : mark ≤ 3) 
     some-six : byte 6 fresh-counts ≡ byte 6 (t .counts) + 1
     some-six = fresh-byte 6 ∙ omega (arith, cleared-bytes (t .counts) .sixth, mark-byte mark m .6)
 
-    since-none : (n : ℕ) → since fresh-counts n ≡ 0
-    unfolding since
+    since-none : (n : ℕ) → stillCounted fresh-counts n ≡ 0
+    unfolding stillCounted
     since-none n = rw (ne-eqb (byte 6 fresh-counts) 0 (λ z. omega (arith, some-six, z))) refl
 
-    begins : (n k u : ℕ) → byte k fresh-counts ≡ u → since fresh-counts n + byte k fresh-counts ≡ 0 + u
+    begins : (n k u : ℕ) → byte k fresh-counts ≡ u → stillCounted fresh-counts n + byte k fresh-counts ≡ 0 + u
     begins n k u e = ap₂ _+_ (since-none n) e
 
     restarted-state : restored s (restarted t number mark) ≡ spec.first freshRecord (record { 0 = number }) mark

@@ -30,7 +30,7 @@ use Rattle.engine.specs.declared.lean.Lean.{Lean}
 use Rattle.engine.specs.Limits.{Held}
 use Rattle.engine.specs.Windows.{held, wired}
 use Rattle.engine.specs.Settled.{Roomy}
-use Rattle.engine.specs.Lean.{LeanFits, byte, awaitedIn, rememberedAs, begun, since, restored, ahead, behind, restarted, skipped, jumped, takenBy, above, taken, takenAll, Behind}
+use Rattle.engine.specs.Lean.{LeanFits, byte, awaitedIn, rememberedAs, begun, stillCounted, restored, ahead, behind, restarted, skipped, jumped, takenBy, above, taken, takenAll, Behind}
 use Rattle.engine.proofs.Simulated.{Stands, pow-most, taken-follows}
 
 -- ---- room for one arrival fewer
@@ -207,7 +207,7 @@ module _ (s : Source) where
     awaited-few (Number wire) e = let l = ltb-true (wire .0) 65536 e in omega arith
 
     restored-begun : restored s (begun s) ≡ s
-    unfolding restored since
+    unfolding restored stillCounted
     restored-begun = λ i. record {
       base = extended (natural (known .low) (known .base) i);
       highest = extended (natural (known .high) (known .highest) i);

@@ -48,19 +48,19 @@ abbrev pub begun : Source → Lean
 begun s = record { base = natAbs (s .base .0); highest = natAbs (s .highest .0); history = s .history; awaited = awaitedIn (s .remembered); counts = 0 }
 
 -- a counter that the part began with, until a restart
-unfoldable pub since : ℕ → ℕ → ℕ
-since counts n = cond (eqb (byte 6 counts) 0) n 0
+unfoldable pub stillCounted : ℕ → ℕ → ℕ
+stillCounted counts n = cond (eqb (byte 6 counts) 0) n 0
 
 -- the record that a state stands for, in a part begun with s: the counts are of jumps, duplicates, the marks 0 to 3, restarts
 unfoldable pub restored : Source → Lean → Source
 restored s t = record {
   base = extended (pos (t .base));
   highest = extended (pos (t .highest));
-  notect = since (t .counts) (s .notect) + byte 2 (t .counts);
-  ect1 = since (t .counts) (s .ect1) + byte 3 (t .counts);
-  ect0 = since (t .counts) (s .ect0) + byte 4 (t .counts);
-  ce = since (t .counts) (s .ce) + byte 5 (t .counts);
-  duplicates = since (t .counts) (s .duplicates) + byte 1 (t .counts);
+  notect = stillCounted (t .counts) (s .notect) + byte 2 (t .counts);
+  ect1 = stillCounted (t .counts) (s .ect1) + byte 3 (t .counts);
+  ect0 = stillCounted (t .counts) (s .ect0) + byte 4 (t .counts);
+  ce = stillCounted (t .counts) (s .ce) + byte 5 (t .counts);
+  duplicates = stillCounted (t .counts) (s .duplicates) + byte 1 (t .counts);
   history = t .history;
   remembered = rememberedAs (t .awaited);
 }

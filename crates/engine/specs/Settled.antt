@@ -20,7 +20,7 @@ use Rattle.engine.specs.declared.scans.Scan.{Scan}
 use Rattle.engine.specs.declared.shifts.Shifted.{Shifted}
 use Rattle.engine.specs.declared.stretches.Part.{Part}
 use Rattle.engine.specs.declared.stretches.Part.the-variants as part
-use Rattle.engine.specs.Windows.{ahead, within, hits, least}
+use Rattle.engine.specs.Windows.{lead, within, hits, least}
 
 -- a value of each packet's mark, added up
 unfoldable pub total : (ℕ → ℕ) → List Packet → ℕ
@@ -62,17 +62,17 @@ settled top a s ps = settledAt top a (least top a ps) s ps
 
 -- the place of the highest number in a window's bits, where it was at place 40
 abbrev pub lowest : ℕ → ℕ
-lowest bits = trailingZeros 64 (bitOr bits (2 ^ ahead))
+lowest bits = trailingZeros 64 (bitOr bits (2 ^ lead))
 
 -- the row moved on, with the bits
 abbrev pub rowWith : ℕ → History → ℕ → Bool
-rowWith bits h k = moved (ahead - lowest bits) (marks h) k || place bits (lowest bits + k)
+rowWith bits h k = moved (lead - lowest bits) (marks h) k || place bits (lowest bits + k)
 
 -- a history moved on by the bits
 pub record ShiftedBy (h : History) (bits : ℕ) (r : Shifted) : Type 0 where
-  pub up : r .up ≡ ahead - lowest bits
+  pub up : r .up ≡ lead - lowest bits
   pub history : r .history ≡ history (rowWith bits h)
-  pub more : r .more ≡ ones (pack 64 (rowWith bits h)) - ones (pack 64 (moved (ahead - lowest bits) (marks h)))
+  pub more : r .more ≡ ones (pack 64 (rowWith bits h)) - ones (pack 64 (moved (lead - lowest bits) (marks h)))
 
 -- the record with the packets of a scan and a history moved on
 abbrev pub scannedOnto : Source → ℕ → Scan → Shifted → Source
@@ -90,12 +90,12 @@ scannedOnto s n scan shifted = record {
 
 -- the top of a record's window, modulo 65,536
 abbrev pub topOf : Source → ℕ
-topOf s = natAbs (s .highest .0) % 65536 + ahead
+topOf s = natAbs (s .highest .0) % 65536 + lead
 
 -- what an answer to a part says: the record behind the packets, all of which lie in its window; that a mark is above 3; or that none is, but some number
 -- lies outside the window, and nothing is counted
 abbrev pub PartIs : Source → List Packet → Part → Type 0
-PartIs s ps (part.Counted t) = (marksFit ps ≡ true) × (within (topOf s) ps ≡ true) × (t ≡ settled (topOf s) ahead s ps)
+PartIs s ps (part.Counted t) = (marksFit ps ≡ true) × (within (topOf s) ps ≡ true) × (t ≡ settled (topOf s) lead s ps)
 PartIs s ps part.Misfit = marksFit ps ≡ false
 PartIs s ps (part.Outside ordered) = (marksFit ps ≡ true) × (within (topOf s) ps ≡ false)
 
@@ -110,5 +110,5 @@ pub record Added (s : Source) (n : ℕ) (scan : Scan) (shifted : Shifted) : Type
   pub roomy : Roomy s n
   pub few : n ≤ 31
   pub marks : scan .notect + scan .ect1 + scan .ect0 + scan .ce ≡ n
-  pub up : shifted .up ≤ ahead
+  pub up : shifted .up ≤ lead
   pub more : shifted .more ≤ n

@@ -14,8 +14,8 @@ use Rattle.engine.specs.declared.window.Found.{Found}
 use Rattle.engine.specs.declared.window.Found.the-variants.{At, Outside}
 
 -- how far the window's top lies above the highest number, and how many numbers it holds
-abbrev pub ahead : ℕ
-ahead = 40
+abbrev pub lead : ℕ
+lead = 40
 
 abbrev pub wide : ℕ
 wide = 64

@@ -9,7 +9,7 @@ ghost use mathlib.Core.Path.{_≡_};
 ghost use mathlib.Core.Bool.{true};
 ghost use Prim.Native.Nat.{_≤_};
 ghost use Rattle.source.specs.Record.{hasCounted, wireNumber};
-ghost use Rattle.engine.specs.Lean.{LeanFits, awaitedIn, rememberedAs, begun, since, restored};
+ghost use Rattle.engine.specs.Lean.{LeanFits, awaitedIn, rememberedAs, begun, stillCounted, restored};
 
 // The first and the highest number, the history, the number that is remembered (65,536 for none), and the part's counts, a byte each: jumps, duplicates,
 // arrivals with the marks 0 to 3, restarts. A restart leaves of these the jumps and the restarts.
@@ -66,7 +66,7 @@ pub fn begun(s: Source) -> Lean
 
 // A counter that the part began with: nothing is left of it behind a restart.
 fn since(counts: u64, before: u64) -> u64
-    ensures { λ r. ⌜ (r ≡ since counts before) × (r ≤ before) ⌝ }
+    ensures { λ r. ⌜ (r ≡ stillCounted counts before) × (r ≤ before) ⌝ }
 {
     if counts / RESTART % 256 == 0 {
         before

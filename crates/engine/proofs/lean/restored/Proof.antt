@@ -6,7 +6,7 @@ use mir.Syntax.{w64}
 use mir.ValLaws.{toZ-pos}
 use Rattle.source.specs.Arrivals.{extended}
 use Rattle.source.proofs.Facts.{facts}
-use Rattle.engine.specs.Lean.{byte, since, restored}
+use Rattle.engine.specs.Lean.{byte, stillCounted, restored}
 use Rattle.engine.proofs.lean.restored.Statement.{statement}
 use Rattle.engine.proofs.lean.restored.Tie as tie
 
