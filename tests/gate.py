@@ -70,9 +70,9 @@ def sums(name, work):
 
 # What .ci/run is asked for, what must then be tried, in order, the status of the last part, and how its last line begins.
 SOME = {
-    "one that others need": (["low"], ["must-fail low high", "edits high", "run --of low high"], 0, "no verdict, 4 tries passed and 0 failed: only low high were tried"),
-    "one that none needs": (["lone"], ["must-fail lone", "run --of lone"], 0, "no verdict, 2 tries passed and 0 failed: only lone were tried"),
-    "a part that fails": (["high"], ["must-fail high", "edits high", "run --of high"], 1, "no verdict, 2 tries passed and 1 failed: only high were tried"),
+    "one that others need": (["low"], ["check low high", "edits high", "run --of low high"], 0, "no verdict, 4 tries passed and 0 failed: only low high were tried"),
+    "one that none needs": (["lone"], ["check lone", "run --of lone"], 0, "no verdict, 2 tries passed and 0 failed: only lone were tried"),
+    "a part that fails": (["high"], ["check high", "edits high", "run --of high"], 1, "no verdict, 2 tries passed and 1 failed: only high were tried"),
     "a name that is not listed": (["none"], [], 0, "none is not listed"),
 }
 
