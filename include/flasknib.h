@@ -73,17 +73,17 @@ extern "C" {
 /* ---- the stack of a call ------------------------------------------------------------------------
  * A call takes at most so many bytes of stack, its return address among them, as measured on the
  * library's code for x86-64; what memcpy and its like take of their own comes to it.
- *      256 bytes: flasknib_lost, flasknib_write_summary, flasknib_read_compound,
+ *      256 bytes: flasknib_version, flasknib_arrive, flasknib_lost, flasknib_write_summary,
+ *                 flasknib_read_compound,
  *                 flasknib_ecn_between, flasknib_since16, flasknib_since32, flasknib_lost_since,
  *                 flasknib_breaker_call, flasknib_read_attribute, flasknib_answer,
  *                 flasknib_read_block, flasknib_read_own, flasknib_record_at, flasknib_write_label,
  *                 flasknib_space_label, flasknib_write_arrivals, flasknib_write_records,
  *                 flasknib_write_head, flasknib_write_refused, flasknib_run_start,
  *                 flasknib_forms_start, flasknib_forms_close, flasknib_streams_start
- *      512 bytes: flasknib_arrive, flasknib_write_feedback, flasknib_write_row,
- *                 flasknib_forms_block
- *    1,024 bytes: flasknib_count_block, flasknib_write_attribute, flasknib_feed_close,
- *                 flasknib_streams_row
+ *      512 bytes: flasknib_write_feedback, flasknib_write_row, flasknib_forms_block
+ *    1,024 bytes: flasknib_refusal_text, flasknib_count_block, flasknib_write_attribute,
+ *                 flasknib_feed_close, flasknib_streams_row
  *    2,048 bytes: flasknib_breaker_start, flasknib_breaker_start_preset, flasknib_run_block,
  *                 flasknib_streams_block
  *    4,096 bytes: flasknib_breaker_tick, flasknib_breaker_heard, flasknib_feed
@@ -111,8 +111,8 @@ extern "C" {
 
 /* Refusals, each with the text that flasknib_refusal_text writes. 7 stores in the record the number
  * that would follow the jump. 11 is given to a report that is not later than the last report or
- * start, or earlier than a heard packet, and to a tick or a heard packet earlier than these. If bytes
- * are written, 12 comes with their number. Only the converter of forms gives 17, and only
+ * start, or earlier than a heard packet, and to a tick or a heard packet earlier than these. If
+ * bytes are written, 12 comes with their number. Only the converter of forms gives 17, and only
  * flasknib_write_label 19.
  */
 enum {
@@ -140,14 +140,17 @@ enum {
 /* The version in the header as one number: 65,536 * major + 256 * minor + patch. */
 #define FLASKNIB_VERSION (65536 * 0 + 256 * 2 + 0)
 
-/* Gives the version of the library that is linked, as FLASKNIB_VERSION is made. */
+/* The version of the library that is linked.
+ * Gives 65,536 * major + 256 * minor + patch, as FLASKNIB_VERSION has it. */
 uint32_t flasknib_version(void) FLASKNIB_MUST_USE;
 
 /* A text has at most so many bytes. */
 #define FLASKNIB_REFUSAL_TEXT_MOST_BYTES 80
 
 /* Writes what a refusal means, in ASCII, not ended by a zero byte.
- * Gives the length, or minus a refusal: 10 a number that is no refusal's (1 to 19), 12. */
+ * Gives its length.
+ * Refusals, as minus the number: 10 a number that is no refusal's (1 to 19), 12 with its size.
+ * Changes the front of `out`. */
 int64_t flasknib_refusal_text(uint8_t number, uint8_t *out, size_t room) FLASKNIB_MUST_USE_NONNULL;
 
 /* ---- what a writer answers ----------------------------------------------------------------------

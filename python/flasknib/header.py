@@ -246,7 +246,8 @@ _version = bind("flasknib_version", u32)
 
 
 def version() -> int:
-    """Gives the version of the library that is linked, as FLASKNIB_VERSION is made."""
+    """The version of the library that is linked. Gives 65,536 * major + 256 * minor + patch, as
+    FLASKNIB_VERSION has it."""
     return _version()
 
 
@@ -254,8 +255,8 @@ _refusal_text = bind("flasknib_refusal_text", i64, u8, memory, usize)
 
 
 def refusal_text(number: int, out: Buffer) -> int:
-    """Writes what a refusal means, in ASCII, not ended by a zero byte. Gives the length, or minus a refusal:
-    10 a number that is no refusal's (1 to 19), 12."""
+    """Writes what a refusal means, in ASCII, not ended by a zero byte. Gives its length. Refusals, as minus
+    the number: 10 a number that is no refusal's (1 to 19), 12 with its size. Changes the front of `out`."""
     number = fits(number, u8)
     lent_out = written(out)
     return _refusal_text(number, lent_out, len(lent_out))

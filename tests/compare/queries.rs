@@ -63,7 +63,7 @@ fn record_at(compare: &Compare, draw: &Draw) {
 fn refusal_text(compare: &Compare, draw: &Draw) {
     compare.call("flasknib_version", &mut (), |calls, _| i64::from(calls.version()));
     let number = draw.edge(0, 20) as u8;
-    for room in draw.rooms(model::refusal::text(number).map_or(0, str::len)) {
+    for room in draw.rooms(model::refusal::text(number).map_or(1, str::len)) {
         let mut out = Lent::new(&draw.bytes(room));
         compare.call("flasknib_refusal_text", &mut out, |calls, out| calls.refusal_text(number, out.part_mut()));
     }

@@ -331,13 +331,14 @@ pub mod raw {
     }
 }
 
-/// Gives the version of the library that is linked, as FLASKNIB_VERSION is made.
+/// The version of the library that is linked. Gives 65,536 * major + 256 * minor + patch, as FLASKNIB_VERSION
+/// has it.
 pub fn version() -> u32 {
     unsafe { raw::flasknib_version() }
 }
 
-/// Writes what a refusal means, in ASCII, not ended by a zero byte. Gives the length, or minus a refusal: 10
-/// a number that is no refusal's (1 to 19), 12.
+/// Writes what a refusal means, in ASCII, not ended by a zero byte. Gives its length. Refusals, as minus the
+/// number: 10 a number that is no refusal's (1 to 19), 12 with its size. Changes the front of `out`.
 pub fn refusal_text(number: u8, out: &mut [u8]) -> i64 {
     unsafe { raw::flasknib_refusal_text(number, out.as_mut_ptr(), out.len()) }
 }
