@@ -382,7 +382,7 @@ def arguments(tried):
 
 
 def bad_sticks(tried):
-    """README's dd over a file of which some reads fail, and which ends in the middle of a block: their blocks are zeros in the image, and the end is filled up
+    """The dd of docs/PROGRAMS.md over a file of which some reads fail, and which ends in the middle of a block: their blocks are zeros in the image, and the end is filled up
     with zeros. All of these are listed with 13, and the others are copied."""
     data, image = tried.program.given(), tried.path.with_suffix(".image")
     for faults, unread in (("", ()), ("read fail 6 5 1; read fail 500 5 3", (5, 499, 500, 501)), ("read fail 1 5 1", (0,)), ("read fail 2 5 800", range(1, 801))):
@@ -395,7 +395,7 @@ def bad_sticks(tried):
         wanted = [data[BLOCK * number : BLOCK * (number + 1)] for number in range(blocks)]
         got = image.read_bytes()
         if len(got) != BLOCK * (blocks + 1) or any(any(got[BLOCK * number : BLOCK * (number + 1)]) for number in unread):
-            tried.wrong.append(f"dd with {faults!r}: not the image that README says")
+            tried.wrong.append(f"dd with {faults!r}: not the image that the page says")
         out, line = b"".join(each for number, each in enumerate(wanted) if number not in left_out), tried.program.lines(left_out)
         with open(image, "rb") as opened:
             told = tried.run(f"an image of dd with {faults!r}", stdin=opened)

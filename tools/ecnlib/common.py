@@ -10,7 +10,7 @@ from . import endings
 
 WELL, REFUSED, FAILED = 0, 1, 2
 
-# What the programs refuse, in README's words
+# What the programs refuse, in the words of docs/PROGRAMS.md
 REFUSALS = {
     1: "the trace is empty, or ends in the middle of a block",
     13: "the block's checksum does not fit",
@@ -120,5 +120,5 @@ def many(count: int, word: str) -> str:
 
 
 def refused_words(number: int, block: int) -> str:
-    words = f"block {block} is refused with {number}: {REFUSALS.get(number, 'see the table of refusals in README')}"
+    words = f"block {block} is refused with {number}: {REFUSALS.get(number, 'see the table of refusals in docs/PROGRAMS.md')}"
     return words + ("; probably this is no trace at all" if block == 0 and number != 14 else "")
