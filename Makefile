@@ -19,7 +19,7 @@ soname := libflasknib.so.$(basename $(VERSION))
 shared := target/lib/libflasknib.so.$(VERSION)
 manual := $(PROGRAMS:%=man/%.1) man/ecn.1
 # In share/doc as in the tree, so that the links from one to the other lead on.
-pages := docs/LIBRARY.md docs/TABLE.md docs/TRACE.md
+pages := docs/LIBRARY.md docs/PROGRAMS.md docs/TABLE.md docs/TRACE.md
 examples := $(wildcard examples/*.c examples/*.cpp examples/*.py examples/*.expected)
 built := $(binaries) $(static) $(shared) target/man/flasknib.3 target/SHA256SUMS
 to := $(DESTDIR)$(PREFIX)
