@@ -179,7 +179,7 @@ def full_rows(limits):
     values = parts | {f"left, rate {each:,}": full_sides(each, *FULL)[0] for each in (rate - 1, rate)} | {"right": full_sides(0, *FULL)[1]}
     return {
         "The full equation": {name: [value, value.bit_length()] for name, value in factors.items()},
-        "Where the full equation's test triggers": rounded,
+        "When the full equation's test triggers": rounded,
         "C10 with the full equation": rules | {name: [value] for name, value in values.items()},
     }
 
