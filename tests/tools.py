@@ -1169,7 +1169,7 @@ class Pages(Tried):
         data = (SAMPLES / "c1.trace").read_bytes()[512:]
         self.assertEqual(names["block"](2, 5, 1, data[8:48]), data)
         page = (TOP / "docs/TRACE.md").read_text()
-        words, total = re.search(r"add up to `([0-9a-f +]+)` = `([0-9a-f]+)`", page).groups()
+        words, total = re.search(r"add up to\s+`([0-9a-f +]+)` = `([0-9a-f]+)`", page).groups()
         self.assertEqual(sum(int(word, 16) for word in words.split(" + ")), int(total, 16))
         self.assertEqual(words.split(" + "), [data[at : at + 2].hex() for at in range(0, 510, 2) if any(data[at : at + 2])])
 
