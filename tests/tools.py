@@ -771,7 +771,7 @@ class Label(Tried):
         for text, told in (
             ("kill -9 $$", "ended by signal 9"),
             ("exit 3", "ended with status 3"),
-            (f"cat >/dev/null; cat {sample}", "ecnlabel told no number of bytes"),
+            (f"cat >/dev/null; cat {sample}", "ecnlabel reported no number of bytes"),
             (f"cat >/dev/null; head -c 1024 {sample}; printf '3\\r\\n' >&2", "1024 of 1536 bytes; the copy is not whole"),
             (f"cat >/dev/null; cat {sample}; printf '3\\r\\nx\\n' >&2", "returns.trace: 3"),
         ):

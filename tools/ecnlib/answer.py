@@ -2,15 +2,16 @@
 
     ecn answer --ours 'a=ecn-capable-rtp: ice,rtp mode=setread; ect=0' offer.sdp
 
-Our abilities are the line that we would offer. The offer is a whole SDP or the one line, in a file or on standard input. Each of its lines that
-begins with a=ecn-capable-rtp (RFC 6679) is read, answered and written by the proved library (that of $FLASKNIB_LIBRARY, or of this installation,
-or of the system); the script looks for the lines and judges nothing. The answer has the first of our methods that the offer names, our mode
-and our ect. Put each line below the m= line of the same stream, never above the first.
+Our abilities are the line that we would offer. The offer is a whole SDP or the one line, in a file or on standard
+input. Each of its lines that begins with a=ecn-capable-rtp (RFC 6679) is read, answered and written by the proved
+library (that of $FLASKNIB_LIBRARY, or of this installation, or of the system). The script looks for the lines and
+judges nothing. The answer has the first of our methods that the offer names, our mode and our ect. Put each line
+below the m= line of the same stream, never above the first.
 
-On standard error, lines counted from 1: `left out line I` where the answer has no such line, and `refused N line I`.
+On standard error, lines counted from 1: `left out line I` if the answer has no such line, and `refused N line I`.
 
-Exit status: 0 each line is answered or left out; 1 one of them or --ours is refused, or there is none; 2 a read or a write failed, the library
-is not there, or the arguments are wrong.
+Exit status: 0 each line is answered or left out; 1 one of them or --ours is refused, or there is none; 2 a read or a
+write failed, the library is not there, or the arguments are wrong.
 """
 import argparse
 import io

@@ -3,25 +3,26 @@
     ecn check traces/*.trace
     ecn check traces/*.trace --csv -j 4 -o checked.csv
 
-The verdicts are the proved library's. Each block is judged at its place as ecntable and ecnsalvage do, the blocks after a
-refused one too; with --streams as ecnstreams does, so that arrivals blocks may differ in SSRC. After a refused block 0
-there is nothing to go by: the rest of the trace is not judged, and the last columns say so.
+The verdicts are the proved library's. Each block is judged at its place as ecntable and ecnsalvage do, the blocks
+after a refused one too; with --streams as ecnstreams does, so that arrivals blocks may differ in SSRC. After a
+refused block 0 there is nothing to go by: the rest of the trace is not judged, and the last columns say so.
 
-`sources` counts the SSRCs of the blocks that are sound by themselves. If it is above 1 without --streams, the blocks of the
-others are refused with 14: take --streams, or split the trace with `ecn split`.
+`sources` counts the SSRCs of the blocks that are sound by themselves. If it is above 1 without --streams, the blocks
+of the others are refused with 14: take --streams, or split the trace with `ecn split`.
 
-With --csv the columns are trace, label, form, sources, blocks, refused, number, block: the last two are the first refusal
-and its block, counted from 0. A trace `-` is standard input; a trace is read once. `ecn look --refused` shows the blocks.
+With --csv the columns are trace, label, form, sources, blocks, refused, number, block: the last two are the first
+refusal and its block, counted from 0. A trace `-` is standard input; a trace is read once. `ecn look --refused` shows
+the blocks.
 
-With --origin each TRACE is the origin of a table, which `ecn table --origin` wrote. The trace is looked for by its name from
-the origin's folder, or in it, and the table beside the origin. The proved program makes the table again, and a line says
-how each stands to its SHA-256 in the origin (same, differs, missing): the trace, the table, the table made again, and the
-program. Another build of the program is well if it makes the same table.
+With --origin each TRACE is the origin of a table, which `ecn table --origin` wrote. The trace is looked for by its
+name from the origin's folder, or in it, and the table beside the origin. The proved program makes the table again,
+and a line says how each stands to its SHA-256 in the origin (same, differs, missing): the trace, the table, the table
+made again, and the program. Another build of the program is well if it makes the same table.
 
     ecn check --origin night1.csv.origin
 
-Exit status: 0 no block is refused, or each table is the same; 1 one is refused, differs or is missing; 2 a read or a write
-failed, the library or the program is not there, or the arguments are wrong.
+Exit status: 0 no block is refused, or each table is the same; 1 one is refused, differs or is missing; 2 a read or a
+write failed, the library or the program is not there, or the arguments are wrong.
 """
 import argparse
 import csv

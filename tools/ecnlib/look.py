@@ -3,16 +3,16 @@
     ecn look night1.trace --brief
     ecn look night1.trace --refused
 
-The verdicts are the proved reader's. The library (that of $FLASKNIB_LIBRARY, or of this installation, or of the system) judges each
-block alone. The program ecntable judges each block at its place: it ends at the first block that it refuses, so it is run again on
-the trace without that block, until it refuses none, and 100 times at most. Where one of the two is missing the other's verdicts are
-shown alone. A block that is refused is shown with its header's numbers and no records. The last line counts the blocks of the whole
-trace, also where some alone are shown.
+The verdicts are the proved reader's. The library (that of $FLASKNIB_LIBRARY, or of this installation, or of the system)
+judges each block by itself. The program ecntable judges each block at its place. It ends at the first block that it
+refuses, so it is run again on the trace without that block, until it refuses none, and 100 times at most. If one of the
+two is missing, only the other's verdicts are shown. A block that is refused is shown with its header's numbers and no
+records. The last line counts the blocks of the whole trace, also if only some are shown.
 
 The trace is read more than once, so TRACE is a file and not standard input.
 
-Exit status: 0 no block is refused; 1 one is; 2 a read or a write failed, neither the program nor the library is there, or the arguments
-are wrong.
+Exit status: 0 no block is refused; 1 one is; 2 a read or a write failed, neither the program nor the library is there,
+or the arguments are wrong.
 """
 import argparse
 import enum
@@ -35,7 +35,7 @@ MOST_RUNS = 100  # of the program on one trace
 def add_arguments(parser: argparse.ArgumentParser) -> None:
     parser.add_argument("trace", type=file_name, metavar="TRACE", help="the trace's file")
     parser.add_argument("--brief", action="store_true", help="one line for each block, without its label or records")
-    parser.add_argument("--block", type=asked_range, metavar="I[-J]", help="these blocks alone, counted from 0; I is a block of the trace")
+    parser.add_argument("--block", type=asked_range, metavar="I[-J]", help="only these blocks, counted from 0; I is a block of the trace")
     parser.add_argument("--refused", action="store_true", help="only the blocks that are refused or not judged")
     parser.add_argument("--streams", action="store_true", help="ask ecnstreams in place of ecntable: arrivals blocks may differ in SSRC")
 

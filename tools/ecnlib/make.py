@@ -13,16 +13,17 @@ these columns, and others are passed over:
     mark    mark, ip.dsfield.ecn, ipv6.tclass.ecn: 0 to 3; or not-ECT, ECT(1), ECT(0), CE; or notect, ect1, ect0, ce
     source  ssrc, rtp.ssrc: whole, or 0x and hexadecimal digits; if there is no such column, --ssrc says it
 
-Arrivals stand in the file in the order in which they came. Capture at the receiver: marks are set on the way. A trace of
-several sources is for ecnstreams: each block has arrivals of one source in their order, and blocks are written as they
-fill. Form 1 has times below 2^32 ms (49 days), so frame.time_epoch needs --form 2.
+Arrivals stand in the file in the order in which they came. Capture at the receiver: marks are set on the way. A trace
+of several sources is for ecnstreams: each block has arrivals of one source in their order, and blocks are written as
+they fill. Form 1 has times below 2^32 ms (49 days), so frame.time_epoch needs --form 2.
 
-CSV `-` is standard input, and TRACE `-` standard output. Standard output, /dev/stdout, /dev/fd/N, a device or a pipe is written to where it
-stands and never replaced: it gets the trace when that is whole, and no byte before.
+CSV `-` is standard input, and TRACE `-` standard output. Standard output, /dev/stdout, /dev/fd/N, a device or a pipe is
+written to in its place and never replaced. It gets the trace when that is whole, and no byte before.
 
-The blocks are written by the proved library (that of $FLASKNIB_LIBRARY, or of this installation, or of the system); where it is not there the
-command says how to build it. The trace is put in place only when the proved program takes it: ecntable for one source; for several
-ecnstreams, or where that is missing ecntable for each of them. What was used is said on standard error.
+The blocks are written by the proved library (that of $FLASKNIB_LIBRARY, or of this installation, or of the system). If
+it is not there the command says how to build it. The trace is put in place only when the proved program takes it:
+ecntable for one source; for several ecnstreams, or if that is missing ecntable for each of them. What was used is
+reported on standard error.
 
 Exit status: 0 the trace is in place; 1 the CSV file or the label is outside the trace's rules, or the label has a line
 break, or the program refuses the trace; 2 a read or a write failed, the program or the library is missing, or the

@@ -1,20 +1,22 @@
-"""Writes the ECN report of a trace (RFC 6679), as the receiver would have sent it at the trace's end, by the proved writers.
+"""Writes the ECN report of a trace (RFC 6679), as the receiver would have sent it at its end, by the proved writers.
 
     ecn report night1.trace --sender 9
     ecn report night1.trace --sender 9 --compound --bytes -o night1.rtcp
 
-For each source of the trace, in rising order of SSRC, one line in hexadecimal: its ECN feedback packet of 32 bytes, from
-the SSRC of --sender about the SSRC of the source. With --summary it is the XR ECN summary block of 24 bytes, which goes
-into an XR packet and has no sender. With --compound it is one compound for all sources, an RR and the feedback packets,
-as it is sent; `ecn rtcp` reads it. With --bytes the bytes themselves are written, one after the other.
+For each source of the trace, in rising order of SSRC, one line in hexadecimal: its ECN feedback packet of 32 bytes,
+from the SSRC of --sender about the SSRC of the source. With --summary it is the XR ECN summary block of 24 bytes,
+which goes into an XR packet and has no sender. With --compound it is one compound for all sources, an RR and the
+feedback packets, as it is sent; `ecn rtcp` reads it. With --bytes the bytes themselves are written, one after the
+other.
 
-The counts are those of ecntable's last row, from the last restart on, modulo the widths of the packet. Blocks are judged
-and counted by the proved library. A trace with a refused block has no report; a trace has at most 16 sources (15).
+The counts are those of ecntable's last row, from the last restart on, modulo the widths of the packet. Blocks are
+judged and counted by the proved library. A trace with a refused block has no report; a trace has at most 16 sources
+(15).
 
 TRACE `-` is standard input, and OUT `-` standard output, which gets the report when it is whole and no byte before.
 
-Exit status: 0 the report is written; 1 a block is refused, or there are no arrivals or not of the source of --media; 2 a
-read or a write failed, the library is not there, or the arguments are wrong.
+Exit status: 0 the report is written; 1 a block is refused, or there are no arrivals or not of the source of --media;
+2 a read or a write failed, the library is not there, or the arguments are wrong.
 """
 import argparse
 from typing import Any, Iterator, Optional

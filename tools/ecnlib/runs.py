@@ -118,7 +118,7 @@ def places(traces: list, out: str, kind: Kind) -> dict:
     if out == "-" or not folder and files.found(out, True):
         raise Ended(FAILED, f"several traces need a folder for their {kind.several}, and {files.shown(out, True)} is none")
     if "-" in traces:
-        raise Ended(FAILED, f"standard input has no name for a {kind.one} in a folder: give it alone, and the {kind.one}'s file as OUT")
+        raise Ended(FAILED, f"standard input has no name for a {kind.one} in a folder: give only it, and the {kind.one}'s file as OUT")
     found = {trace: os.path.join(out, kind.named(os.path.basename(trace))) for trace in traces}
     owners: dict = {}
     for trace in traces:

@@ -19,7 +19,7 @@ folder (made if it is missing) and each copy is OUT/NAME, NAME being the trace's
 its place and renamed at the end, so OUT is the whole copy or as it was before.
 
 A trace `-` is standard input, and OUT `-` standard output, for the copy of one trace. Standard output, /dev/stdout,
-/dev/fd/N, a device or a pipe is written to where it stands and never replaced: it gets the copy when the program has
+/dev/fd/N, a device or a pipe is written to in its place and never replaced. It gets the copy when the program has
 ended, and no byte before.
 
 Exit status: 0 nothing was left out; 1 something was, and the copy is in place, or the label block is wrong, and there

@@ -7,8 +7,8 @@ source's SSRC in the label block, and the source's blocks byte for byte and in t
 that is there is not replaced, and nothing is put in place until all of a trace is judged.
 
 Each block is judged by the proved library, as ecntable judges it in a trace of that source, and the label block is
-written by it. An old label with line breaks gets a space for each, since no new label may have them (19); that is said
-on standard error. At most 256 sources are taken of a trace.
+written by it. An old label with line breaks gets a space for each, since no new label may have them (19); that is
+reported on standard error. At most 256 sources are taken of a trace.
 
 Exit status: 0 all traces are in place; 1 a block is refused, or there is no source; 2 a read or a write failed, a file
 is there already, the library is not there, or the arguments are wrong. With several traces the others go on, and the

@@ -2,17 +2,17 @@
 
     ecn summary traces/*.trace -o night.csv -j 4
 
-The columns are `trace` and those of ecntable. With --streams there is a row for each source of each trace, as ecnstreams
-has them. The rows are the proved library's, byte for byte; the script puts the name in front, quoted as RFC 4180 says.
-The last row of a trace counts from the last restart on (`restarts` says if there was one).
+The columns are `trace` and those of ecntable. With --streams there is a row for each source of each trace, as
+ecnstreams has them. The rows are the proved library's, byte for byte; the script puts the name in front, quoted as
+RFC 4180 says. The last row of a trace counts from the last restart on (`restarts` says if there was one).
 
-A trace with no arrivals has no row, and is named on standard error. A trace that is refused is named there too, and then
-the summary is not put in place; with --sound it is, without that trace.
+A trace with no arrivals has no row, and is named on standard error. A trace that is refused is named there too, and
+then the summary is not put in place; with --sound it is, without that trace.
 
 A trace `-` is standard input, and OUT `-` standard output, which gets the summary when it is whole and no byte before.
 
-Exit status: 0 the summary is in place; 1 a trace is refused; 2 a read or a write failed, the library is not there, or the
-arguments are wrong.
+Exit status: 0 the summary is in place; 1 a trace is refused; 2 a read or a write failed, the library is not there, or
+the arguments are wrong.
 """
 import argparse
 import csv

@@ -3,19 +3,22 @@
     ecn table night1.trace -o night1.csv
     ecn table traces/*.trace -o tables/ -j 4
 
-With one trace OUT is the table's file; where OUT is a folder, ends with a slash, or there are several traces, it is a folder (made
-where it is missing) and each table is OUT/NAME.csv, NAME being the trace's file name without `.trace`. A table is written beside its
-place and renamed at the end, so OUT is whole or as it was before. For a trace that is refused nothing is put in place; run the program
-itself for the rows before the refused block.
+With one trace OUT is the table's file. If OUT is a folder, ends with a slash, or there are several traces, it is a
+folder (made if it is missing), and each table is OUT/NAME.csv. NAME is the trace's file name without `.trace`. A table
+is written beside its place and renamed at the end, so OUT is whole or as it was before. For a trace that is refused
+nothing is put in place; run the program itself for the rows before the refused block.
 
-With --origin a file OUT.origin is written beside each table. It says of what the table was made: the SHA-256 of the trace, the table and the
-program, the version and the command. `ecn check --origin OUT.origin` makes the table again and compares. The trace and the table are files then.
+With --origin a file OUT.origin is written beside each table. It says of what the table was made: the SHA-256 of the
+trace, the table and the program, the version and the command. `ecn check --origin OUT.origin` makes the table again and
+compares. The trace and the table are files then.
 
-A trace `-` is standard input, and OUT `-` standard output, for the table of one trace. Standard output, /dev/stdout, /dev/fd/N, a device or
-a pipe is written to where it stands and never replaced: it gets the table when that is whole, and no byte before.
+A trace `-` is standard input, and OUT `-` standard output, for the table of one trace. Standard output, /dev/stdout,
+/dev/fd/N, a device or a pipe is written to in its place and never replaced. It gets the table when that is whole, and
+no byte before.
 
-Exit status: 0 all tables are in place; 1 a block was refused; 2 a read or a write failed, also where the program printed a refused
-line for it, a program is missing, or the arguments are wrong. With several traces the others go on, and the highest status counts.
+Exit status: 0 all tables are in place; 1 a block was refused; 2 a read or a write failed, also if the program printed a
+refused line for it, a program is missing, or the arguments are wrong. With several traces the others go on, and the
+highest status counts.
 """
 import argparse
 import csv
