@@ -17,7 +17,9 @@ import promises
 TOP = os.path.dirname(os.path.dirname(os.path.abspath(__file__)))
 PAGE = "docs/REVIEWERS.md"
 # Two printed pages: typeset on A4, with letters of 9.5 points and of 8.5 in the tables, 1,511 words of this page took 1.8 pages.
+# The key to the notation, of at most ten lines, is not counted: with it the page is some lines longer than two.
 WORDS = 1670
+KEY = 10
 CLAIMS = 20  # the page has more of them, or its table was not found
 
 LINK = re.compile(r"\[([^\]]+)\]\(([^)]+)\)")
@@ -86,6 +88,11 @@ def printed(page):
     return re.findall(r"\w[^\s|]*", LINK.sub(r"\1", page))
 
 
+def counted(page):
+    """The words of the page without the key to the notation."""
+    return len(printed(page.replace(section(page, "The notation"), "")))
+
+
 def astray(top, page):
     """Links that lead to no file, and theorems of which there is no proof."""
     for text, to in LINK.findall(page):
@@ -130,11 +137,13 @@ def uncited(top):
 def faults(top):
     """(what is wrong, the claims, the words)."""
     page = read(os.path.join(top, PAGE))
-    claims, words = table(section(page, "What is proved")), len(printed(page))
+    claims, words = table(section(page, "What is proved")), counted(page)
     wrong = [fault for fault in (wrong_in(top, row) for row in claims) if fault]
     wrong += [*astray(top, page), *miscounted(top, page), *uncited(top)]
     if len(claims) < CLAIMS:
         wrong.append(f"only {len(claims)} claims are found")
+    if len(table(section(page, "The notation"))) != KEY:
+        wrong.append(f"the key to the notation has not {KEY} lines")
     if words > WORDS:
         wrong.append(f"the page has {words} words, more than the {WORDS} of two pages")
     return wrong, len(claims), words
@@ -152,6 +161,7 @@ BROKEN = {
     "a wrong version that is gone": ("crates/callers/edits/words_of_all_calls.edit", None),
     "a count that is no longer right": ("docs/TESTS.md", ("| 400, 136 |", "| 401, 136 |")),
     "a table that is not found": (PAGE, ("\n## What is proved\n", "\n## Proved\n")),
+    "a key that is not found": (PAGE, ("\n## The notation\n", "\n## Notation\n")),
     "a third page": (PAGE, ("\n## What is trusted\n", "\n" + "more " * WORDS + "\n\n## What is trusted\n")),
     "a citation without its version": ("CITATION.cff", ("\nversion:", "\n# version:")),
 }
