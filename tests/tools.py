@@ -22,12 +22,11 @@ import sys
 import tempfile
 import time
 import unittest
-import xml.etree.ElementTree as xml
 
 TOP = pathlib.Path(__file__).resolve().parent.parent
 sys.path[:0] = [str(TOP / each) for each in ("tools", "tests", "python")]
 import writer  # noqa: E402
-from ecnlib import bars, make  # noqa: E402
+from ecnlib import make, plotrows  # noqa: E402
 from ecnlib.blocks import FORMS, Record, header, records_in  # noqa: E402
 from ecnlib.common import Ended  # noqa: E402
 from ecnlib.main import COMMANDS  # noqa: E402
@@ -41,7 +40,6 @@ STREAMS = (BIN / "ecnstreams").exists()
 OURS = {name: value for name, value in os.environ.items() if not name.startswith("PYTHON")}
 OURS |= {"FLASKNIB_LIBRARY": "", "PYTHONPYCACHEPREFIX": BUILT.name}
 LONG = 30  # seconds, for what is to end at once
-SVG = "{http://www.w3.org/2000/svg}"
 HEAD = "label,ssrc,highest,ect0,ect1,ce,notect,lost,dup,jumped,restarts\r\n"
 
 
@@ -933,124 +931,6 @@ class Salvage(Tried):
         self.assertEqual(path.read_bytes(), before)
 
 
-class Plot(Tried):
-    def drawn(self, table, status=0, **kept) -> tuple:
-        """The picture's texts, and the numbers that the pointer shows on each bar."""
-        out = self.folder / "out.svg"
-        ran = self.ecn("plot", table, "-o", out, status=status, **kept)
-        self.picture = xml.fromstring(out.read_text())
-        tips = [tip.text for box in self.picture.iter(f"{SVG}rect") for tip in box.iter(f"{SVG}title")]
-        bars = [dict(zip(re.findall(r"([a-z]+[01]?) -?\d+(?:,|$)", tip), map(int, re.findall(r" (-?\d+)(?:,|$)", tip)))) for tip in tips]
-        return [text.text for text in self.picture.iter(f"{SVG}text")], bars, ran.stderr
-
-    def heights(self, colour: str) -> list:
-        """Those of the bars of a colour; the first of it is in the legend."""
-        return [float(box.get("height")) for box in self.picture.iter(f"{SVG}rect") if box.get("fill") == colour][1:]
-
-    def table(self, *rows) -> pathlib.Path:
-        """A table of these counts, in the order of the columns."""
-        self.out.write_bytes((HEAD + "".join(f"x,7,9,{','.join(map(str, row))}\r\n" for row in rows)).encode())
-        return self.out
-
-    def test_differences(self):
-        texts, bars, _ = self.drawn(SAMPLES / "reboot.csv")
-        self.assertEqual(texts[0], "cart 7, rebooted (SSRC 305419896)")
-        self.assertLess({"CE", "ECT(0)", "ECT(1)", "not-ECT", "lost", "jumps", "restart", "block of the trace"}, set(texts))
-        self.assertEqual([bar["ect0"] for bar in bars], [4, 2, 2, 2, 1, 2])
-        self.assertEqual([bar["jumped"] for bar in bars], [0, 1, 0, 2, 1, 2])
-        self.assertEqual([bar["lost"] for bar in bars], [0, 0, 1, 0, 0, -1])
-        self.assertEqual([bar["restarts"] for bar in bars], [0, 0, 1, 0, 1, 1])
-
-    def test_refused_table(self):
-        texts, bars, told = self.drawn(SAMPLES / "damaged.csv", status=1)
-        self.assertIn("Not the whole trace: block 5 is refused with 13: the block's checksum does not fit", texts)
-        self.assertEqual(len(bars), 4)
-        self.assertIn("damaged.csv: block 5 is refused with 13", told)
-
-    def test_hostile_labels(self):
-        for text in ('</svg><a "b" & c', "refused 13 block 1", "a\r\nrefused 13 block 1\r\nb", "x" * 502, ""):
-            with open(self.out, "wb") as table:
-                subprocess.run([BIN / "ecntable"], input=label(text.encode()) + arrivals(), stdout=table)
-            texts, bars, _ = self.drawn(self.out)
-            self.assertTrue(texts[0].startswith(text.replace("\r\n", " ")[:60]))
-            self.assertEqual(len(bars), 1)
-
-    def test_many_blocks(self):
-        self.ecn("table", self.trace(label(), *(arrivals(first=3 * n) for n in range(1000))), "-o", self.out)
-        texts, bars, _ = self.drawn(self.out)
-        self.assertLess({"block of the trace (a bar is the mean of 5 blocks)", "packets per block", "lost per block", "1,000"}, set(texts))
-        self.assertEqual((len(bars), sum(bar["ect0"] for bar in bars), sum(bar["notect"] for bar in bars)), (200, 1000, 1000))
-
-    def test_bars_are_means(self):
-        """The last bar, of 3 blocks, is as high as those of 5 where each block brought the same; so is what it says."""
-        texts, bars, _ = self.drawn(self.table(*((20 * n, 0, 0, 0, n, 0, 0, 0) for n in range(1, 1004))))
-        for colour, height in (("#0072b2", 230), ("#aa3377", 110)):
-            self.assertEqual(self.heights(colour), [height] * 201)
-        self.assertEqual((bars[0]["ect0"], bars[200]["ect0"], bars[200]["lost"]), (100, 60, 3))
-        self.assertLess({"20", "1.0", "0.5"}, set(texts))
-
-    def test_every_length(self):
-        """However many rows there are, and wherever a sender restarts, the bars hold what their blocks brought and no other."""
-        draw = random.Random(32)
-        for count in (1, 240, 241, 481, 1201, 2399, 2400, 2401, 24001):
-            rows, brought, now = [], [], [0] * 8
-            for _ in range(count):
-                if draw.random() < 0.01:
-                    now = [0] * 6 + [now[6], now[7] + 1]
-                more = [draw.randrange(3) for _ in range(4)] + [draw.randrange(-1, 3), 0, draw.randrange(2), 0]
-                now = [old + new for old, new in zip(now, more)]
-                brought.append(more[:5] + [more[6], now[7] - (rows[-1][7] if rows else 0)])
-                rows.append(now)
-            found = bars.Table(str(self.table(*rows))).bars()
-            size = found[0].blocks
-            self.assertTrue(len(found) <= 240 < 2.5 * len(found) or size == 1)
-            for at, bar in enumerate(found):
-                part = brought[size * at : size * (at + 1)]
-                ect0, ect1, ce, notect, lost, jumped, restarts = map(sum, zip(*part))
-                self.assertEqual((bar.blocks, tuple(bar.counts.values())), (len(part), (ce, ect1, ect0, notect, lost, jumped, restarts)))
-            self.assertEqual(sum(bar.blocks for bar in found), count)
-
-    def test_a_long_table_in_little_memory(self):
-        table = self.table(*((20 * n, 0, 0, 0, n, 0, 0, 0) for n in range(1, 60001)))
-        limit = lambda: resource.setrlimit(resource.RLIMIT_DATA, (40 << 20, 40 << 20))  # noqa: E731
-        texts, bars, _ = self.drawn(table, preexec_fn=limit)
-        self.assertIn("block of the trace (a bar is the mean of 500 blocks)", texts)
-        self.assertEqual(len(bars), 120)
-
-    def test_long_numbers_stay_in_the_picture(self):
-        texts, _, _ = self.drawn(self.table([10**11] * 8))
-        self.assertEqual(" ".join(texts[1:3]).count(str(10**11)), 8)
-        self.assertLess(max(map(len, texts)), 120)
-
-    def test_sources(self):
-        self.out.write_bytes((HEAD + "a,5,9,1,2,3,4,-5,6,7,0\r\na,17,9,2,3,4,5,6,7,8,1\r\n").encode())
-        texts, bars, _ = self.drawn(self.out)
-        self.assertLess({"5", "17", "source (SSRC)", "2 sources"}, set(texts))
-        self.assertEqual(bars[1], {"ce": 4, "ect1": 3, "ect0": 2, "notect": 5, "lost": 6, "jumped": 8, "restarts": 1})
-
-    def test_failures(self):
-        self.assertIn("No such file", self.ecn("plot", self.folder / "missing", "-o", self.out, status=2).stderr)
-        self.assertIn("No space left", self.ecn("plot", SAMPLES / "c1.csv", "-o", "/dev/full", status=2).stderr)
-        refused = HEAD + "refused 1 block 0\r\n"
-        row = "x,7,12,1,1,0,1,0,0,0,0\r\n"
-        for text, told in (
-            (HEAD, "no rows"),
-            (refused, "no rows to draw; block 0 is refused with 1"),
-            ("a,b\n1,2\n", "this is no table, its first line does not name the columns"),
-            ("\0\1\x80", "this is no table"),
-            (HEAD + row + HEAD + row, "row 2 is no row of a table"),
-            (HEAD + row + row[:-4] + "\r\n", "row 2 is no row of a table"),
-            (HEAD + row + row[:-2], "the last line has no end, so the table is cut short"),
-            (HEAD + row + "refused 13 block 2\r\n" + row, "something stands behind the line of the refused block 2"),
-            (HEAD + row * 240 + row.replace("7", "8", 1), "more than 240 rows of several sources"),
-        ):
-            self.out.write_bytes(text.encode("latin-1"))
-            self.assertRaisesRegex(Ended, re.escape(told), bars.Table, str(self.out))
-        self.assertIn(told, self.ecn("plot", self.out, "-o", self.folder / "o.svg", status=1).stderr)
-        self.assertIn("ecn: /proc/self/mem: ", self.ecn("plot", "/proc/self/mem", "-o", self.folder / "o.svg", status=2).stderr)
-        self.alone("out.csv")
-
-
 OFFER = """v=0\r
 o=jdoe 3502844782 3502844782 IN IP4 10.0.1.4\r
 s=VoIP call\r
@@ -1178,7 +1058,7 @@ class Pages(Tried):
         with open(SAMPLES / "reboot.csv", newline="") as table:
             names: dict = {"rows": list(csv.DictReader(table)), "found": []}
         exec(code.replace("    before = row", "    before = row\n    found.append(brought | {'jumped': jumps})"), names)
-        drawn = bars.Table(str(SAMPLES / "reboot.csv")).bars()
+        drawn = plotrows.read(str(SAMPLES / "reboot.csv")).bars(9, False)
         self.assertEqual(len(names["found"]), len(drawn))
         for found, bar in zip(names["found"], drawn):
             self.assertEqual(found | bar.counts, found | {"restarts": bar.counts["restarts"]})

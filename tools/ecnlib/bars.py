@@ -1,29 +1,51 @@
-"""A table as the bars of a picture. It is read once, row by row, and what is kept does not grow with it."""
-import csv
-import io
+"""What the blocks of a trace brought, as the bars of a picture. Rows are added one by one, and what is kept does not grow with them."""
 import math
-import operator
 from fractions import Fraction
-from typing import Iterable, Iterator, NamedTuple, Optional
+from typing import List, NamedTuple, Optional
 
-from .common import REFUSED, Ended, refused_words
-from .files import Input, shown
-from .programs import REFUSED_LINE, Refusal
-
-COUNTS = ("ce", "ect1", "ect0", "notect", "lost", "jumped", "restarts")
-SINCE_RESTART = 5  # so many of them begin at 0 again where a sender restarted
-RESTARTS = COUNTS.index("restarts")
+MARKS = ("ce", "ect1", "ect0", "notect")
+COUNTS = (*MARKS, "lost", "dup", "jumped", "restarts")
+SINCE_RESTART = 6  # so many of them begin at 0 again where a sender restarted
+LOST, RESTARTS = COUNTS.index("lost"), COUNTS.index("restarts")
 NOTHING = (0,) * len(COUNTS)
 MOST_BARS = 240
+SECOND, MINUTE, HOUR, DAY = 1000, 60_000, 3_600_000, 86_400_000  # ms
+UNITS = {"ms": 1, "s": SECOND, "min": MINUTE, "h": HOUR, "days": DAY}
+STEPS = [times * 10**power for power in range(3) for times in (1, 2, 5)]
+STEPS += [unit * times for unit in (SECOND, MINUTE) for times in (1, 2, 5, 10, 15, 30)] + [HOUR * times for times in (1, 2, 3, 6, 12)]
+STEPS += [DAY * times * 10**power for power in range(8) for times in (1, 2, 5)]
 
 
 class Bar(NamedTuple):
-    name: str
-    blocks: int  # that it stands for
-    counts: dict  # what they brought together
+    """What some blocks, or a source, brought. On the axis it stands from its begin to its end: blocks, or ms since the first packet."""
 
-    def mean(self, name: str) -> Fraction:
-        return Fraction(self.counts[name], self.blocks)
+    name: str
+    begin: Fraction
+    end: Fraction
+    blocks: int
+    ms: Optional[int]  # that it lasted, if times are on the axis
+    counts: dict
+
+    def rate(self, name: str, unit: int) -> Fraction:
+        """What came in a unit of time of so many ms, or else in a block."""
+        return Fraction(self.counts[name] * unit, self.ms) if self.ms else Fraction(self.counts[name], self.blocks)
+
+    @property
+    def received(self) -> int:
+        return sum(self.counts[name] for name in MARKS)
+
+    @property
+    def share(self) -> Optional[Fraction]:
+        """The packets with CE in percent of those received."""
+        return Fraction(100 * self.counts["ce"], self.received) if self.received else None
+
+
+class Part(NamedTuple):
+    """Some blocks one after the other: what they brought, how many they are, and the clock at their end."""
+
+    counts: tuple
+    blocks: int
+    clock: Optional[int]
 
 
 def step_of(span: Fraction, about: int, least: int = 1) -> Fraction:
@@ -32,108 +54,116 @@ def step_of(span: Fraction, about: int, least: int = 1) -> Fraction:
     return next(power * times for times in (1, 2, 5, 10) if span / (power * times) <= about)
 
 
-class Blocks:
-    """What the blocks of a trace brought, from rows that are totals so far. Ten parts become one when there are ten times as many as bars."""
+def time_words(ms: int) -> str:
+    unit = next(name for name in reversed(UNITS) if ms % UNITS[name] == 0 and (ms or name == "ms"))
+    return f"{ms // UNITS[unit]:,} {unit}"
 
-    def __init__(self):
-        self.parts, self.each, self.rows = [], 1, 0
+
+def joined(parts: List[Part]) -> Part:
+    return Part(tuple(map(sum, zip(*(part.counts for part in parts)))), sum(part.blocks for part in parts), parts[-1].clock)
+
+
+def together(parts: List[Part], count: int) -> List[Part]:
+    return [joined(parts[at : at + count]) for at in range(0, len(parts), count)]
+
+
+class Clock:
+    """The time of the first packet and the latest so far, and the greatest step back with its block."""
+
+    def __init__(self) -> None:
+        self.began = self.now = self.back_block = None
+        self.back = 0
+
+    def add(self, first: int, last: int, block: int) -> None:
+        """The first and the last time of a block."""
+        if self.began is None:
+            self.began = self.now = first
+        if self.now - last > self.back:
+            self.back, self.back_block = self.now - last, block
+        self.now = max(self.now, last)
+
+    @property
+    def span(self) -> int:
+        return self.now - self.began if self.now is not None else 0
+
+    def step(self, most: int) -> int:
+        """How long a bar lasts at least."""
+        return next(step for step in STEPS if step * most >= self.span)
+
+    def fault(self, most: int) -> Optional[str]:
+        """Why the times cannot be on the axis."""
+        if self.span == 0:
+            return "all packets have the same time"
+        if self.back > self.step(most):
+            return f"the clock goes back by {self.back:,} ms at block {self.back_block:,}"
+        return None
+
+
+class Blocks:
+    """What the blocks brought, from rows that are totals so far. Ten parts become one when there are ten times as many as bars."""
+
+    def __init__(self) -> None:
+        self.parts: List[Part] = []
+        self.each, self.rows, self.clock = 1, 0, Clock()
         self.part = self.since = self.last = NOTHING  # of this part: the counts up to `since`, which those of the last row go on from
 
-    def add(self, row: tuple) -> None:
+    def add(self, row: tuple, times: Optional[tuple] = None) -> None:
         if row[RESTARTS] != self.last[RESTARTS]:
             self.part, self.since = self.counted(), NOTHING[:SINCE_RESTART] + self.last[SINCE_RESTART:]
         self.last = row
         self.rows += 1
+        if times:
+            self.clock.add(*times, self.rows)
         if self.rows % self.each == 0:
-            self.close()
+            self.close(self.each)
 
     def counted(self) -> tuple:
         return tuple(part + last - since for part, last, since in zip(self.part, self.last, self.since))
 
-    def close(self) -> None:
-        self.parts.append(self.counted())
+    def close(self, blocks: int) -> None:
+        counts = self.counted()
+        if min(counts[:LOST] + counts[LOST + 1 :]) < 0:
+            raise ValueError("a count falls where no sender restarted")
+        self.parts.append(Part(counts, blocks, self.clock.now))
         self.part, self.since = NOTHING, self.last
         if len(self.parts) == 10 * MOST_BARS:
             self.parts, self.each = together(self.parts, 10), 10 * self.each
 
-    def bars(self) -> list:
-        """At most MOST_BARS of them, each for 1, 2 or 5 times a power of ten of blocks, but the last for those that are left."""
-        if self.rows % self.each:
-            self.close()
-        size = int(step_of(Fraction(self.rows), MOST_BARS))
-        counts = zip(range(1, self.rows + 1, size), together(self.parts, size // self.each))
-        return [blocks_bar(first, min(first + size - 1, self.rows), each) for first, each in counts]
+    def ended(self) -> List[Part]:
+        """The parts, with those blocks that are left as the last one."""
+        left = self.rows - sum(part.blocks for part in self.parts)
+        if left:
+            self.close(left)
+        return self.parts
 
+    def bars(self, most: int = MOST_BARS) -> List[Bar]:
+        """At most so many, each for 1, 2 or 5 times a power of ten of blocks, but the last for those that are left."""
+        size, found, end = int(step_of(Fraction(self.rows), most)), [], 0
+        for counts, blocks, _ in together(self.ended(), max(1, size // self.each)):
+            first, end = end + 1, end + blocks
+            name = f"block {first}" if first == end else f"blocks {first} to {end}"
+            found.append(Bar(name, first - Fraction(1, 2), end + Fraction(1, 2), blocks, None, dict(zip(COUNTS, counts))))
+        return found
 
-def together(parts: list, count: int) -> list:
-    return [tuple(map(sum, zip(*parts[at : at + count]))) for at in range(0, len(parts), count)]
+    def timed_bars(self, most: int = MOST_BARS) -> List[Bar]:
+        """The same over time: each lasts from the end of the one before it to that of its own last block, and the step of the clock or longer."""
+        step, begun = self.clock.step(most), self.clock.began
+        groups: List[List[Part]] = [[]]
+        for part in self.ended():
+            groups[-1].append(part)
+            if part.clock - begun >= step:
+                groups, begun = [*groups, []], part.clock
+        rest = groups.pop()
+        if rest and groups and 2 * (self.clock.now - begun) < step:
+            groups[-1] += rest
+        elif rest:
+            groups.append(rest)
+        return [*self.spans(map(joined, groups))]
 
-
-def blocks_bar(first: int, last: int, counts: tuple) -> Bar:
-    name = f"block {first}" if first == last else f"blocks {first} to {last}"
-    return Bar(name, last - first + 1, dict(zip(COUNTS, counts)))
-
-
-def whole_lines(text: Iterable[str], name: str) -> Iterator[str]:
-    line = "\n"
-    for line in text:
-        yield line
-    if not line.endswith(("\n", "\r")):
-        raise Ended(REFUSED, f"{name}: the last line has no end, so the table is cut short")
-
-
-class Table:
-    """The bars of a table, its last row by column, and the refusal that it ends with."""
-
-    def __init__(self, path: str):
-        self.name, self.rows, self.sources, self.several = shown(path), 0, [], False
-        self.refusal: Optional[Refusal] = None
-        self.blocks, self.head, self.row = Blocks(), [], []
-        with io.TextIOWrapper(io.BufferedReader(Input(path), 1 << 18), "utf-8-sig", newline="") as text:
-            try:
-                self.read(csv.reader(whole_lines(text, self.name), strict=True))
-            except (ValueError, csv.Error) as error:
-                what = f"row {self.rows + 1} is no row of a table" if self.head else "this is no table"
-                raise Ended(REFUSED, f"{self.name}: {what}") from error
-        if not self.rows:
-            raise Ended(REFUSED, f"{self.name}: no rows to draw" + (f"; {refused_words(*self.refusal)}" if self.refusal else ""))
-
-    def read(self, rows: Iterator[list]) -> None:
-        self.head = next(rows, [])
-        if not {"label", "ssrc", *COUNTS} <= set(self.head):
-            raise Ended(REFUSED, f"{self.name}: this is no table, its first line does not name the columns")
-        chosen = operator.itemgetter(*map(self.head.index, ("ssrc", *COUNTS)))
-        for row in rows:
-            if len(row) == len(self.head) and not self.refusal:
-                self.add(*map(int, chosen(row)))
-                self.row = row
-            elif row:
-                self.end(row)
-
-    def add(self, ssrc: int, *counts: int) -> None:
-        """A row of one more block, or of one more source: that is known when the rows differ in it."""
-        self.rows += 1
-        if self.rows <= MOST_BARS:
-            self.sources.append((ssrc, counts))
-        self.several = self.several or ssrc != self.sources[0][0]
-        if self.several and self.rows > MOST_BARS:
-            raise Ended(REFUSED, f"{self.name}: more than {MOST_BARS} rows of several sources")
-        self.blocks.add(counts)
-
-    def end(self, row: list) -> None:
-        """The line of a refused block, which ends a table."""
-        if self.refusal:
-            raise Ended(REFUSED, f"{self.name}: something stands behind the line of the refused block {self.refusal.block}, so this is not one table")
-        line = REFUSED_LINE.fullmatch(",".join(row).encode())
-        if not line:
-            raise ValueError
-        self.refusal = Refusal(int(line[1]), int(line[2]))
-
-    @property
-    def last(self) -> dict:
-        return dict(zip(self.head, self.row))
-
-    def bars(self) -> list:
-        if not self.several:
-            return self.blocks.bars()
-        return [Bar(f"SSRC {ssrc}", 1, dict(zip(COUNTS, counts))) for ssrc, counts in self.sources]
+    def spans(self, parts):
+        begun, block = 0, 0
+        for counts, blocks, clock in parts:
+            end = clock - self.clock.began
+            name = f"blocks {block + 1} to {block + blocks}, {begun:,} to {end:,} ms"
+            yield Bar(name, Fraction(begun), Fraction(end), blocks, end - begun, dict(zip(COUNTS, counts)))
+            begun, block = end, block + blocks
