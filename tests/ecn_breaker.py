@@ -7,9 +7,10 @@ import unittest
 from types import SimpleNamespace
 
 import tools
+from ecn_plot import ALARM, Drawn, Pictures
 from tools import Tried, needs_library
 
-from ecnlib import replay, rules, sheets
+from ecnlib import plotlink, replay, rules, sheets
 from ecnlib.common import Ended
 
 HEAD = "kind,time,highest,fraction,rtt,size,rate\n"
@@ -154,6 +155,76 @@ class WrongInput(Breakers):
         self.assertIn("libflasknib.so is not there", self.breaker(HEAD, status=2, library=False).stderr)
         with open("/dev/full", "w") as full:
             self.assertIn("standard output: No space left", self.breaker(HEAD, status=2, stdout=full).stderr)
+
+
+@needs_library
+class Plots(Pictures, Breakers):
+    """The pictures of the links above: what is said, what is marked, and that every text has room."""
+
+    def drawn(self, text, *words, status=0) -> Drawn:
+        out = self.folder / "link.svg"
+        self.breaker(text, *words, "--plot", out, status=status)
+        return Drawn(out.read_text())
+
+    def test_a_stop_by_each_rule(self):
+        media = HEAD + "".join(f"report,{1000 * at},5,0,1,1,1\n" for at in range(1, 5))
+        for text, words, rule, begins, told in (
+            (reports(244948, 244949, 244949), ["--k", "2"], "congestion", "STOP by rule 3, congestion: 244,949 bytes/s is above", 244949),
+            (media, [], "media", "STOP by rule 2, media: 3 in a row had no new highest number", None),
+            (HEAD + "tick,8000\ntick,15000\ntick,16000\n", [], "timeout", "STOP by rule 1, timeout: 15,000 ms since the start", None),
+        ):
+            for width in ("60", "85", "180", "400"):
+                found = self.drawn(text, *words, "--width", width)
+                self.room(found)
+            self.assertIn(begins, " ".join(found.texts))
+            self.assertIn(f"STOP, {rule}", found.texts)
+            self.assertEqual(found.count(ALARM), 4)  # in the key and in each panel
+            self.assertEqual("10 \u00d7 equation" in found.texts, told is not None)
+
+    def test_no_stop(self):
+        found = self.drawn(reports(5, 6, 7))
+        self.assertLess({"Not stopped.", "3 lines; k 3, m 3, timeout 15,000 ms, the simplified equation, without reductions."}, set(found.texts))
+        self.assertEqual(found.count(ALARM), 0)
+        self.assertNotIn("no report for half the timeout or longer", found.texts)
+        self.assertIn("none reported", self.drawn(HEAD + "tick,9\n").texts)
+
+    def test_marks(self):
+        """Reductions, silences and refused lines are marked, each as often as it is met."""
+        rates = (125000000,) * 2 + (1,) * 2 + (125000000,)
+        self.assertIn("reduce (2)", self.drawn(reports(*rates), "--k", "1", "--reduce").texts)
+        quiet = HEAD + "heard,7499\nheard,14999\nreport,22498,9,0,1,1,1\nreport,22498,9,0,1,1,1\ntick,30000\ntick,31000\n"
+        found = self.drawn(quiet, status=1)
+        self.assertLess({"line refused (1)", "no report for half the timeout or longer"}, set(found.texts))
+        self.assertEqual(found.count("silent"), 1 + 2 * 3)  # in the key, and two in each panel: from 7,499 and from 22,498
+
+    def test_points(self):
+        """Each line is a point, up to 2,000; then some are one, with the highest rate, the lowest limit and the longest silence of them."""
+        draw = random.Random(9)
+        for count in (1, 7, 2000, 2001, 2002, 4003, 9001):
+            link, values = plotlink.Link(0), []
+            for at in range(count):
+                values.append(plotlink.Point(at, at, draw.choice((None, draw.randrange(99))), draw.choice((None, draw.randrange(99))), draw.randrange(99), None))
+                link.point(values[-1])
+            found, at = link.drawn(), 0
+            self.assertTrue(len(found) <= 2001 and (count > 2000 or found == values))
+            for each in found:
+                part = [one for one in values if each.begin <= one.begin <= each.end]
+                self.assertEqual((part[0].begin, each.since), (at, max(one.since for one in part)))
+                self.assertEqual(each.rate, max((one.rate for one in part if one.rate is not None), default=None))
+                self.assertEqual(each.limit, min((one.limit for one in part if one.limit is not None), default=None))
+                at = each.end + 1
+            self.assertEqual(at, count)
+
+    def test_files(self):
+        path = self.folder / "link.csv"
+        path.write_text(reports(5, 6, 7))
+        for out, told in ((path, "given as input and as output"), ("-", "give --plot a file for the picture"), ("/dev/full", "No space left")):
+            self.assertIn(told, self.ecn("breaker", path, "--plot", out, status=2, library=True).stderr)
+        out = self.folder / "o.svg"
+        for text, told in ((HEAD, "the breaker took no line"), (HEAD + "tick,5\nstop,9\n", "kind 'stop' is none of")):
+            path.write_text(text)
+            self.assertIn(told, self.ecn("breaker", path, "--plot", out, status=1, library=True).stderr)
+        self.alone("link.csv")
 
 
 @needs_library

@@ -14,10 +14,11 @@ import tools
 import writer
 from tools import BIN, HEAD, SAMPLES, Tried, arrivals, label, needs_library
 
-from ecnlib import bars, plotdraw, plotpicture, plotrows
+from ecnlib import bars, plotdraw, plotpicture, plotrows, plotscale
 from ecnlib.common import Ended
 
 SVG = "{http://www.w3.org/2000/svg}"
+ALARM = plotdraw.ALARM
 
 
 class Drawn:
@@ -29,6 +30,10 @@ class Drawn:
         self.texts = [each.text or "" for each in self.root.iter(f"{SVG}text")]
         tips = [tip.text for box in self.root.iter(f"{SVG}rect") for tip in box.iter(f"{SVG}title")]
         self.steps = [{name: int(count) for name, count in re.findall(r"([a-z]+[01]?) (-?\d+)(?:,|$)", tip.rpartition(": ")[2])} for tip in tips]
+
+    def count(self, name: str) -> int:
+        """How many shapes have this fill, or lines this colour and the width of the stop."""
+        return sum(each.get("class") == name or (each.get("stroke"), each.get("stroke-width")) == (name, "2.4") for each in self.root.iter())
 
     def heights(self, name: str) -> list:
         """How high the area of a fill is at each of its corners, of which there are two to a step."""
@@ -44,9 +49,9 @@ class Drawn:
         """Where each text that stands upright is, by the width that it is reckoned with."""
         for each in self.root.iter(f"{SVG}text"):
             if not each.get("transform"):
-                size = float(each.get("font-size", plotdraw.SIZE))
-                bold = plotdraw.BOLD if each.get("font-weight") else 1
-                wide, x, y = bold * plotdraw.width_of(each.text or "", size), float(each.get("x")), float(each.get("y"))
+                size = float(each.get("font-size", plotscale.SIZE))
+                bold = plotscale.BOLD if each.get("font-weight") else 1
+                wide, x, y = bold * plotscale.width_of(each.text or "", size), float(each.get("x")), float(each.get("y"))
                 left = {"start": x, "middle": x - wide / 2, "end": x - wide}[each.get("text-anchor", "start")]
                 yield each.text, left, left + wide, y - 0.75 * size, y + 0.2 * size
 
@@ -308,10 +313,10 @@ class Drawing(unittest.TestCase):
         draw = random.Random(5)
         for _ in range(3000):
             span, unit, right = draw.randrange(1, 10 ** draw.randrange(1, 13)), draw.choice((1, 1000, 60000)), draw.randrange(150, 900)
-            across = plotdraw.Across(30, right, Fraction(0), Fraction(span))
+            across = plotscale.Across(30, right, Fraction(0), Fraction(span))
             found = across.ticks(unit, False)
             for (one, left), (other, text) in zip(found, found[1:]):
-                self.assertGreater(across.x(other) - across.x(one), (plotdraw.width_of(left) + plotdraw.width_of(text)) / 2)
+                self.assertGreater(across.x(other) - across.x(one), (plotscale.width_of(left) + plotscale.width_of(text)) / 2)
                 self.assertIn(str(Fraction(other - one, unit) * 10**12).strip("0"), ("1", "2", "5"))
             self.assertGreaterEqual(len(found), 2)
 
@@ -324,7 +329,7 @@ class Drawing(unittest.TestCase):
 
     def test_axis_texts(self):
         for value, step, text in ((0, 5, "0"), (1500, 500, "1,500"), (20000, 10000, "20k"), (3 * 10**6, 10**6, "3M"), (-2, 1, "\u22122"), (Fraction(1, 2), Fraction(1, 2), "0.5")):
-            self.assertEqual(plotdraw.axis_text(Fraction(value), Fraction(step)), text)
+            self.assertEqual(plotscale.axis_text(Fraction(value), Fraction(step)), text)
 
 
 if __name__ == "__main__":

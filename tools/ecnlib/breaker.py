@@ -20,6 +20,11 @@ throughput equation. If they would give another rule than the call, ecn says so 
 
     ecn breaker link.csv --k 3 --timeout 15000
     ecn breaker link.csv --full --csv > answers.csv
+    ecn breaker link.csv --plot link.svg --width 85
+
+--plot draws it: the rate and ten times the equation, the silence against the timeout, the run against m, each as far as
+the breaker ran; the stop with its rule, reductions, lines that are refused, and where no report came for half the timeout
+or longer. With more than 2,000 lines a point stands for several: the highest rate and the lowest limit among them.
 
 A stop is an answer and no failure. A line that the breaker refuses counts for nothing, and the next lines go on.
 
@@ -29,11 +34,13 @@ read or a write failed, the library is not there, the numbers differ from the ca
 import argparse
 import csv
 import sys
-from typing import Any, Iterator, Optional
+from typing import Any, Callable, Iterator, Optional
 
-from . import sheets
-from .common import REFUSED, WELL, file_name, printing, tell, whole
+from . import files, sheets
+from .common import FAILED, REFUSED, WELL, Ended, file_name, printing, tell, whole
 from .library import package
+from .plotdraw import millimetres
+from .plotlink import Link
 from .replay import COLUMNS, Answered, Replay
 from .rules import CONGESTION, MEDIA, NAMES, TIMEOUT, Numbers
 
@@ -51,6 +58,8 @@ def add_arguments(parser: argparse.ArgumentParser) -> None:
     parser.add_argument("--reduce", action="store_true", help="a reduction to a tenth of the rate is tried before a stop")
     parser.add_argument("--full", action="store_true", help="take the full throughput equation in place of the simplified one")
     parser.add_argument("--csv", action="store_true", help="print CSV, for programs")
+    parser.add_argument("--plot", type=file_name, metavar="OUT.svg", help="draw it, too")
+    parser.add_argument("--width", type=millimetres, default=180, metavar="MM", help="how wide the picture is (180)")
 
 
 def machine_row(found: Answered) -> list:
@@ -143,13 +152,34 @@ def human(answers: Iterator[Answered], header: Any) -> int:
     return refused
 
 
-def run(options: argparse.Namespace) -> int:
-    flasknib = package(needed=True)
+def replayed(flasknib: Any, options: argparse.Namespace, noted: Callable[[Answered], Answered]) -> int:
+    """Prints the answers, each of which is noted. Gives how many lines are refused."""
     replay = Replay(flasknib, options)
     with sheets.opened(options.reports) as rows, printing():
         rows.need("kind", "time", known=COLUMNS)
-        answers = map(replay.answered, rows)
+        answers = (noted(replay.answered(row)) for row in rows)
         refused = machine(answers) if options.csv else human(answers, flasknib.header)
     if refused:
         tell(f"{rows.name}: the breaker refuses {refused:,} of the lines")
+    return refused
+
+
+def drawn(flasknib: Any, options: argparse.Namespace) -> int:
+    """The same, and the picture."""
+    from .plotbreaker import picture
+
+    link = Link(options.start)
+    with files.Output(options.plot, files.identities([options.reports])) as out:
+        refused = replayed(flasknib, options, link.noted)
+        words = explained(link.stop, flasknib.header) if link.stop else "not stopped"
+        out.write(picture(link, files.shown(options.reports), options, f"{words[0].upper()}{words[1:]}."))
+        out.commit()
+    return refused
+
+
+def run(options: argparse.Namespace) -> int:
+    flasknib = package(needed=True)
+    if options.plot and files.descriptor(options.plot, True) == 1:
+        raise Ended(FAILED, "the answers are printed on standard output: give --plot a file for the picture")
+    refused = drawn(flasknib, options) if options.plot else replayed(flasknib, options, lambda found: found)
     return REFUSED if refused else WELL

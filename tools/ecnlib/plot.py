@@ -25,21 +25,13 @@ import argparse
 
 from . import files, plotrows
 from .common import REFUSED, WELL, file_name, refused_words, tell
+from .plotdraw import millimetres
 from .plotpicture import Picture
-
-WIDTHS = range(60, 1001)
-
-
-def width(text: str) -> int:
-    if not (text.isascii() and text.isdecimal() and int(text) in WIDTHS):
-        raise argparse.ArgumentTypeError(f"{text!r} is no width: that is a whole number of mm from {WIDTHS[0]} to {WIDTHS[-1]}, as 85 for a column")
-    return int(text)
-
 
 def add_arguments(parser: argparse.ArgumentParser) -> None:
     parser.add_argument("given", type=file_name, metavar="GIVEN", help="a trace, or a table of ecntable or ecnstreams; - is standard input")
     parser.add_argument("-o", "--out", required=True, type=file_name, metavar="OUT.svg", help="the picture; - is standard output")
-    parser.add_argument("--width", type=width, default=180, metavar="MM", help="how wide the picture is (180)")
+    parser.add_argument("--width", type=millimetres, default=180, metavar="MM", help="how wide the picture is (180)")
     parser.add_argument("--blocks", action="store_true", help="blocks on the axis, also if times are known")
     parser.add_argument("--bare", action="store_true", help="no heading, for a paper that has a caption")
     parser.add_argument("--streams", action="store_true", help="the blocks of a trace may differ in SSRC")

@@ -1,16 +1,21 @@
-"""The parts of a picture as SVG: texts that fit, fills that differ in grey print, axes with round numbers. Lengths are in 1/96 inch."""
+"""The parts of a picture as SVG, with fills that differ in grey print. Lengths are in 1/96 inch."""
+import argparse
 import html
-import math
-from fractions import Fraction
-from typing import Iterable, Iterator, List, NamedTuple, Optional, Sequence, Tuple
+from typing import Iterable, NamedTuple, Optional, Sequence, Tuple
 
-from .bars import step_of
+from .plotscale import AXES, BOLD, LINE, SIZE, Across, width_of, wrapped
 
 MM = 96 / 25.4
-SIZE, LARGE, LINE = 9.6, 11.5, 13  # of text (7 pt), of a title, and from line to line
-BOLD = 1.13  # so much wider is text that is bold
 INK, FAINT, ALARM = "#1a1a1a", "#d4d4d4", "#8a0020"
+MILLIMETRES = range(60, 1001)
 Point = Tuple[float, float]
+
+
+def millimetres(text: str) -> int:
+    """An argument that is the width of a picture."""
+    if not (text.isascii() and text.isdecimal() and int(text) in MILLIMETRES):
+        raise argparse.ArgumentTypeError(f"{text!r} is no width: that is a whole number of mm from 60 to 1000, as 85 for a column")
+    return int(text)
 
 
 class Fill(NamedTuple):
@@ -32,85 +37,6 @@ FILLS = {
     "share": Fill("CE share", "#e3b49d"),
     "silent": Fill("no report", "#e9e9e9", '<path d="M-1 1L1 -1M0 6L6 0M5 7L7 5" stroke="#999" stroke-width="0.8"/>'),
 }
-
-
-def printable(text: str) -> str:
-    """XML has no place for some of the other characters."""
-    return "".join(each if each.isprintable() else " " for each in text.replace("\r\n", " "))
-
-
-WIDTHS = {each: width for width, some in ((0.3, "ijl|'"), (0.36, " .,:;!-/"), (0.42, "tfr()[]"), (0.84, "w<>=+"), (1.0, "mMW@%\u2026")) for each in some}
-
-
-def width_of(text: str, size: float = SIZE) -> float:
-    """About as wide as the widest of the usual fonts has it."""
-    return size * sum(WIDTHS.get(each, 0.75 if each.isupper() else 0.64) for each in text)
-
-
-def shortened(text: str, room: float, size: float = SIZE) -> str:
-    if width_of(text, size) <= room:
-        return text
-    while text and width_of(text + "\u2026", size) > room:
-        text = text[:-1]
-    return text + "\u2026"
-
-
-def wrapped(text: str, room: float, size: float = SIZE, most: Optional[int] = None) -> List[str]:
-    """The lines of a text, broken at its spaces. A word that is wider than a line, and what is left after the last line, is cut short."""
-    lines: List[str] = []
-    for word in filter(None, text.split(" ")):
-        longer = f"{lines[-1]} {word}" if lines else word
-        if lines and (width_of(longer, size) <= room or len(lines) == most):
-            lines[-1] = longer
-        else:
-            lines.append(word)
-    return [shortened(line, room, size) for line in lines]
-
-
-def axis_text(value: Fraction, step: Fraction) -> str:
-    """A number at an axis, with as many places after the point as its step has."""
-    power, letter = next(((power, letter) for power, letter in ((9, "G"), (6, "M"), (3, "k")) if value and step >= 10 ** (power + (power == 3))), (0, ""))
-    places = next(places for places in range(99) if (step * 10**places / 10**power).denominator == 1)
-    return f"{float(value / 10**power):,.{places}f}{letter}".replace("-", "\u2212")
-
-
-class Scale:
-    """Where values from low to high stand in a panel. Its lines are a step apart."""
-
-    def __init__(self, top: float, height: float, low: Fraction, high: Fraction, whole: bool = False):
-        self.top, self.height = top, height
-        self.step = step_of(high - low, max(2, int(height // 18)), 1 if whole or high == low else 0)
-        self.least, self.most = math.floor(low / self.step), math.ceil(high / self.step)
-        self.most += self.most == self.least
-
-    def y(self, value: Fraction) -> float:
-        return self.top + self.height * float(self.most - value / self.step) / (self.most - self.least)
-
-    def values(self) -> Iterator[Fraction]:
-        return (at * self.step for at in range(self.least, self.most + 1))
-
-    def texts(self) -> List[str]:
-        return [axis_text(value, self.step) for value in self.values()]
-
-
-class Across:
-    """Where values from low to high stand from left to right."""
-
-    def __init__(self, left: float, right: float, low: Fraction, high: Fraction):
-        self.left, self.right, self.low, self.high = left, right, low, high
-
-    def x(self, value: Fraction) -> float:
-        return self.left + (self.right - self.left) * float((value - self.low) / (self.high - self.low))
-
-    def ticks(self, unit: int, whole: bool) -> List[Tuple[Fraction, str]]:
-        """Round numbers of a unit, as many as have room beside each other."""
-        span, room = (self.high - self.low) / unit, self.right - self.left
-        for about in range(10, 0, -1):
-            step = step_of(span, about, 1 if whole else 0)
-            found = [(at * step, axis_text(at * step, step)) for at in range(math.ceil(self.low / unit / step), math.floor(self.high / unit / step) + 1)]
-            if max((width_of(text) for _, text in found), default=0) + 10 <= room * float(step / span):
-                break
-        return [(value * unit, text) for value, text in found]
 
 
 class Canvas:
@@ -165,6 +91,25 @@ class Canvas:
         """What the pointer shows on a part of the picture."""
         place = f'x="{x:.2f}" y="{y:.1f}" width="{width:.2f}" height="{height:.1f}"'
         self.elements.append(f'<rect {place} fill="transparent"><title>{html.escape(text)}</title></rect>')
+
+    def triangle(self, x: float, y: float) -> None:
+        """It points to this place from above."""
+        self.path([(x - 4, y - 7), (x + 4, y - 7), (x, y), (x - 4, y - 7)], fill=INK)
+
+    def cross(self, x: float, y: float) -> None:
+        for up in (-3.5, 3.5):
+            self.line(x - 3.5, y - up, x + 3.5, y + up, ALARM, 1.7)
+
+    def axis(self, across: Across, y: float, words: str, timed: bool) -> float:
+        """Numbers and words below the last panel, of time in its unit. Gives the place below."""
+        unit, name = next((unit, name) for least, unit, name in AXES if across.high - across.low >= least) if timed else (1, "")
+        for value, text in across.ticks(unit, not timed):
+            self.line(across.x(value), y, across.x(value), y + 4)
+            self.text(across.x(value), y + 14, text, "middle")
+        for line in wrapped(f"{name} {words}", across.right - across.left):
+            self.text((across.left + across.right) / 2, y + 28, line, "middle")
+            y += LINE
+        return y + 20
 
     def patterns(self) -> str:
         found = (

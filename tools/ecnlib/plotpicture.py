@@ -4,13 +4,13 @@ from typing import List, NamedTuple, Optional, Tuple
 
 from .bars import DAY, HOUR, MARKS, MINUTE, MOST_BARS, SECOND, Bar, time_words
 from .common import many, refused_words
-from .plotdraw import ALARM, FAINT, FILLS, INK, LARGE, LINE, Across, Canvas, Scale, printable, width_of, wrapped
+from .plotdraw import ALARM, FAINT, FILLS, INK, Canvas
 from .plotrows import Rows
+from .plotscale import LARGE, LINE, Across, Scale, printable, width_of, wrapped
 
 TIED = "\u00a0"  # a space at which no line is broken
 EDGE, RIGHT, MOST_LINES = 6, 14, 12  # room at the left and the right; more restarts than that get no lines
 RATES = (("second", SECOND), ("minute", MINUTE), ("hour", HOUR), ("day", DAY))
-AXES = ((150 * HOUR, DAY, "Days"), (150 * MINUTE, HOUR, "Hours"), (150 * SECOND, MINUTE, "Minutes"), (2 * SECOND, SECOND, "Seconds"), (0, 1, "Milliseconds"))
 
 
 class Panel(NamedTuple):
@@ -182,28 +182,21 @@ class Picture:
         for x in again:
             if len(again) <= MOST_LINES and not self.rows.several:
                 self.upright(x, INK, 1, "4 3")
-            self.triangle(x, first - 1)
+            self.canvas.triangle(x, first - 1)
         if self.rows.refusal:
             self.upright(self.across.right, ALARM, 1.8)
-            self.cross(self.across.right, first - 5)
+            self.canvas.cross(self.across.right, first - 5)
 
     def upright(self, x: float, stroke: str, width: float, dash: str = "") -> None:
         """A line through all panels, and through no text between them."""
         for each in self.panels:
             self.canvas.line(x, each.scale.top, x, each.scale.top + each.height, stroke, width, dash)
 
-    def triangle(self, x: float, y: float) -> None:
-        self.canvas.path([(x - 4, y - 7), (x + 4, y - 7), (x, y), (x - 4, y - 7)], fill=INK)
-
-    def cross(self, x: float, y: float) -> None:
-        for up in (-4, 4):
-            self.canvas.line(x - 4, y - up, x + 4, y + up, ALARM, 1.8)
-
     def mark_key(self, y: float) -> float:
         """What the marks mean, if there are any."""
         x, restarts = EDGE + 4, sum(bar.counts["restarts"] for bar in self.bars)
         if restarts:
-            self.triangle(x, y)
+            self.canvas.triangle(x, y)
             words = f"the sender restarted ({restarts:,})"
             self.canvas.text(x + 9, y, words)
             x += width_of(words) + 28
@@ -211,24 +204,9 @@ class Picture:
             words = f"block {self.rows.refusal.block:,} is refused"
             if x + 9 + width_of(words) > self.canvas.width - EDGE:
                 x, y = EDGE + 4, y + LINE
-            self.cross(x, y - 3.5)
+            self.canvas.cross(x, y - 3.5)
             self.canvas.text(x + 9, y, words)
         return y + LINE if restarts or self.rows.refusal else y
-
-    def axis(self, y: float) -> float:
-        """Time or the blocks' numbers below the last panel. Gives the place below."""
-        unit, words = 1, "Block of the trace"
-        if self.timed:
-            unit, name = next((unit, name) for least, unit, name in AXES if self.across.high - self.across.low >= least)
-            words = f"{name} since the first packet"
-        for value, text in self.across.ticks(unit, not self.timed):
-            x = self.across.x(value)
-            self.canvas.line(x, y, x, y + 4)
-            self.canvas.text(x, y + 14, text, "middle")
-        for line in wrapped(words + self.step_words(), self.across.right - self.across.left):
-            self.canvas.text((self.across.left + self.across.right) / 2, y + 28, line, "middle")
-            y += LINE
-        return y + 20
 
     def step_words(self) -> str:
         if self.timed:
@@ -256,7 +234,8 @@ class Picture:
             tops.append(each.scale.top)
         bottom = y - LINE
         self.marks()
-        y = self.source_axis(bottom) if self.rows.several else self.axis(bottom)
+        words = f"since the first packet{self.step_words()}" if self.timed else f"Block of the trace{self.step_words()}"
+        y = self.source_axis(bottom) if self.rows.several else self.canvas.axis(self.across, bottom, words, self.timed)
         for bar in self.bars:
             begin, end = self.ends(bar)
             self.canvas.tip(begin, tops[0], end - begin, bottom - tops[0], tip_of(bar))
