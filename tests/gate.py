@@ -14,6 +14,8 @@ import signal
 import subprocess
 import sys
 import tempfile
+import threading
+import time
 
 TOP = pathlib.Path(__file__).resolve().parent.parent
 IGNORED = (signal.SIGINT, signal.SIGQUIT, signal.SIGPIPE, signal.SIGHUP, signal.SIGXFSZ)
@@ -47,7 +49,7 @@ class Tree:
 
 # ---- .ci/run
 
-# (what the three parts print last, the status of each), and the gate's last line; a part that must not be started prints None.
+# (what `rt ci`, tests/edits and tests/run print last, the status of each), and the gate's last line; what must not be printed is None.
 ENDS = {
     "all pass": (("3 passed, 0 failed", "2 passed, 0 failed", "1 passed, 0 failed"), (0, 0, 0), "6 passed, 0 failed"),
     "a part without a last line": (("3 passed, 0 failed", "killed", "1 passed, 0 failed"), (0, 0, 0), "4 passed, 1 failed"),
@@ -66,6 +68,40 @@ def sums(name, work):
     status, text = tree.run(".ci/run", f"{tree.bin}:{os.environ['PATH']}")
     if text.splitlines()[-1] != wanted or (status == 0) != wanted.endswith(" 0 failed") or "None" in text:
         yield f"it ends with {text.splitlines()[-1]!r} and status {status}"
+
+
+# tests/edits runs beside the others: what it finds of an earlier run, and what becomes of it where `rt ci` fails. It is there for half a minute.
+LONG = """[ ! -e target/stamp/old ] || echo old >>"$RAN"
+trap 'echo stopped >>"$RAN"; exit' TERM
+i=0
+while [ $i -lt 300 ] && [ ! -e "$2" ]; do sleep 0.1; i=$((i + 1)); done
+[ "$ENDS" = 1 ] || while [ $i -lt 300 ]; do sleep 0.1; i=$((i + 1)); done
+echo ended >>"$RAN"
+echo 2 passed, 0 failed
+"""
+ASIDE = {
+    "crates that are proved": ("3 passed, 0 failed", 0, "1", ["ended"], "6 passed, 0 failed"),
+    "a crate that is not proved": ("2 passed, 1 failed", 1, "0", ["stopped"], "2 passed, 1 failed"),
+}
+
+
+def aside(name, work):
+    """What is wrong with the wrong programs that are tried beside `rt ci`."""
+    said, ended, ends, wanted, last = ASIDE[name]
+    tree = Tree(work, ".ci/run")
+    script(tree.top / "target/stamp/old", "")
+    script(tree.bin / "rt", f"sleep 1; echo '{said}'; exit {ended}\n")
+    script(tree.top / "tests/edits", LONG)
+    script(tree.top / "tests/run", "echo '1 passed, 0 failed'\n")
+    status, text = tree.run(".ci/run", f"{tree.bin}:{os.environ['PATH']}", ENDS=ends)
+    ran = tree.bin.parent / "ran"
+    for _ in range(50):
+        if ran.exists():
+            break
+        time.sleep(0.1)
+    told = ran.read_text().splitlines() if ran.exists() else []
+    if told != wanted or text.splitlines()[-1] != last or (status == 0) != (ended == 0):
+        yield f"it ends with {text.splitlines()[-1]!r} and status {status}, and the wrong programs tell {told}"
 
 
 # What .ci/run is asked for, what must then be tried, in order, the status of the last part, and how its last line begins.
@@ -191,7 +227,11 @@ TRIED = {
     "an error of no kind": ("the solver gave up", ["After-g", "Need-returns"], ": FAILED: the first error is of no known kind"),
 }
 DEV = f"""case $1 in
-check) [ "$CHECK" = 0 ] && echo 'rt: one proved (unchanged)'; exit "$CHECK" ;;
+check)
+    [ -z "${{NOCHECK:-}}" ] || echo check >>"$RAN"
+    [ "$CHECK" = 0 ] && echo 'rt: one proved (unchanged)'
+    exit "$CHECK"
+    ;;
 esac
 [ "$CHECK" = 0 ] || echo dev >>"$RAN"
 if grep -q right crates/one/src/lib.rt; then
@@ -344,6 +384,39 @@ def unproved(_, work):
         yield text
 
 
+# What tests/edits --as-proved says of a crate: whether it is proved at first, and a second later, when `rt ci` has ended.
+REFUSED = "edits one/wrong: refused, terms differ ("
+PROVED = {
+    "proved at first": (True, True, REFUSED),
+    "proved meanwhile": (False, True, REFUSED),
+    "not proved": (False, False, "edits one: FAILED: it is not proved as it stands\n0 passed, 1 failed"),
+}
+
+
+def while_proved(name, work):
+    """What is wrong with edits that are tried as their crate is proved: nothing but `rt dev` may be asked for."""
+    first, then, wanted = PROVED[name]
+    tree = one_crate(work)
+    said, walked, ended = tree.bin / "said", tree.bin / "walked", tree.bin / "ended"
+    said.write_text(PROOF + DIFFER.format("1", "2") + "\nlogic=not-proved\n")
+    module(walked, ["After-g", "Need-returns"], ["m1"])
+    stamp = tree.top / "target/stamp/one"
+    if not first:
+        stamp.unlink()
+
+    def prove():
+        if then:
+            stamp.write_text("")
+        ended.write_text("")
+    later = threading.Timer(1, prove)
+    later.start()
+    path = f"{tree.bin}:{os.path.dirname(sys.executable)}:{os.environ['PATH']}"
+    _, text = tree.run("tests/edits", path, "--as-proved", str(ended), CHECK="0", SAID=str(said), WALKED=str(walked), NOCHECK="1")
+    later.join()
+    if not text.startswith(wanted) or (tree.bin.parent / "ran").exists():
+        yield text
+
+
 def told_apart(words, _):
     """What is wrong with the kind that tests/edits gives an error."""
     loader = importlib.machinery.SourceFileLoader("edits", str(TOP / "tests/edits"))
@@ -358,8 +431,8 @@ def main():
     sys.dont_write_bytecode = True
     wrong, count = [], 0
     parts = (
-        (sums, ENDS), (some, SOME), (failing, FAILING), (parts_of, OF), (tried, TRIED), (copied, COPIED), (seen_of, SEEN),
-        (unproved, ["a crate that is not proved"]), (told_apart, SAMPLES),
+        (sums, ENDS), (aside, ASIDE), (some, SOME), (failing, FAILING), (parts_of, OF), (tried, TRIED), (copied, COPIED), (seen_of, SEEN),
+        (unproved, ["a crate that is not proved"]), (while_proved, PROVED), (told_apart, SAMPLES),
     )
     for part, names in parts:
         for name in names:
