@@ -158,7 +158,7 @@ BROKEN = {
     "a theorem that is gone": ("crates/demands/proofs/EachSource.antt", ("pub each-source :", "each-source :")),
     "a theorem in the text that is gone": ("crates/breaker/proofs/Runs.antt", ("pub refused-keeps :", "refused-keeps :")),
     "a contract that cites no definition": ("crates/breaker/src/lib.rt", ("s ≡ reportOf self r", "s ≡ s")),
-    "a wrong version that is gone": ("crates/callers/edits/words_of_all_calls.edit", None),
+    "a wrong version that is gone": ("crates/callers/edits/row_of_all_calls.edit", None),
     "a count that is no longer right": ("docs/TESTS.md", ("| 400, 136 |", "| 401, 136 |")),
     "a table that is not found": (PAGE, ("\n## What is proved\n", "\n## Proved\n")),
     "a key that is not found": (PAGE, ("\n## The notation\n", "\n## Notation\n")),
