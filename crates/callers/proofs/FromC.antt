@@ -94,7 +94,7 @@ demand3-from-c ps d =
     }
 
 -- what a function gives on values
-gave : {A : Type 0} (code : Written → A) (f : Option Refusal) (new old : List ℕ) → Gives code f new old (code (written f new old)) (stored f new old)
+pub gave : {A : Type 0} (code : Written → A) (f : Option Refusal) (new old : List ℕ) → Gives code f new old (code (written f new old)) (stored f new old)
 gave code f new old = record { answers = refl; stores = refl }
 
 -- at the list that shows that demand 3's hypotheses can be met, with empty outputs

@@ -1,3 +1,10 @@
 pub mod Callers
 pub mod FromC
+pub mod InTurn
+pub mod BlocksFromC
+pub mod Sessions
+pub mod RunFromC
+pub mod FormsFromC
+pub mod Values
+pub mod FormsValues
 pub mod Feeds

@@ -73,10 +73,10 @@ use Rattle.capi.proofs.FeedSteps.{fed-is, closed-is, words-after}
 
 -- ---- what fits its words stays so: the SSRC, and the remembered number
 
-abbrev Typed : Run → Type 0
+abbrev pub Typed : Run → Type 0
 Typed run = (run .ssrc < 2 ^ 32) × (wireNumber (run .totals .source .remembered) ≡ true)
 
-all-typed : (ps : List Packet) (s : Source) (jumps restarts : ℕ) {next : Source} {j r : ℕ}
+pub all-typed : (ps : List Packet) (s : Source) (jumps restarts : ℕ) {next : Source} {j r : ℕ}
     → wireNumber (s .remembered) ≡ true → countAll ps s jumps restarts ≡ Counted next j r → wireNumber (next .remembered) ≡ true
 unfolding countAll
 all-typed [] s jumps restarts {next} w e = let same : s ≡ next = cc in rw same at w
@@ -98,7 +98,7 @@ arrived-typed run n b h = (h .0, go (blockCount (run .totals .source) w bytes) r
     go (Counted next jumps restarts) e = all-typed (packets w (length bytes / w) bytes) (run .totals .source) 0 0 (h .1) (block-counted (run .totals .source) w bytes e .is)
     go (Refused refusal s) e = h .1
 
-step-typed : (i : ℕ) (k : Kept) (b : List ℕ) → Typed (k .run) → Typed (ecntable .step i k b .state .run)
+pub step-typed : (i : ℕ) (k : Kept) (b : List ℕ) → Typed (k .run) → Typed (ecntable .step i k b .state .run)
 unfolding nextOf
 step-typed i k b h = go (laterOf (k .run .form) (k .run .ssrc) b)
   where
@@ -106,7 +106,7 @@ step-typed i k b h = go (laterOf (k .run .form) (k .run .ssrc) b)
     go (later.Arrivals n) = arrived-typed (k .run) n b h
     go (later.Refused refusal) = h
 
-start-typed : (k : Kept) (b : List ℕ) → Octets b → Typed (k .run) → Typed (labelled k b (startOf b) .state .run)
+pub start-typed : (k : Kept) (b : List ℕ) → Octets b → Typed (k .run) → Typed (labelled k b (startOf b) .state .run)
 unfolding startOf
 start-typed k b o h = go (zerothOf b) refl
   where
@@ -165,7 +165,7 @@ fresh-fits : (s : Source) → fresh s ≡ true → FitsWord (s .base .0) × Fits
 unfolding fresh
 fresh-fits s f = (fits 0 (eqZ-eq (s .base .0) (pos 0) (true-is _ (all-true (zeros s) 0 f))) (omega arith), fits 0 (eqZ-eq (s .highest .0) (pos 0) (true-is _ (all-true (zeros s) 1 f))) (omega arith))
 
-sound-fits : (s : Source) → sound s ≡ true → FitsWord (s .base .0) × FitsWord (s .highest .0)
+pub sound-fits : (s : Source) → sound s ≡ true → FitsWord (s .base .0) × FitsWord (s .highest .0)
 sound-fits s e = go (fresh s) refl
   where
     go : (b : Bool) → fresh s ≡ b → FitsWord (s .base .0) × FitsWord (s .highest .0)

@@ -70,7 +70,7 @@ module _ (ps : List Place) (a : Arrival) (good : fault ps ≡ none) (seat : seat
 
 -- ---- a block
 
-marks-fit : (vs : List TruePacket) → marksFit (map ofArrival vs) ≡ true → Marks vs
+pub marks-fit : (vs : List TruePacket) → marksFit (map ofArrival vs) ≡ true → Marks vs
 marks-fit [] e = tt
 marks-fit (v ∷ vs) e = (leb-true (v .mark) 3 (and-left (leb (v .mark) 3) (marksFit (map ofArrival vs)) e), marks-fit vs (and-right (leb (v .mark) 3) (marksFit (map ofArrival vs)) e))
 
