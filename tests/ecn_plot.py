@@ -275,7 +275,9 @@ class Traces(Pictures):
         one = [self.ecn("plot", SAMPLES / "c1.trace", "-o", "-", *words, library=True).stdout for words in ([], ["--streams"])]
         self.assertEqual(one[0], one[1])
         many = self.trace(label(), *(arrivals(ssrc=ssrc) for ssrc in range(17)))
-        self.assertIn("no rows to draw; block 1 is refused", self.ecn("plot", many, "-o", "-", "--streams", status=1, library=True).stderr)
+        self.assertIn("no rows to draw; block 17 is refused with 15", self.ecn("plot", many, "-o", "-", "--streams", status=1, library=True).stderr)
+        damaged = [self.ecn("plot", SAMPLES / "damaged.trace", "-o", "-", *words, status=1, library=True).stdout for words in ([], ["--streams"])]
+        self.assertEqual(damaged[0], damaged[1])
 
     def test_a_long_trace_in_little_memory(self):
         path = self.folder / "made.trace"

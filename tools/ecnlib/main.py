@@ -1,6 +1,6 @@
 """ecn: what the proved programs cannot do themselves. It runs them on traces, shows a trace, makes one from a CSV file,
 copies one with no line break in its label, saves what is left of a damaged one, draws a table, answers an offer, replays
-a link's reports through the circuit breaker, puts many traces into one table, takes a trace
+a link's reports through the circuit breaker, puts many traces into one table or on one page, takes a trace
 apart, and writes and reads ECN reports.
 
 Every count and every verdict is a proved program's or the proved library's; the script moves bytes and draws. As a
@@ -18,8 +18,8 @@ from . import endings, programs
 from .common import FAILED, Ended, fill_streams, printing, tell
 from .library import package, version
 
-COMMANDS = ("table", "look", "make", "label", "salvage", "plot", "answer", "breaker", "summary", "check", "records", "split", "forms", "report", "rtcp")
-BY_LIBRARY = ("plot", "answer", "breaker", "summary", "records", "split", "report", "rtcp")  # they run no program
+COMMANDS = ("table", "look", "make", "label", "salvage", "plot", "answer", "breaker", "summary", "check", "records", "split", "forms", "report", "rtcp", "page")
+BY_LIBRARY = ("plot", "answer", "breaker", "summary", "records", "split", "report", "rtcp", "page")  # they run no program
 
 
 class Version(argparse.Action):

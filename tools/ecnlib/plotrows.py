@@ -160,13 +160,14 @@ class TraceReader:
                 self.feed.close()
         except self.flasknib.Refused as refused:
             self.rows.refusal = Refusal(refused.number, self.feed.blocks)
-        if self.run and self.rows.refusal and not self.own:
-            return self.of_sources()
-        return self.rows
+        one = not self.streams or self.rows.refusal == self.own or not self.run
+        return self.rows if one else self.of_sources()
 
     def of_sources(self) -> Rows:
+        """As ecnstreams has them: none if a block is refused."""
         rows = Rows(self.rows.name)
-        for row in self.run.rows():
+        rows.refusal = self.own
+        for row in self.run.rows() if not self.own else ():
             rows.add(*COUNTED(row))
             rows.last = row._asdict()
         return rows
