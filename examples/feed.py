@@ -2,7 +2,7 @@
 
 Run, in a clone after make: PYTHONPATH=python python3 examples/feed.py
 
-It listens on this computer alone, says on standard error at which port, and takes one connection, as that of: nc -N 127.0.0.1 PORT <samples/c1.trace
+It listens only on this computer, says on standard error at which port, and takes one connection, as that of: nc -N 127.0.0.1 PORT <samples/c1.trace
 If the line breaks off, the table ends as that of the bytes that came.
 """
 import socket

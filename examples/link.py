@@ -14,6 +14,7 @@ at our receiver, and reads our reports with tools/wireshark/ecn.lua. The status 
 import collections
 import pathlib
 import selectors
+import shutil
 import signal
 import socket
 import subprocess
@@ -208,6 +209,9 @@ def compare(capture: str, link: Link) -> bool:
 
 
 def main(capture: str) -> int:
+    for tool in ("ffmpeg", "gst-launch-1.0", "tshark"):
+        if not shutil.which(tool):
+            sys.exit(f"link.py: {tool} is not on the path")
     theirs = free_port(), free_port()
     link = Link(*theirs)
     ports = " or ".join(f"port {each.getsockname()[1]}" for each in (link.ours, link.back, link.control))
@@ -226,10 +230,12 @@ def main(capture: str) -> int:
     print("stopped by", link.stopped or "nobody")
     for name, answers in link.answers.items():
         print(f"RTCP of {name}:", ", ".join(f"{count} {what}" for what, count in sorted(answers.items())))
+    if not pathlib.Path(capture).exists():
+        sys.exit(f"link.py: tshark wrote no {capture}: it needs the right to capture on lo, and to write there")
     same = compare(capture, link)
     print("the counts are the same" if same else "the counts differ")
     return 0 if same else 1
 
 
 if __name__ == "__main__":
-    sys.exit(main(*sys.argv[1:]))
+    sys.exit(main(*sys.argv[1:]) if len(sys.argv) == 2 else "usage: link.py CAPTURE")
