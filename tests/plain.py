@@ -5,7 +5,7 @@ Held in README and six pages, in the manual pages, and in the help and the messa
 - no line has over 120 columns. A row of a table in Markdown is one line, however long.
 - 'after' and not 'behind', 'if' and not 'where', 'only' and not 'alone', 'is reported' and not 'is told'. 'Where' stands for a place only in what is
   listed here, and what is listed is used.
-- in the pages and the manual no sentence has 25 words or more. What stands in code type counts as one word.
+- in the pages, the manual and the help no sentence has 25 words or more. What stands in code type counts as one word.
 - the glossary of docs/TRACE.md has twenty words, each in one sentence and each used in several pages.
 Not held: STATEMENTS, DECISIONS, the landings, what the programs print. A copy is then broken in several ways, and each must be found.
 """
@@ -31,6 +31,8 @@ PLACES = [
 ]
 # Files of tools/ecnlib whose words are not held: those that draw
 DRAWING = ("bars.py", "plot.py")
+# One whose help has a list of numbers in one sentence
+LISTING = ("breaker.py",)
 
 
 def read(path):
@@ -77,12 +79,17 @@ def sentences(paragraph):
     return re.split(r"(?<=[.!?;])\s+(?=[\"'(\[*]*[A-Z0-9])|(?<=[.!?]\))\s+|(?<=:)\s+", text)
 
 
+def helped(text):
+    """The help of a command of tools/ecnlib; nothing of another module."""
+    tree = ast.parse(text)
+    command = {"add_arguments", "run"} <= {getattr(node, "name", "") for node in tree.body}
+    return ast.get_docstring(tree, clean=False) if command else ""
+
+
 def spoken(text):
     """(line, text) of what a module of tools/ecnlib says: its help, the help of its options, and its messages."""
     tree = ast.parse(text)
-    if {"add_arguments", "run"} <= {getattr(node, "name", "") for node in tree.body}:  # a command, whose help this is
-        for number, line in enumerate(ast.get_docstring(tree, clean=False).splitlines(), 1):
-            yield number, line
+    yield from enumerate(helped(text).splitlines(), 1)
     for node in ast.walk(tree):
         name = isinstance(node, ast.Call) and getattr(node.func, "id", getattr(node.func, "attr", ""))
         given = node.args if name in ("tell", "Ended") else [word.value for word in node.keywords if word.arg == "help"] if name else []
@@ -145,6 +152,7 @@ def faults(texts):
         if path.endswith(".py"):
             said = list(spoken(text))
             wrong += [*unplain(path, said), *wide(path, said)]
+            wrong += [] if path.endswith(LISTING) else long(path, paragraphs(helped(text)))
         elif path.endswith(".md"):
             wrong += [*unplain(path, prose(text)), *wide(path, lines), *long(path, paragraphs(text))]
         else:
@@ -167,6 +175,7 @@ BROKEN = {
     "a wide line of a manual page": ("man/ecn.1", "\n.SH OPTIONS\n", "\n" + "wide. " * 30 + "\n.SH OPTIONS\n"),
     "a wide line of a help text": ("tools/ecnlib/check.py", "ecn check traces/*.trace\n", "ecn check traces/*.trace" + " " * 120 + "x\n"),
     "a long sentence": ("docs/PROGRAMS.md", "\n## A damaged trace\n", "\n" + "long\n" * 25 + "\n## A damaged trace\n"),
+    "a long sentence of a help text": ("tools/ecnlib/table.py", "\nWith one trace OUT is", "\n" + "long\n" * 25 + "\nWith one trace OUT is"),
     "a long sentence of a manual page": ("man/ecnlabel.1", "\n.SH OPTIONS\n", "\n" + "long\n" * 25 + ".SH OPTIONS\n"),
     "a word less in the glossary": ("docs/TRACE.md", "| restart | ", "| | "),
     "a word of the glossary that nobody uses": ("docs/TRACE.md", "| jump | ", "| xyzzy | "),

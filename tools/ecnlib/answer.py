@@ -4,9 +4,9 @@
 
 Our abilities are the line that we would offer. The offer is a whole SDP or the one line, in a file or on standard
 input. Each of its lines that begins with a=ecn-capable-rtp (RFC 6679) is read, answered and written by the proved
-library (that of $FLASKNIB_LIBRARY, or of this installation, or of the system). The script looks for the lines and
-judges nothing. The answer has the first of our methods that the offer names, our mode and our ect. Put each line
-below the m= line of the same stream, never above the first.
+library. That is the one of $FLASKNIB_LIBRARY, or of this installation, or of the system. The script looks for the
+lines and judges nothing. The answer has the first of our methods that the offer names, our mode and our ect. Put each
+line below the m= line of the same stream, never above the first.
 
 On standard error, lines counted from 1: `left out line I` if the answer has no such line, and `refused N line I`.
 

@@ -4,8 +4,8 @@
     ecn check traces/*.trace --csv -j 4 -o checked.csv
 
 The verdicts are the proved library's. Each block is judged at its place as ecntable and ecnsalvage do, the blocks
-after a refused one too; with --streams as ecnstreams does, so that arrivals blocks may differ in SSRC. After a
-refused block 0 there is nothing to go by: the rest of the trace is not judged, and the last columns say so.
+after a refused one too. With --streams it is judged as ecnstreams does, so that arrivals blocks may differ in SSRC.
+After a refused block 0 there is nothing to go by: the rest of the trace is not judged, and the last columns say so.
 
 `sources` counts the SSRCs of the blocks that are sound by themselves. If it is above 1 without --streams, the blocks
 of the others are refused with 14: take --streams, or split the trace with `ecn split`.

@@ -8,9 +8,10 @@ and in their order, and the blocks are packed full: 62 records to a block in for
 and the last row is the same. Form 1 has no place for a time of 2^32 ms (49 days) or more: such a trace is refused with 17.
 
 With one trace OUT is the copy's file. If OUT is a folder, ends with a slash, or there are several traces, it is a
-folder (made if it is missing) and each copy is OUT/NAME, NAME being the trace's file name. A copy is written beside
-its place and renamed at the end, so OUT is whole or as it was before. A trace with a refused block has no copy; run
-the program itself for the blocks before the refused one. A trace of several sources is refused: split it first.
+folder (made if it is missing). Then each copy is OUT/NAME, and NAME is the trace's file name. A copy is written
+beside its place and renamed at the end, so OUT is whole or as it was before. A trace with a refused block has no
+copy; run the program itself for the blocks before the refused one. A trace of several sources is refused: split it
+first.
 
 A trace `-` is standard input, and OUT `-` standard output, which gets the copy when that is whole and no byte before.
 

@@ -3,21 +3,22 @@
     ecn label night1.trace -o night1.copy
 
 Bytes 10 (LF) and 13 (CR) are retired: a trace that has them in its label is read as before, but no new label may have
-them. In the copy each of them is a space, the checksum of the label block is the one that fits, and every other byte
+them. In the copy each of them is a space, and the checksum of the label block is the one that fits. Every other byte
 is as it was. How many bytes were replaced is reported on standard error; if there were none, the copy is the trace.
 
 With one trace OUT is the copy's file. If OUT is a folder, ends with a slash, or there are several traces, it is a
-folder (made if it is missing) and each copy is OUT/NAME, NAME being the trace's file name. A copy is written beside
-its place and renamed at the end, so OUT is whole or as it was before. A trace with a refused block has no copy; run
-the program itself for the blocks before the refused one. A trace of several sources (ecnstreams) is refused.
+folder (made if it is missing). Then each copy is OUT/NAME, and NAME is the trace's file name. A copy is written
+beside its place and renamed at the end, so OUT is whole or as it was before. A trace with a refused block has no
+copy; run the program itself for the blocks before the refused one. A trace of several sources (ecnstreams) is
+refused.
 
 A trace `-` is standard input, and OUT `-` standard output, for the copy of one trace. Standard output, /dev/stdout,
 /dev/fd/N, a device or a pipe is written to in its place and never replaced. It gets the copy when that is whole, and
 no byte before.
 
-Exit status: 0 all copies are in place; 1 a block was refused; 2 a read or a write failed, also if the program printed
-a refused line for it, a program is missing, or the arguments are wrong. With several traces the others go on, and the
-highest status counts.
+Exit status: 0 all copies are in place; 1 a block was refused; 2 a read or a write failed, a program is missing, or
+the arguments are wrong. It is also 2 if the program printed a refused line for a read that failed. With several
+traces the others go on, and the highest status counts.
 """
 import argparse
 import os

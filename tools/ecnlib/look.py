@@ -3,11 +3,11 @@
     ecn look night1.trace --brief
     ecn look night1.trace --refused
 
-The verdicts are the proved reader's. The library (that of $FLASKNIB_LIBRARY, or of this installation, or of the system)
-judges each block by itself. The program ecntable judges each block at its place. It ends at the first block that it
-refuses, so it is run again on the trace without that block, until it refuses none, and 100 times at most. If one of the
-two is missing, only the other's verdicts are shown. A block that is refused is shown with its header's numbers and no
-records. The last line counts the blocks of the whole trace, also if only some are shown.
+The verdicts are the proved reader's. The library (that of $FLASKNIB_LIBRARY, or of this installation, or of the
+system) judges each block by itself. The program ecntable judges each block at its place. It ends at the first block
+that it refuses. So it is run again on the trace without that block, until it refuses none, and 100 times at most. If
+one of the two is missing, only the other's verdicts are shown. A block that is refused is shown with its header's
+numbers and no records. The last line counts the blocks of the whole trace, also if only some are shown.
 
 The trace is read more than once, so TRACE is a file and not standard input.
 

@@ -25,7 +25,7 @@ it is not there the command says how to build it. The trace is put in place only
 ecntable for one source; for several ecnstreams, or if that is missing ecntable for each of them. What was used is
 reported on standard error.
 
-Exit status: 0 the trace is in place; 1 the CSV file or the label is outside the trace's rules, or the label has a line
+Exit status: 0 the trace is in place; 1 the CSV file or the label is outside the trace's rules, the label has a line
 break, or the program refuses the trace; 2 a read or a write failed, the program or the library is missing, or the
 arguments are wrong.
 """

@@ -3,17 +3,17 @@
     ecn rtcp packet.bin --media 7
     tshark -r link.pcap -Y rtcp -T fields -e udp.payload | ecn rtcp - --media 7 --csv
 
-FILE is one compound, the payload of one UDP packet, as bytes; or text with a compound in hexadecimal on each line
-(bytes may be separated by spaces or colons). If a line has several columns, separated by tabs, semicolons or commas,
-as from tshark, it is the first one; or the column udp.payload, if the first line names the columns (tshark -E
-header=y). Lines without it are passed over. FILE `-` is standard input.
+FILE is one compound, the payload of one UDP packet, as bytes. Or it is text with a compound in hexadecimal on each
+line (bytes may be separated by spaces or colons). If a line has several columns, separated by tabs, semicolons or
+commas, as from tshark, it is the first one. If the first line names the columns (tshark -E header=y), it is the
+column udp.payload. Lines without it are passed over. FILE `-` is standard input.
 
 Of each compound the first report block, the first ECN feedback packet and the first ECN summary entry about the source
 are shown. All is read by the proved library. Packets that do not begin with an SR or RR (reduced size, RFC 5506) are
 taken; with --strict they are refused with 3.
 
 A fault anywhere refuses the whole compound: 1 empty or a header cut off, 2 the version, 3 the first packet, 4 the
-size of a packet, 5 the padding, 6 the size of an XR block, 10 over 65,507 bytes.
+size of a packet; 5 the padding, 6 the size of an XR block, 10 over 65,507 bytes.
 
 Exit status: 0 each compound is read; 1 one is refused, or a line is no hexadecimal, or there is none; 2 a read or a
 write failed, the library is not there, or the arguments are wrong.

@@ -15,8 +15,8 @@ A memory stick that gives read errors has to be copied first, and that image is 
     dd if=/media/stick/night1.trace of=night1.image bs=512 conv=noerror,sync
 
 With one trace OUT is the copy's file. If OUT is a folder, ends with a slash, or there are several traces, it is a
-folder (made if it is missing) and each copy is OUT/NAME, NAME being the trace's file name. A copy is written beside
-its place and renamed at the end, so OUT is the whole copy or as it was before.
+folder (made if it is missing). Then each copy is OUT/NAME, and NAME is the trace's file name. A copy is written
+beside its place and renamed at the end, so OUT is the whole copy or as it was before.
 
 A trace `-` is standard input, and OUT `-` standard output, for the copy of one trace. Standard output, /dev/stdout,
 /dev/fd/N, a device or a pipe is written to in its place and never replaced. It gets the copy when the program has

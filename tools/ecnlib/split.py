@@ -2,12 +2,12 @@
 
     ecn split ward3.trace -o sources/
 
-For the source 7 of ward3.trace that is sources/ward3-7.trace (of standard input, trace-7.trace). It has the label, the
-source's SSRC in the label block, and the source's blocks byte for byte and in their order, so ecntable takes it. A file
-that is there is not replaced, and nothing is put in place until all of a trace is judged.
+For the source 7 of ward3.trace that is sources/ward3-7.trace (of standard input, trace-7.trace). It has the label,
+the source's SSRC in the label block, and the source's blocks byte for byte and in their order. So ecntable takes it.
+A file that is there is not replaced, and nothing is put in place until all of a trace is judged.
 
-Each block is judged by the proved library, as ecntable judges it in a trace of that source, and the label block is
-written by it. An old label with line breaks gets a space for each, since no new label may have them (19); that is
+Each block is judged by the proved library, as ecntable judges it in a trace of that source. The library writes the
+label block too. An old label with line breaks gets a space for each, since no new label may have them (19). That is
 reported on standard error. At most 256 sources are taken of a trace.
 
 Exit status: 0 all traces are in place; 1 a block is refused, or there is no source; 2 a read or a write failed, a file

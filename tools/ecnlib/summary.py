@@ -7,7 +7,7 @@ ecnstreams has them. The rows are the proved library's, byte for byte; the scrip
 RFC 4180 says. The last row of a trace counts from the last restart on (`restarts` says if there was one).
 
 A trace with no arrivals has no row, and is named on standard error. A trace that is refused is named there too, and
-then the summary is not put in place; with --sound it is, without that trace.
+then the summary is not put in place. With --sound it is, without that trace.
 
 A trace `-` is standard input, and OUT `-` standard output, which gets the summary when it is whole and no byte before.
 

@@ -4,9 +4,9 @@
     ecn table traces/*.trace -o tables/ -j 4
 
 With one trace OUT is the table's file. If OUT is a folder, ends with a slash, or there are several traces, it is a
-folder (made if it is missing), and each table is OUT/NAME.csv. NAME is the trace's file name without `.trace`. A table
-is written beside its place and renamed at the end, so OUT is whole or as it was before. For a trace that is refused
-nothing is put in place; run the program itself for the rows before the refused block.
+folder (made if it is missing). Then each table is OUT/NAME.csv, and NAME is the trace's file name without `.trace`. A
+table is written beside its place and renamed at the end, so OUT is whole or as it was before. For a trace that is
+refused nothing is put in place; run the program itself for the rows before the refused block.
 
 With --origin a file OUT.origin is written beside each table. It says of what the table was made: the SHA-256 of the
 trace, the table and the program, the version and the command. `ecn check --origin OUT.origin` makes the table again and
@@ -16,9 +16,9 @@ A trace `-` is standard input, and OUT `-` standard output, for the table of one
 /dev/fd/N, a device or a pipe is written to in its place and never replaced. It gets the table when that is whole, and
 no byte before.
 
-Exit status: 0 all tables are in place; 1 a block was refused; 2 a read or a write failed, also if the program printed a
-refused line for it, a program is missing, or the arguments are wrong. With several traces the others go on, and the
-highest status counts.
+Exit status: 0 all tables are in place; 1 a block was refused; 2 a read or a write failed, a program is missing, or
+the arguments are wrong. It is also 2 if the program printed a refused line for a read that failed. With several
+traces the others go on, and the highest status counts.
 """
 import argparse
 import csv
