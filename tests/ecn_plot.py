@@ -1,11 +1,16 @@
 """ecn_plot.py [NAME..]: ecn plot: what the pictures of tables and traces draw, and that their texts have room. The last line is 'N passed, M failed'."""
+import contextlib
 import itertools
+import os
 import pathlib
+import pty
 import random
 import re
 import resource
+import shutil
 import subprocess
 import sys
+import time
 import unittest
 import xml.etree.ElementTree as xml
 from fractions import Fraction
@@ -289,6 +294,43 @@ class Traces(Pictures):
         found = self.drawn(path, preexec_fn=limit)
         self.assertIn("Hours since the first packet (steps of 2 min or more)", found.texts)
         self.assertEqual(sum(step["ect0"] for step in found.steps), 20000)
+
+    def test_several(self):
+        """Each picture is the one that is drawn alone; what is wrong with one is told, and the others go on."""
+        out, given = self.folder / "pictures", [SAMPLES / "c1.trace", SAMPLES / "damaged.trace", SAMPLES / "long.csv"]
+        for jobs in ("1", "3"):
+            told = self.ecn("plot", *given, self.folder / "missing", "-o", out, "-j", jobs, status=2, library=True).stderr
+            self.assertIn("missing: No such file", told)
+            self.assertIn("damaged.trace: block 5 is refused with 13", told)
+            for path in given:
+                alone = self.ecn("plot", path, "-o", "-", status=1 if path.stem == "damaged" else 0, library=True).stdout
+                self.assertEqual((out / f"{path.stem}.svg").read_text(), alone)
+            self.assertEqual(len(os.listdir(out)), 3)
+            shutil.rmtree(out)
+        both = self.ecn("plot", SAMPLES / "c1.trace", SAMPLES / "c1.csv", "-o", out, status=2, library=True).stderr
+        self.assertIn("would both have the picture", both)
+
+    def test_progress(self):
+        """On a terminal a line says how far a trace is read, from the second second on, and is gone at the end."""
+        try:
+            controller, terminal = pty.openpty()
+        except OSError as error:
+            self.skipTest(f"no pseudo-terminal: {error}")
+        child = self.begun("plot", "-", "-o", self.out, stdin=subprocess.PIPE, stderr=terminal)
+        with child.stdin as pipe:
+            pipe.write((SAMPLES / "long.trace").read_bytes()[:5000])
+            pipe.flush()
+            time.sleep(1.3)
+            pipe.write((SAMPLES / "long.trace").read_bytes()[5000:])
+        self.assertEqual(child.wait(tools.LONG), 0)
+        os.close(terminal)
+        shown = b""
+        with contextlib.suppress(OSError):
+            while piece := os.read(controller, 4096):
+                shown += piece
+        os.close(controller)
+        self.assertIn(b"ecn: 0 of 1 traces", shown)
+        self.assertTrue(shown.endswith(b"\r\x1b[K"))
 
     def test_texts_have_room(self):
         """In pictures of all kinds, from the narrowest to a wide one."""

@@ -352,7 +352,7 @@ class Files(Tried):
             (["table", c1, "-o", "/dev/fd/4"], "/dev/fd/4: Bad file descriptor"),
             (["table", c1, "-o", f"/proc/{os.getpid()}/fd/1"], "is an open file of another process"),
             (["look", "-"], "look reads a trace more than once, and standard input can be read only once: give the trace's file"),
-            (["plot", SAMPLES / "c1.csv", "-o", f"{self.folder}/"], "Is a directory"),
+            (["plot", SAMPLES / "c1.csv", SAMPLES / "long.csv", "-o", "-"], "several traces need a folder for their pictures, and standard output is none"),
         ):
             self.assertIn(told, self.ecn(*words, status=2).stderr)
         self.alone()

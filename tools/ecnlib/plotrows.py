@@ -4,7 +4,7 @@ import io
 import operator
 from typing import Any, BinaryIO, Iterable, Iterator, List, Optional
 
-from . import files
+from . import files, several
 from .bars import COUNTS, MOST_BARS, Bar, Blocks
 from .blocks import BLOCK, header
 from .common import FAILED, REFUSED, Ended, refused_words
@@ -175,7 +175,7 @@ class TraceReader:
 
 def read(path: str, streams: bool = False) -> Rows:
     """A trace begins with a byte 0, a table never."""
-    with io.BufferedReader(files.Input(path), 1 << 18) as file:
+    with several.reading(path) as file:
         trace, name = file.peek(1)[:1] == b"\0", files.shown(path)
         if streams and not trace:
             raise Ended(FAILED, f"{name}: --streams is for a trace, and this is none; a table of ecnstreams needs no option")

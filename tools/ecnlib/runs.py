@@ -93,11 +93,13 @@ class Progress:
     def __init__(self, traces: list):
         there = {trace: files.found(trace) for trace in traces}
         self.sizes = {trace: each.st_size for trace, each in there.items() if each and stat.S_ISREG(each.st_mode)}
-        self.count, self.began, self.shown, self.done = len(traces), time.monotonic(), False, []
+        self.count, self.after, self.shown, self.done = len(traces), time.monotonic() + 1, False, []
 
     def show(self, running: list) -> None:
-        if not sys.stderr.isatty() or time.monotonic() - self.began < 1:
+        now = time.monotonic()
+        if now < self.after or not sys.stderr.isatty():
             return
+        self.after = now + 0.05
         read = sum(self.sizes.get(trace, 0) for trace in self.done) + sum(each.read() or 0 for each in running)
         size = sum(self.sizes.values())
         part = f", {100 * read // size} % of {size / 1e6:,.0f} MB" if size else ""

@@ -27,9 +27,47 @@ def add_output(parser: argparse.ArgumentParser, what: str) -> None:
     parser.add_argument("-o", "--out", default="-", type=file_name, metavar="OUT", help=f"{what} (standard output)")
 
 
+class Taken(NamedTuple):
+    """How much of a trace has been read, for the line on a terminal."""
+
+    bytes: int
+
+    def read(self) -> int:
+        return self.bytes
+
+
+class Watched(files.Input):
+    """A file of which a terminal shows how far it is read, inside `watched`."""
+
+    def __init__(self, path: str):
+        super().__init__(path)
+        self.got = 0
+
+    def readinto(self, room) -> int:
+        count = super().readinto(room)
+        self.got += count
+        if watching:
+            watching.show([Taken(self.got)])
+        return count
+
+
+watching: Optional[Progress] = None
+
+
+@contextlib.contextmanager
+def watched(progress: Progress) -> Iterator[None]:
+    global watching
+    watching = progress
+    try:
+        yield
+    finally:
+        watching.clear()
+        watching = None
+
+
 def reading(trace: str) -> io.BufferedReader:
     """A trace that is read from where it stands to its end."""
-    return io.BufferedReader(files.Input(trace), 1 << 18)
+    return io.BufferedReader(Watched(trace), 1 << 18)
 
 
 def outcome(ask: Callable[[str], Any], trace: str) -> Outcome:
@@ -57,8 +95,8 @@ def asked(traces: List[str], count: int, ask: Callable[[str], Any]) -> Iterator[
     """The outcome of each trace, in their order; what is wrong with one is said, and the others go on."""
     if traces.count("-") > 1:
         raise Ended(FAILED, "standard input can be read only once: give - once")
-    progress = Progress(traces)
-    with mapped(min(count, len(traces))) as map_of:
+    progress, count = Progress(traces), min(count, len(traces))
+    with mapped(count) as map_of, watched(progress) if count < 2 else contextlib.nullcontext():
         outcomes = map_of(functools.partial(outcome, ask), traces)
         for trace in traces:
             with endings.waiting():

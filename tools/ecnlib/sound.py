@@ -6,6 +6,7 @@ from . import files, several
 from .blocks import FORMS, Form, blocks_in
 from .common import REFUSED, Ended, refused_words
 from .library import package
+from .runs import Progress
 
 
 class Sound(NamedTuple):
@@ -18,7 +19,7 @@ class Sound(NamedTuple):
 def sound_blocks(trace: str) -> Iterator[Sound]:
     """Block 0, and the arrivals blocks after it. The first that is refused ends them."""
     flasknib, form = package(needed=True), None
-    with several.reading(trace) as file:
+    with several.watched(Progress([trace])), several.reading(trace) as file:
         for index, block in enumerate(blocks_in(file)):
             try:
                 found = flasknib.read_block(block)
