@@ -155,7 +155,7 @@ def human(answers: Iterator[Answered], header: Any) -> int:
 def replayed(flasknib: Any, options: argparse.Namespace, noted: Callable[[Answered], Answered]) -> int:
     """Prints the answers, each of which is noted. Gives how many lines are refused."""
     replay = Replay(flasknib, options)
-    with sheets.opened(options.reports) as rows, printing():
+    with sheets.opened(options.reports, not sys.stdout.isatty()) as rows, printing():
         rows.need("kind", "time", known=COLUMNS)
         answers = (noted(replay.answered(row)) for row in rows)
         refused = machine(answers) if options.csv else human(answers, flasknib.header)

@@ -4,8 +4,10 @@ import csv
 import io
 from typing import Container, Iterable, Iterator, List, NamedTuple, Sequence, Tuple
 
+from . import several
 from .common import REFUSED, Ended, many
-from .files import Input, shown
+from .files import shown
+from .runs import Progress
 
 SEPARATORS = "\t;,"  # the first of them that the head line has
 MOST_LINE = 100_000  # characters; a longer line is no row of numbers
@@ -88,9 +90,11 @@ class Sheet:
 
 
 @contextlib.contextmanager
-def opened(path: str) -> Iterator[Sheet]:
-    with io.TextIOWrapper(io.BufferedReader(Input(path)), "utf-8-sig", newline="") as text:
-        yield Sheet(text, shown(path))
+def opened(path: str, watch: bool = True) -> Iterator[Sheet]:
+    """A file of rows, of which a terminal shows how far it is read if `watch` says so."""
+    with several.watched(Progress([path])) if watch else contextlib.nullcontext():
+        with io.TextIOWrapper(several.reading(path), "utf-8-sig", newline="") as text:
+            yield Sheet(text, shown(path))
 
 
 def aligned(rows: Sequence[Tuple[str, ...]], right: Container[int]) -> Iterator[str]:
