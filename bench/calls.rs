@@ -179,7 +179,7 @@ fn table(sources: usize) {
 fn reading() {
     let bytes = compound::sample(MEDIA);
     let ours = || {
-        let mut found = [0; 24];
+        let mut found = [0; 25];
         let answer = library::read_compound(black_box(&bytes), MEDIA, black_box(0), &mut found);
         if answer == 0 { Ok(found) } else { Err(answer) }
     };

@@ -1,6 +1,6 @@
 //! The compound reader of document 01 in plain Rust.
 
-type Found = [u64; 24];
+type Found = [u64; 25];
 
 fn short(b: &[u8], at: usize) -> u64 {
     u64::from(u16::from_be_bytes([b[at], b[at + 1]]))
@@ -21,6 +21,7 @@ fn report_blocks(packet: &[u8], head: usize, count: usize, media: u64, found: &m
             let rest = [8, 12, 16, 20].map(|at| long(block, at));
             found[..3].copy_from_slice(&[1, u64::from(block[4]), lost as u64]);
             found[3..7].copy_from_slice(&rest);
+            found[24] = long(packet, 4);
         }
     }
     Ok(())
@@ -76,7 +77,7 @@ fn without_padding(packet: &[u8], last: bool) -> Result<&[u8], u8> {
     Ok(&packet[..packet.len() - count])
 }
 
-/// The 24 words about `media`, or a refusal; 3 is not given where `reduced` compounds are taken.
+/// The 25 words about `media`, or a refusal; 3 is not given where `reduced` compounds are taken.
 #[inline(always)]
 pub fn read(bytes: &[u8], media: u32, reduced: bool) -> Result<Found, u8> {
     if bytes.is_empty() {
@@ -85,7 +86,7 @@ pub fn read(bytes: &[u8], media: u32, reduced: bool) -> Result<Found, u8> {
     if bytes.len() > 65_507 {
         return Err(10);
     }
-    let (mut rest, mut found, media) = (bytes, [0; 24], u64::from(media));
+    let (mut rest, mut found, media) = (bytes, [0; 25], u64::from(media));
     while !rest.is_empty() {
         if rest.len() < 4 {
             return Err(1);

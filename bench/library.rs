@@ -63,7 +63,7 @@ pub fn count_block(source: &mut Source, records: &[u8]) -> i64 {
     unsafe { flasknib_count_block(source.as_mut_ptr(), source.len(), records.as_ptr(), records.len(), 8) }
 }
 
-pub fn read_compound(bytes: &[u8], media: u32, profile: u8, found: &mut [u64; 24]) -> u8 {
+pub fn read_compound(bytes: &[u8], media: u32, profile: u8, found: &mut [u64; 25]) -> u8 {
     unsafe { flasknib_read_compound(bytes.as_ptr(), bytes.len(), media, profile, found.as_mut_ptr(), found.len()) }
 }
 

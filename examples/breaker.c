@@ -111,10 +111,14 @@ static uint16_t packet(struct path *path, uint64_t time, const uint8_t *bytes, s
 {
     uint64_t found[FLASKNIB_COMPOUND_WORDS], call[FLASKNIB_CALL_WORDS], before[FLASKNIB_KEPT_WORDS];
     uint8_t refusal = flasknib_read_compound(bytes, length, MEDIA, FLASKNIB_PROFILE_REDUCED_SIZE, found, FLASKNIB_COMPOUND_WORDS);
+    uint32_t receiver;
     uint16_t answer;
 
     if (refusal != 0)
         return FLASKNIB_REFUSED + refusal;
+    receiver = flasknib_compound_receiver(found);
+    if (receiver != 0 && receiver != SENDER)
+        return FLASKNIB_GO; /* another receiver has a breaker and kept words of its own */
     memcpy(before, path->kept, sizeof before);
     refusal = flasknib_breaker_call(found, FLASKNIB_COMPOUND_WORDS, path->kept, FLASKNIB_KEPT_WORDS, call, FLASKNIB_CALL_WORDS);
     if (refusal != 0)

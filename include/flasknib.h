@@ -10,9 +10,10 @@
  * lent, with these exceptions: refusal 7 of flasknib_arrive and flasknib_sources_arrive changes the
  * remembered number of the record; and flasknib_feed and flasknib_feed_close keep the first refusal
  * 1, 13 or 14 of a trace, the rows before it written. A record in another number of words than its
- * layout has is refused with 9, as malformed, and so is a table with 16. What a call only fills may
- * be longer (but for flasknib_forms_start): it fills the front, and leaves the rest as it was. A
- * function that writes bytes says with refusal 12 how many it needs.
+ * layout has is refused with 9, as malformed, and so is a table with 16; so is one that a breaker,
+ * a run of ecntable or a conversion is to start in. What any other call only fills may be longer:
+ * it fills the front, and leaves the rest as it was. A function that writes bytes says with refusal
+ * 12 how many it needs.
  *
  * The comment above a function says what it does; what it gives if it is not refused; its refusals,
  * in the order in which they are looked for, so that of several the first is given; and what it
@@ -116,21 +117,26 @@ extern "C" {
  * flasknib_write_label 19.
  */
 enum {
-    FLASKNIB_REFUSAL_INCOMPLETE = 1,   /* the input is empty, or ends in the middle of a block or a header */
+    FLASKNIB_REFUSAL_INCOMPLETE = 1,   /* the input is empty, or ends in the middle of a block or a
+                                          header */
     FLASKNIB_REFUSAL_VERSION = 2,      /* the version in an RTCP header is not 2 */
     FLASKNIB_REFUSAL_FIRST_PACKET = 3, /* the first packet is no SR or RR */
-    FLASKNIB_REFUSAL_PACKET_SIZE = 4,  /* a packet passes the end, or does not have its body's size */
+    FLASKNIB_REFUSAL_PACKET_SIZE = 4,  /* a packet passes the end, or does not have its body's
+                                          size */
     FLASKNIB_REFUSAL_PADDING = 5,      /* the padding is wrong, or not in the last packet */
     FLASKNIB_REFUSAL_BLOCK_SIZE = 6,   /* an XR block passes its packet */
     FLASKNIB_REFUSAL_JUMP = 7,         /* the sequence number is too far from the highest: a jump */
     FLASKNIB_REFUSAL_FULL = 8,         /* 2^48 arrivals are counted */
     FLASKNIB_REFUSAL_MALFORMED = 9,    /* the record is malformed */
-    FLASKNIB_REFUSAL_LIMITS = 10,      /* a number, a label, records or a size is outside the limits */
+    FLASKNIB_REFUSAL_LIMITS = 10,      /* a number, a label, records or a size is outside the
+                                          limits */
     FLASKNIB_REFUSAL_TIME = 11,        /* the time is earlier than a call before it allows */
     FLASKNIB_REFUSAL_ROOM = 12,        /* the output is too small */
     FLASKNIB_REFUSAL_CHECKSUM = 13,    /* the block's checksum does not fit */
-    FLASKNIB_REFUSAL_CONTENTS = 14,    /* the block breaks the format, or has a wrong kind, form or SSRC for its place */
-    FLASKNIB_REFUSAL_PLACES = 15,      /* a source is new, and every place of the table is held (at most 16) */
+    FLASKNIB_REFUSAL_CONTENTS = 14,    /* the block breaks the format, or has a wrong kind, form or
+                                          SSRC for its place */
+    FLASKNIB_REFUSAL_PLACES = 15,      /* a source is new, and every place of the table is held (at
+                                          most 16) */
     FLASKNIB_REFUSAL_RULES = 16,       /* the table breaks its rules, or has over 16 places */
     FLASKNIB_REFUSAL_FORM_TWO = 17,    /* a time of 2^32 ms or more needs form 2 */
     FLASKNIB_REFUSAL_ATTRIBUTE = 18,   /* the attribute is malformed */
@@ -371,7 +377,7 @@ uint8_t flasknib_sources_place(const uint64_t *sources, size_t words, size_t pla
                                size_t found_words) FLASKNIB_MUST_USE_NONNULL;
 
 /* ---- compound RTCP ------------------------------------------------------------------------------
- * 24 words, the first of each kind of report about `media`, and a last one:
+ * 25 words, the first of each kind of report about `media`, and two more:
  *   0 whether there is a report block; 1 fraction lost, 2 cumulative lost (signed),
  *     3 extended highest, 4 jitter, 5 LSR, 6 DLSR
  *   7 whether there is ECN feedback; 8 sender SSRC, 9 highest, 10 ECT(0), 11 ECT(1), 12 CE,
@@ -379,9 +385,10 @@ uint8_t flasknib_sources_place(const uint64_t *sources, size_t words, size_t pla
  *  16 whether there is an ECN summary entry; 17 ECT(0), 18 ECT(1), 19 CE, 20 not-ECT, 21 lost,
  *     22 duplicates
  *  23 whether an SR or an RR is in the compound, with or without a block about `media`
- * What is absent is 0, and so are its fields.
+ *  24 the reporter of the report block: the SSRC of who sent the SR or RR in which it stands
+ * What is absent is 0, and so are its fields; without a report block word 24 is 0.
  */
-#define FLASKNIB_COMPOUND_WORDS 24
+#define FLASKNIB_COMPOUND_WORDS 25
 
 /* The places of the words. REPORT, FEEDBACK, SUMMARY and SR_OR_RR say whether it is there. */
 enum {
@@ -408,7 +415,8 @@ enum {
     FLASKNIB_COMPOUND_SUMMARY_NOT_ECT = 20,
     FLASKNIB_COMPOUND_SUMMARY_LOST = 21,
     FLASKNIB_COMPOUND_SUMMARY_DUPLICATES = 22,
-    FLASKNIB_COMPOUND_SR_OR_RR = 23
+    FLASKNIB_COMPOUND_SR_OR_RR = 23,
+    FLASKNIB_COMPOUND_REPORT_REPORTER = 24
 };
 
 /* The bytes of the longest compound; a longer one is refused with 10. */
@@ -423,12 +431,23 @@ enum { FLASKNIB_PROFILE_COMPOUND = 0, FLASKNIB_PROFILE_REDUCED_SIZE = 1 };
 
 /* Reads a compound, the payload of one UDP packet, for what it reports about the SSRC `media`. A
  * fault anywhere in the compound refuses all of it.
- * Gives 0, and 24 words.
+ * Gives 0, and 25 words.
  * Refusals: 10 for another profile than the two; 1 for no bytes; 10 for too many; the first of 1 to
  * 6, packet by packet; 12 if `found` has fewer words.
  * Changes the front of `found`. */
 uint8_t flasknib_read_compound(const uint8_t *bytes, size_t length, uint32_t media, uint8_t profile,
                                uint64_t *found, size_t words) FLASKNIB_MUST_USE_NONNULL;
+
+/* Of whom a packet is, by the 25 words that flasknib_read_compound gave of it: what is kept for
+ * flasknib_breaker_call is kept of each receiver apart.
+ * Gives the SSRC of the report block's reporter, or else of the feedback's sender; 0 if the packet
+ * has neither. */
+static inline FLASKNIB_MUST_USE_NONNULL uint32_t flasknib_compound_receiver(const uint64_t *found)
+{
+    if (found[FLASKNIB_COMPOUND_REPORT])
+        return FLASKNIB_AS(uint32_t, found[FLASKNIB_COMPOUND_REPORT_REPORTER]);
+    return FLASKNIB_AS(uint32_t, found[FLASKNIB_COMPOUND_FEEDBACK_SENDER]);
+}
 
 /* 3 words of what came between two ECN reports: packets lost (signed), packets marked with CE,
  * packets expected. */
@@ -589,9 +608,9 @@ static inline int flasknib_breaker_refusal(uint16_t answer)
  * section 4.3, with b = 1 and t_RTO = 4 * Tr), which reacts earlier if much is lost; without, the
  * simplified one.
  * Gives FLASKNIB_GO, and the record.
- * Refusals: 10, also for a `reduce` or `full` that is not 0 or 1; 12 if `breaker` has fewer than 77
- * words.
- * Changes the front of `breaker`. */
+ * Refusals: 9 for another number of words than 77; 10, also for a `reduce` or `full` that is not 0
+ * or 1.
+ * Changes `breaker`. */
 uint16_t flasknib_breaker_start(uint64_t k, uint64_t m, uint64_t timeout, uint8_t reduce,
                                 uint8_t full, uint64_t time, uint64_t *breaker, size_t words)
     FLASKNIB_MUST_USE_NONNULL;
@@ -625,8 +644,8 @@ static inline FLASKNIB_MUST_USE_NONNULL uint16_t flasknib_breaker_start_with(
 /* Starts a breaker with the preset settings: k = 3, m = 3, a timeout of 15,000 ms, no reductions,
  * the simplified equation.
  * Gives FLASKNIB_GO, and the record.
- * Refusals: 10 for a time of 2^48 ms or more; 12 if `breaker` has fewer than 77 words.
- * Changes the front of `breaker`. */
+ * Refusals: 9 for another number of words than 77; 10 for a time of 2^48 ms or more.
+ * Changes `breaker`. */
 uint16_t flasknib_breaker_start_preset(uint64_t time, uint64_t *breaker, size_t words)
     FLASKNIB_MUST_USE_NONNULL;
 
@@ -758,13 +777,14 @@ enum {
     FLASKNIB_WHICH_REPORT_ECN = 2
 };
 
-/* Says which call a packet is for, by the 24 words that flasknib_read_compound gave of it and the 4
- * words kept of its receiver. What the reader gave and an earlier call kept is never refused with
- * 9, and the breaker takes the losses that this call gives: time, round trip, packet size and rate
- * are the caller's. flasknib_breaker_take makes the call.
+/* Says which call a packet is for, by the 25 words that flasknib_read_compound gave of it and the 4
+ * words kept of its receiver: flasknib_compound_receiver says who that is. What the reader gave and
+ * an earlier call kept is never refused with 9, and the breaker takes the losses that this call
+ * gives: time, round trip, packet size and rate are the caller's. flasknib_breaker_take makes the
+ * call.
  * Gives 0, the 6 words of the call, and what is kept then.
  * Refusals: 9; 12 if `call` has fewer than 6 words. 9 is for
- *   - another number of words than 24 or 4; a word 0, 7, 16 or 23 of the compound, or a first one
+ *   - another number of words than 25 or 4; a word 0, 7, 16 or 23 of the compound, or a first one
  *     of what is kept, above 1;
  *   - if a report block is there, a fraction past 8 bits or a highest number past 32; if feedback
  *     is there, a highest number past 32 bits, CE or lost past 16; if a summary entry is there, CE
@@ -1081,8 +1101,8 @@ int64_t flasknib_write_refused(uint8_t number, uint64_t block, uint8_t *out, siz
 
 /* Takes block 0, which must be a label block of either form.
  * Gives 0, and 15 words.
- * Refusals: 1, 13 or 14 for the block (14 for arrivals too); 12 if `run` has fewer words.
- * Changes the front of `run`. */
+ * Refusals: 9 for another number of words; 1, 13 or 14 for the block (14 for arrivals too).
+ * Changes `run`. */
 uint8_t flasknib_run_start(const uint8_t *zeroth, size_t length, uint64_t *run, size_t words)
     FLASKNIB_MUST_USE_NONNULL;
 

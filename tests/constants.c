@@ -125,6 +125,11 @@ static void compound_words(void)
     CHECK(found[FLASKNIB_COMPOUND_SUMMARY_LOST] == 1);
     CHECK(found[FLASKNIB_COMPOUND_SUMMARY_DUPLICATES] == 1);
     CHECK(found[FLASKNIB_COMPOUND_SR_OR_RR] == 1);
+    CHECK(found[FLASKNIB_COMPOUND_REPORT_REPORTER] == SENDER);
+    found[FLASKNIB_COMPOUND_FEEDBACK_SENDER] = SENDER + 1;
+    CHECK(flasknib_compound_receiver(found) == SENDER);
+    found[FLASKNIB_COMPOUND_REPORT] = 0;
+    CHECK(flasknib_compound_receiver(found) == SENDER + 1);
 }
 
 /* The answer about a compound with one byte changed. */
@@ -279,7 +284,10 @@ static void breaker_words(void)
 {
     uint64_t breaker[FLASKNIB_BREAKER_WORDS + 1];
 
-    CHECK(flasknib_breaker_start(5, 6, 7000, 1, 0, 10, breaker, FLASKNIB_BREAKER_WORDS - 1) == FLASKNIB_REFUSED + FLASKNIB_REFUSAL_ROOM);
+    CHECK(flasknib_breaker_start(5, 6, 7000, 1, 0, 10, breaker, FLASKNIB_BREAKER_WORDS - 1) == FLASKNIB_REFUSED + FLASKNIB_REFUSAL_MALFORMED);
+    CHECK(flasknib_breaker_start(5, 6, 7000, 2, 0, 10, breaker, FLASKNIB_BREAKER_WORDS + 1) == FLASKNIB_REFUSED + FLASKNIB_REFUSAL_MALFORMED);
+    CHECK(flasknib_breaker_start_preset(10, breaker, FLASKNIB_BREAKER_WORDS - 1) == FLASKNIB_REFUSED + FLASKNIB_REFUSAL_MALFORMED);
+    CHECK(flasknib_breaker_start_preset(10, breaker, FLASKNIB_BREAKER_WORDS + 1) == FLASKNIB_REFUSED + FLASKNIB_REFUSAL_MALFORMED);
     CHECK(flasknib_breaker_start(5, 6, 7000, 1, 0, 10, breaker, FLASKNIB_BREAKER_WORDS) == FLASKNIB_GO);
     CHECK(flasknib_breaker_tick(breaker, FLASKNIB_BREAKER_WORDS - 1, 10) == FLASKNIB_REFUSED + FLASKNIB_REFUSAL_MALFORMED);
     breaker[FLASKNIB_BREAKER_WORDS] = 0;
@@ -439,7 +447,7 @@ static void named_settings(void)
     CHECK(flasknib_breaker_start_preset(10, plain, FLASKNIB_BREAKER_WORDS) == FLASKNIB_GO);
     CHECK(flasknib_breaker_start_with(flasknib_preset(), 10, named, FLASKNIB_BREAKER_WORDS) == FLASKNIB_GO);
     CHECK(memcmp(plain, named, sizeof plain) == 0);
-    CHECK(flasknib_breaker_start_with(settings, 10, named, FLASKNIB_BREAKER_WORDS - 1) == FLASKNIB_REFUSED + FLASKNIB_REFUSAL_ROOM);
+    CHECK(flasknib_breaker_start_with(settings, 10, named, FLASKNIB_BREAKER_WORDS - 1) == FLASKNIB_REFUSED + FLASKNIB_REFUSAL_MALFORMED);
 }
 
 enum { AT_LIMIT = 244948 }; /* bytes per second at which a quarter of the packets lost is just allowed, with 1,000 bytes each and 100 ms */
@@ -599,10 +607,11 @@ static void record_words(void)
 static void run_words(void)
 {
     uint8_t zeroth[FLASKNIB_BLOCK_BYTES], block[FLASKNIB_BLOCK_BYTES], row[FLASKNIB_ROW_MOST_BYTES];
-    uint64_t run[FLASKNIB_RUN_WORDS];
+    uint64_t run[FLASKNIB_RUN_WORDS + 1];
 
     CHECK(label_of(FLASKNIB_FORM_TWO, 3, zeroth, sizeof zeroth) == FLASKNIB_BLOCK_BYTES);
-    CHECK(flasknib_run_start(zeroth, sizeof zeroth, run, FLASKNIB_RUN_WORDS - 1) == FLASKNIB_REFUSAL_ROOM);
+    CHECK(flasknib_run_start(zeroth, sizeof zeroth, run, FLASKNIB_RUN_WORDS - 1) == FLASKNIB_REFUSAL_MALFORMED);
+    CHECK(flasknib_run_start(zeroth, 0, run, FLASKNIB_RUN_WORDS + 1) == FLASKNIB_REFUSAL_MALFORMED);
     CHECK(flasknib_run_start(zeroth, sizeof zeroth, run, FLASKNIB_RUN_WORDS) == 0);
     restarting(FLASKNIB_FORM_TWO, SSRC, 0, block);
     CHECK(flasknib_run_block(run, FLASKNIB_RUN_WORDS, zeroth, sizeof zeroth, block, sizeof block, row, sizeof row) > 0);

@@ -95,6 +95,8 @@ class Rtcp(Tried):
             for row, (payload, types, blocks) in zip(rows, lines):
                 wanted = next((block.split(",")[1:] for block in blocks.split() if block.startswith(f"{media},")), [""] * 6)
                 self.assertEqual([row[f"report_{each}"] for each in ("fraction", "lost", "highest", "jitter", "lsr", "dlsr")], wanted)
+                # GStreamer sends one SR or RR in a compound, in front: its sender stands behind the header.
+                self.assertEqual(row["report_reporter"], str(int(payload[8:16], 16)) if wanted[0] else "")
                 self.assertEqual(row["sr_or_rr"], str(int("200" in types.split() or "201" in types.split())))
                 self.assertEqual(int(row["bytes"]), len(payload) // 2)
                 seen += wanted[0] != ""

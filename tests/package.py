@@ -268,8 +268,9 @@ class Packets(Tried):
 
     def test_report_block(self):
         found = flasknib.read_compound(receiver_report(0x40FFFFFF, 70000, 5, 6, 7), 1)
-        self.assertEqual(found.report, flasknib.ReportBlock(fraction=64, lost=-1, highest=70000, jitter=5, lsr=6, dlsr=7))
+        self.assertEqual(found.report, flasknib.ReportBlock(fraction=64, lost=-1, highest=70000, jitter=5, lsr=6, dlsr=7, reporter=9))
         self.assertEqual((found.feedback, found.summary, found.sr_or_rr, len(found.words)), (None, None, True, header.COMPOUND_WORDS))
+        self.assertEqual(found.receiver, 9)
 
     def test_summary_entry(self):
         source = counted(C1)

@@ -59,7 +59,7 @@ SOURCES_MOST_PLACES = 16
 PLACE_SSRC = 0
 PLACE_SOURCE = 1
 SOURCES_COMPOUND_MOST_BYTES = 520
-COMPOUND_WORDS = 24
+COMPOUND_WORDS = 25
 COMPOUND_REPORT = 0
 COMPOUND_REPORT_FRACTION = 1
 COMPOUND_REPORT_LOST = 2
@@ -84,6 +84,7 @@ COMPOUND_SUMMARY_NOT_ECT = 20
 COMPOUND_SUMMARY_LOST = 21
 COMPOUND_SUMMARY_DUPLICATES = 22
 COMPOUND_SR_OR_RR = 23
+COMPOUND_REPORT_REPORTER = 24
 COMPOUND_MOST_BYTES = 65507
 PROFILE_COMPOUND = 0
 PROFILE_REDUCED_SIZE = 1
@@ -386,7 +387,7 @@ _read_compound = bind("flasknib_read_compound", u8, memory, usize, u32, u8, poin
 
 def read_compound(bytes: Buffer, media: int, profile: int, found: Words) -> int:
     """Reads a compound, the payload of one UDP packet, for what it reports about the SSRC `media`. A fault
-    anywhere in the compound refuses all of it. Gives 0, and 24 words. Refusals: 10 for another profile than
+    anywhere in the compound refuses all of it. Gives 0, and 25 words. Refusals: 10 for another profile than
     the two; 1 for no bytes; 10 for too many; the first of 1 to 6, packet by packet; 12 if `found` has fewer
     words. Changes the front of `found`."""
     media = fits(media, u32)
@@ -455,8 +456,8 @@ _breaker_start = bind("flasknib_breaker_start", u16, u64, u64, u64, u8, u8, u64,
 def breaker_start(k: int, m: int, timeout: int, reduce: int, full: int, time: int, breaker: Words) -> int:
     """Starts a breaker. With `full` the congestion rule takes the full throughput equation (RFC 8083, section
     4.3, with b = 1 and t_RTO = 4 * Tr), which reacts earlier if much is lost; without, the simplified one.
-    Gives FLASKNIB_GO, and the record. Refusals: 10, also for a `reduce` or `full` that is not 0 or 1; 12 if
-    `breaker` has fewer than 77 words. Changes the front of `breaker`."""
+    Gives FLASKNIB_GO, and the record. Refusals: 9 for another number of words than 77; 10, also for a
+    `reduce` or `full` that is not 0 or 1. Changes `breaker`."""
     k = fits(k, u64)
     m = fits(m, u64)
     timeout = fits(timeout, u64)
@@ -471,8 +472,8 @@ _breaker_start_preset = bind("flasknib_breaker_start_preset", u16, u64, pointer(
 
 def breaker_start_preset(time: int, breaker: Words) -> int:
     """Starts a breaker with the preset settings: k = 3, m = 3, a timeout of 15,000 ms, no reductions, the
-    simplified equation. Gives FLASKNIB_GO, and the record. Refusals: 10 for a time of 2^48 ms or more; 12 if
-    `breaker` has fewer than 77 words. Changes the front of `breaker`."""
+    simplified equation. Gives FLASKNIB_GO, and the record. Refusals: 9 for another number of words than 77;
+    10 for a time of 2^48 ms or more. Changes `breaker`."""
     time = fits(time, u64)
     return _breaker_start_preset(time, breaker, len(breaker))
 
@@ -541,17 +542,17 @@ _breaker_call = bind("flasknib_breaker_call", u8, pointer(u64), usize, pointer(u
 
 
 def breaker_call(found: Words, kept: Words, call: Words) -> int:
-    """Says which call a packet is for, by the 24 words that flasknib_read_compound gave of it and the 4 words
-    kept of its receiver. What the reader gave and an earlier call kept is never refused with 9, and the
-    breaker takes the losses that this call gives: time, round trip, packet size and rate are the caller's.
-    flasknib_breaker_take makes the call. Gives 0, the 6 words of the call, and what is kept then. Refusals:
-    9; 12 if `call` has fewer than 6 words. 9 is for - another number of words than 24 or 4; a word 0, 7, 16
-    or 23 of the compound, or a first one of what is kept, above 1; - if a report block is there, a fraction
-    past 8 bits or a highest number past 32; if feedback is there, a highest number past 32 bits, CE or lost
-    past 16; if a summary entry is there, CE or lost past 16; the same of what is kept; - kept words that are
-    not 0 if none is kept. No other word is looked at. Changes the front of `call`, and `kept`. If the breaker
-    then refuses the call, put the kept words back to what they were before, so that the next report counts
-    from there."""
+    """Says which call a packet is for, by the 25 words that flasknib_read_compound gave of it and the 4 words
+    kept of its receiver: flasknib_compound_receiver says who that is. What the reader gave and an earlier
+    call kept is never refused with 9, and the breaker takes the losses that this call gives: time, round
+    trip, packet size and rate are the caller's. flasknib_breaker_take makes the call. Gives 0, the 6 words of
+    the call, and what is kept then. Refusals: 9; 12 if `call` has fewer than 6 words. 9 is for - another
+    number of words than 25 or 4; a word 0, 7, 16 or 23 of the compound, or a first one of what is kept, above
+    1; - if a report block is there, a fraction past 8 bits or a highest number past 32; if feedback is there,
+    a highest number past 32 bits, CE or lost past 16; if a summary entry is there, CE or lost past 16; the
+    same of what is kept; - kept words that are not 0 if none is kept. No other word is looked at. Changes the
+    front of `call`, and `kept`. If the breaker then refuses the call, put the kept words back to what they
+    were before, so that the next report counts from there."""
     apart(kept, call, found)
     apart(call, found)
     return _breaker_call(found, len(found), kept, len(kept), call, len(call))
@@ -739,8 +740,8 @@ _run_start = bind("flasknib_run_start", u8, memory, usize, pointer(u64), usize)
 
 
 def run_start(zeroth: Buffer, run: Words) -> int:
-    """Takes block 0, which must be a label block of either form. Gives 0, and 15 words. Refusals: 1, 13 or 14
-    for the block (14 for arrivals too); 12 if `run` has fewer words. Changes the front of `run`."""
+    """Takes block 0, which must be a label block of either form. Gives 0, and 15 words. Refusals: 9 for
+    another number of words; 1, 13 or 14 for the block (14 for arrivals too). Changes `run`."""
     lent_zeroth = read(zeroth)
     apart(run, lent_zeroth)
     return _run_start(lent_zeroth, len(lent_zeroth), run, len(run))

@@ -18,7 +18,10 @@ class Profile(enum.IntEnum):
 
 
 class ReportBlock(NamedTuple):
-    """A report block of an SR or an RR."""
+    """A report block of an SR or an RR.
+
+    reporter   the SSRC of who sent that SR or RR
+    """
 
     fraction: int
     lost: int
@@ -26,6 +29,7 @@ class ReportBlock(NamedTuple):
     jitter: int
     lsr: int
     dlsr: int
+    reporter: int
 
 
 class Feedback(NamedTuple):
@@ -72,6 +76,13 @@ class Compound(NamedTuple):
     sr_or_rr: bool
     words: Tuple[int, ...]
 
+    @property
+    def receiver(self) -> Optional[int]:
+        """Of whom the packet is: the SSRC of the report block's reporter, or else of the feedback's sender; None without either."""
+        if self.report:
+            return self.report.reporter
+        return self.feedback.sender if self.feedback else None
+
 
 def places(record: str, names: Iterable[str]) -> Callable[[Sequence[int]], Tuple[int, ...]]:
     """Takes the words of a report by their names in the header."""
@@ -105,8 +116,8 @@ def read_compound(packet: Buffer, media: int, profile: int = Profile.REDUCED_SIZ
     >>> found = flasknib.read_compound(sources.compound(sender=9), media=1)
     >>> found.feedback
     Feedback(sender=9, highest=17, ect0=0, ect1=0, ce=1, not_ect=0, lost=0, duplicates=0)
-    >>> found.report, found.sr_or_rr
-    (None, True)
+    >>> found.report, found.sr_or_rr, found.receiver
+    (None, True, 9)
     """
     found = (u64 * header.COMPOUND_WORDS)()
     accepted(header.read_compound(packet, media, profile, found))

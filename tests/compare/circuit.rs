@@ -8,7 +8,7 @@ use model::breaker::*;
 pub fn calls(compare: &Compare, draw: &Draw) {
     for _ in 0..40_000 {
         let settings = any_settings(draw);
-        let mut breaker = Lent::new(&vec![draw.u64(); draw.room(WORDS)]);
+        let mut breaker = Lent::new(&vec![draw.u64(); draw.sized(WORDS)]);
         start(compare, &mut breaker, settings, draw.astray(0, TIMES - 1));
     }
     for _ in 0..120_000 {

@@ -58,9 +58,14 @@ fn step(words: &mut [u64], call: impl Fn(&mut Breaker) -> Result<Answer, Refusal
     }))
 }
 
-/// The answer to a start, and its record at the front of `words`.
-fn started(breaker: Result<Breaker, Refusal>, words: &mut [u64]) -> u16 {
-    match put_words(breaker.map(|breaker| breaker.to_words()), words) {
+/// What starts in `words`, which it fills, and 0; or 9 for another number of words, or its refusal.
+fn put_started<const N: usize>(start: impl FnOnce() -> Result<[u64; N], Refusal>, words: &mut [u64]) -> u8 {
+    put_words(require(words.len() == N, MALFORMED).and_then(|()| start()), words)
+}
+
+/// The answer to the start of a breaker, and its record in `words`.
+fn started(start: impl FnOnce() -> Result<Breaker, Refusal>, words: &mut [u64]) -> u16 {
+    match put_started(|| start().map(|breaker| breaker.to_words()), words) {
         0 => GO,
         refusal => REFUSED + u16::from(refusal),
     }
@@ -162,12 +167,12 @@ impl Calls for Expected {
 
     fn breaker_start(&self, settings: Settings, time: u64, words: &mut [u64]) -> u16 {
         let Settings { k, m, timeout, reduce, full } = settings;
-        started(Breaker::start(k, m, timeout, reduce, full, time), words)
+        started(|| Breaker::start(k, m, timeout, reduce, full, time), words)
     }
 
     /// Document 01, "The breaker": k = 3, m = 3, t = 15,000 ms, no reduction.
     fn breaker_start_preset(&self, time: u64, words: &mut [u64]) -> u16 {
-        started(Breaker::start(3, 3, 15_000, 0, 0, time), words)
+        started(|| Breaker::start(3, 3, 15_000, 0, 0, time), words)
     }
 
     fn breaker_report(&self, words: &mut [u64], report: &Report) -> u16 {
@@ -278,7 +283,7 @@ impl Calls for Expected {
 
     fn run_start(&self, zeroth: &[u8], words: &mut [u64]) -> u8 {
         let mut run = Run::default();
-        put_words(run.block(zeroth).map(|_| run.to_words()), words)
+        put_started(|| run.block(zeroth).map(|_| run.to_words()), words)
     }
 
     fn run_block(&self, words: &mut [u64], zeroth: &[u8], block: &[u8], out: &mut [u8]) -> i64 {

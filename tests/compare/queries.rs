@@ -15,7 +15,7 @@ pub fn calls(compare: &Compare, draw: &Draw) {
         refusal_text(compare, draw);
     }
     for _ in 0..5_000 {
-        let mut words = Lent::new(&vec![draw.u64(); draw.room(breaker::WORDS)]);
+        let mut words = Lent::new(&vec![draw.u64(); draw.sized(breaker::WORDS)]);
         let time = draw.astray(0, breaker::TIMES - 1);
         compare.call("flasknib_breaker_start_preset", &mut words, |calls, words| {
             i64::from(calls.breaker_start_preset(time, words.part_mut()))

@@ -38,9 +38,9 @@ fn read_back(compare: &Compare, draw: &Draw) {
     let profile = draw.below(2) as u8;
     let (answer, found) = read(compare, &[&RR[..], &feedback, &XR, &summary].concat(), media, profile, &[9; WORDS]);
     let counters = counters(&source);
-    let presence = (found[0], found[7], found[16], found[23]);
+    let presence = (found[0], found[7], found[16], found[23], found[24]);
     let heads = (found[8], found[9]) == (u64::from(sender), source[1] % (1 << 32));
-    let read = presence == (0, 1, 1, 1) && heads && found[10..16] == counters && found[17..23] == counters;
+    let read = presence == (0, 1, 1, 1, 0) && heads && found[10..16] == counters && found[17..23] == counters;
     compare.hold(answer == 0 && read, &format!("the reports of {source:?} read back as {found:?}"));
 }
 

@@ -12,7 +12,7 @@ const MOST: usize = 1_228;
 
 pub fn calls(compare: &Compare, draw: &Draw) {
     for _ in 0..20_000 {
-        start(compare, &blocks::any(draw), &vec![draw.u64(); draw.room(WORDS)]);
+        start(compare, &blocks::any(draw), &vec![draw.u64(); draw.sized(WORDS)]);
         single(compare, draw);
     }
     for _ in 0..1_500 {

@@ -93,6 +93,11 @@ impl Draw {
         }
     }
 
+    /// How many words are lent for a record of `need` words: those, or now and then others.
+    pub fn sized(&self, need: usize) -> usize {
+        if self.one_in(8) { self.room(need) } else { need }
+    }
+
     /// Rooms for the same output in turn, which needs `need`, not 0: one as above, or none, one short, just enough and one more.
     pub fn rooms(&self, need: usize) -> Vec<usize> {
         if self.one_in(5) {

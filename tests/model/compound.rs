@@ -3,13 +3,15 @@
 use crate::bytes::{u16_at, u32_at};
 use crate::refusal::*;
 
-pub const WORDS: usize = 24;
+pub const WORDS: usize = 25;
 pub const MOST_BYTES: usize = 65_507;
 
 /// The fields of the first report of each kind, in the order of the header's words.
 #[derive(Default)]
 pub struct Found {
     pub report_block: Option<[u64; 6]>,
+    /// The SSRC of who sent the SR or RR of that block.
+    pub reporter: u32,
     pub feedback: Option<[u64; 8]>,
     pub summary: Option<[u64; 6]>,
     /// An SR or an RR is there, about whomever.
@@ -46,6 +48,7 @@ impl Found {
         item(self.feedback.as_ref().map(|fields| &fields[..]), 8);
         item(self.summary.as_ref().map(|fields| &fields[..]), 6);
         words.push(u64::from(self.has_report_packet));
+        words.push(u64::from(self.reporter));
         words
     }
 }
@@ -106,6 +109,7 @@ fn read_report_blocks(packet: &[u8], before: usize, count: usize, media: u32, fo
             let lost = (u32_at(block, 4) << 8) as i32 >> 8;
             let field = |at| u64::from(u32_at(block, at));
             found.report_block = Some([u64::from(block[4]), i64::from(lost) as u64, field(8), field(12), field(16), field(20)]);
+            found.reporter = u32_at(packet, 4);
         }
     }
     Ok(())

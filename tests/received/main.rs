@@ -86,6 +86,8 @@ fn is_right(line: &Line, media: u32, profile: u8) -> bool {
         if let Some((_, fields)) = line.blocks.iter().find(|block| block.0 == media) {
             words[0] = 1;
             words[1..7].copy_from_slice(fields);
+            // GStreamer sends one SR or RR in a compound, in front: what stands behind its header is who reports.
+            words[24] = u64::from(u32::from_be_bytes(line.payload[4..8].try_into().unwrap()));
         }
         words[23] = u64::from(line.kinds.iter().any(is_report));
     }

@@ -95,7 +95,7 @@ CallInLimits = (c : Compound) (earlier : MaybeKept) → fractionFits (c .report)
 abbrev pub someBlock : Compound
 someBlock =
     record {
-      report = MaybeReport.Present (record { fraction = 255; lost = pos 9; highest = 70000; jitter = 0; lsr = 0; dlsr = 0 });
+      report = MaybeReport.Present (record { fraction = 255; lost = pos 9; highest = 70000; jitter = 0; lsr = 0; dlsr = 0; reporter = 0 });
       feedback = MaybeFeedback.Absent;
       summary = MaybeSummary.Absent;
       reporting = true;

@@ -1,11 +1,11 @@
 -- A run in lent words, or refusal 9, and how long its row is. Assumes nothing.
-use mathlib.Core.Path.{_≡_, refl, ap, subst₂}
+use mathlib.Core.Path.{_≡_, refl, ap, subst₂, _∙_}
 use mathlib.Core.Bool.{Bool, true, false, cond, _&&_}
 use mathlib.Core.List.{List}
 use mathlib.Core.Option.{none}
 use Prim.Native.Nat.{ℕ, _^_, _≤_, _<_}
 use native.Mathlib.Omega.{arith}
-use borrow.Author.Tests.{ltb-true}
+use borrow.Author.Tests.{eq-eqb, ne-eqb, ltb-true}
 use lib.Dec.{eqb, ltb}
 use lib.IntN.{ℤ, pos, negℤ}
 use lib.ListN.{length, getD}
@@ -18,7 +18,8 @@ use Rattle.numbers.proofs.BigEndian.{Octets}
 use Rattle.table.specs.Theorems.{rowMost}
 use Rattle.walk.specs.Steps.{Next, goes, refuses, faultIn, Stepped}
 use Rattle.convert.specs.declared.Run.{Run}
-use Rattle.convert.specs.Runs.{rowIn, soundRun, nextOf, callNext}
+use Rattle.convert.specs.declared.Begin.{Begin}
+use Rattle.convert.specs.Runs.{startOf, rowIn, soundRun, nextOf, callNext}
 use Rattle.convert.proofs.Kept.{good, next-good, next-ssrc, row-long}
 use Rattle.lent.specs.declared.run_words.Loaded.the-variants.{Held, Malformed}
 use Rattle.lent.specs.RunWords.{recordIn, runWith, runWords, loaded}
@@ -27,8 +28,22 @@ use Rattle.lent.specs.SourceWords.{isSource}
 use Rattle.lent.proofs.RunLaws.{held, other}
 use Rattle.capi.specs.Codes.{lengthCode, Leaves}
 use Rattle.capi.specs.StepCalls.{wordsAfter, Takes}
-use Rattle.capi.specs.RunCalls.{runNext, TakesBlock}
+use Rattle.capi.specs.RunCalls.{starts, startCode, startWords, StartsRun, runNext, TakesBlock}
 use Rattle.capi.proofs.StepLaws.{takes-step, takes-none}
+
+-- ---- block 0
+
+module _ (zeroth words : List ℕ) {r : ℕ} where
+  pub starts-other : (length words ≡ 15 → ⊥) → r ≡ 9 → StartsRun zeroth words r words
+  unfolding starts
+  starts-other n e = let t = ne-eqb (length words) 15 n in record { answers = rw t e; stores = rw t }
+
+  pub starts-begun : {b : Begin} {left : List ℕ} → length words ≡ 15 → b ≡ startOf zeroth → r ≡ startCode b → left ≡ startWords words b
+      → StartsRun zeroth words r left
+  unfolding starts
+  starts-begun n w e k =
+      let t = eq-eqb (length words) 15 n in
+      record { answers = rw t (e ∙ ap startCode w); stores = rw t (k ∙ ap (startWords words) w) }
 
 -- ---- the call on the run in the words
 

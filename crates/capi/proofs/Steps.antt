@@ -1,26 +1,22 @@
 -- Laws of what the breaker's functions give and leave. Assumes nothing.
 use mathlib.Core.Path.{_≡_, refl, sym, ap, subst, _∙_}
-use mathlib.Core.Bool.{true, false, not, false≢true}
+use mathlib.Core.Bool.{true, false, not}
 use mathlib.Core.List.{List}
-use mathlib.Core.Option.{none}
 use Prim.Native.Nat.{ℕ}
-use borrow.Author.Tests.{eqb-true}
+use borrow.Author.Tests.{eqb-true, eq-eqb, ne-eqb}
 use lib.Dec.{eqb}
 use lib.ListN.{length}
 use lib.Seq.{sets}
 use Rattle.answers.specs.declared.Refusal.the-variants.{Malformed}
 use Rattle.answers.specs.Conditions.{all}
 use Rattle.answers.proofs.Conditions.{cond-ends, cond-goes, and-left}
-use Rattle.answers.proofs.Stores.{wrote-refused}
 use Rattle.breaker.specs.declared.Step.{Step}
-use Rattle.breaker.specs.declared.Answer.{Answer}
-use Rattle.breaker.specs.declared.Answer.the-variants.{Go, Reduce, Stop, Refused}
+use Rattle.breaker.specs.declared.Answer.the-variants.{Refused}
 use Rattle.breaker.specs.Runs.{Call, called}
 use Rattle.lent.specs.BreakerWords.{breakerWords, breakerOf, wordsFit}
 use Rattle.lent.proofs.Pairs.{length-breaker}
-use Rattle.capi.specs.Codes.{Gives, Leaves}
-use Rattle.capi.specs.BreakerCalls.{answerCode, isRefused, refusalIn, isRecord, callAnswer, leftBy, callLeft, TakesCall, startCode, PutsStart}
-use Rattle.capi.proofs.Answers.{gives}
+use Rattle.capi.specs.Codes.{Leaves}
+use Rattle.capi.specs.BreakerCalls.{answerCode, isRefused, isRecord, callAnswer, leftBy, callLeft, TakesCall, startAnswer, startLeft, PutsStart}
 use Rattle.capi.proofs.Fronts.{sets-whole}
 
 -- ---- a report, a tick and a heard packet
@@ -52,19 +48,23 @@ back-stored s old e n p k = cond-goes _ _ _ _ e (k ∙ sets-whole old (breakerWo
 
 -- ---- a start
 
--- a refused start
-pub start-refused : (a : Answer) (new old : List ℕ) {r : ℕ} → isRefused a ≡ true → r ≡ answerCode a → Gives startCode (refusalIn a) new old r old
-start-refused Go new old e h = absurd (false≢true e)
-start-refused Reduce new old e h = absurd (false≢true e)
-start-refused (Stop reason) new old e h = absurd (false≢true e)
-start-refused (Refused refusal) new old e h = gives startCode (wrote-refused new old refl) h
+-- another number of words
+pub start-other : (s : Step) (old : List ℕ) {r : ℕ} → (length old ≡ 77 → ⊥) → r ≡ answerCode (Refused Malformed) → PutsStart s old r old
+unfolding startAnswer startLeft
+start-other s old n h =
+    let e = ne-eqb (length old) 77 n in
+    record { answers = cond-goes _ _ _ _ e h; stores = cond-goes _ _ _ _ e refl }
 
--- and any other
-pub no-refusal : (a : Answer) → isRefused a ≡ false → refusalIn a ≡ none
-no-refusal Go e = refl
-no-refusal Reduce e = refl
-no-refusal (Stop reason) e = refl
-no-refusal (Refused refusal) e = absurd (false≢true (sym e))
+-- 77 of them, and the start gives s
+pub start-made : {s s′ : Step} (old : List ℕ) {r : ℕ} {left : List ℕ} → length old ≡ 77 → s ≡ s′ → Leaves (answerCode (s .answer)) (leftBy s old) r left
+    → PutsStart s′ old r left
+unfolding startAnswer startLeft
+start-made old n e h =
+    let t = eq-eqb (length old) 77 n in
+    record {
+      answers = cond-ends _ _ _ _ t (h .answers ∙ ap (λ (s : Step). answerCode (s .answer)) e);
+      stores = cond-ends _ _ _ _ t (h .stores ∙ ap (λ (s : Step). leftBy s old) e);
+    }
 
 -- what is proved of one start holds of one that is equal
 pub start-is : {s s′ : Step} (old : List ℕ) {r : ℕ} {left : List ℕ} → s ≡ s′ → PutsStart s old r left → PutsStart s′ old r left

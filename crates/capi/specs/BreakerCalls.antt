@@ -3,16 +3,12 @@ use mathlib.Core.Path.{_≡_}
 use Prim.Native.Nat.{ℕ, _+_}
 use mathlib.Core.Bool.{Bool, true, false, _&&_, not, cond}
 use mathlib.Core.List.{List}
-use mathlib.Core.Option.{Option, none, some}
 use lib.Dec.{leb, eqb}
 use lib.IntN.{ℤ}
 use lib.ListN.{length}
-use Rattle.answers.specs.declared.Refusal.{Refusal}
 use Rattle.answers.specs.declared.Refusal.the-variants.{Malformed}
-use Rattle.answers.specs.declared.Written.{Written}
-use Rattle.answers.specs.declared.Written.the-variants as writer
 use Rattle.answers.specs.Conditions.{all}
-use Rattle.answers.specs.Refusals.{numberOf, roomNumber}
+use Rattle.answers.specs.Refusals.{numberOf}
 use Rattle.breaker.specs.declared.Answer.{Answer}
 use Rattle.breaker.specs.declared.Answer.the-variants.{Go, Reduce, Stop, Refused}
 use Rattle.breaker.specs.declared.Loss.{Loss}
@@ -24,7 +20,7 @@ use Rattle.breaker.specs.Runs.{Call, report, tick, heard, called}
 use Rattle.breaker.specs.Theorems.{numberFits}
 use Rattle.lent.specs.declared.breaker_words.Loaded.{Loaded}
 use Rattle.lent.specs.BreakerWords.{breakerWords, breakerOf, wordsFit}
-use Rattle.capi.specs.Codes.{Gives, Leaves}
+use Rattle.capi.specs.Codes.{Leaves}
 
 -- 0 Go, 1 Reduce, 256 and a stop's reason, 512 and a refusal's number
 abbrev pub answerCode : Answer → ℕ
@@ -39,11 +35,9 @@ isRefused Reduce = false
 isRefused (Stop reason) = false
 isRefused (Refused refusal) = true
 
-abbrev pub refusalIn : Answer → Option Refusal
-refusalIn Go = none
-refusalIn Reduce = none
-refusalIn (Stop reason) = none
-refusalIn (Refused refusal) = some refusal
+-- a refused call leaves the words as they were; any other leaves those of the next record
+abbrev pub leftBy : Step → List ℕ → List ℕ
+leftBy s old = cond (isRefused (s .answer)) old (breakerWords (s .breaker))
 
 -- ---- flasknib_breaker_start, flasknib_breaker_start_preset
 
@@ -54,21 +48,22 @@ starts k m timeout reduce full time =
     (cond (not (leb full 1)) unstarted
     (startOf (record { k = k; m = m; timeout = timeout; reduce = eqb reduce 1; full = eqb full 1 }) time))
 
--- Go, or the refusal
-abbrev pub startCode : Written → ℕ
-startCode (writer.Length n) = answerCode Go
-startCode (writer.Room n) = 512 + roomNumber
-startCode (writer.Refused refusal) = answerCode (Refused refusal)
+-- another number of words than 77 is refused with 9, before everything else
+unfoldable pub startAnswer : Step → List ℕ → ℕ
+startAnswer s old = cond (eqb (length old) 77) (answerCode (s .answer)) (answerCode (Refused Malformed))
 
--- the step of a start: its refusal, 12; or Go and the record's 77 words
+unfoldable pub startLeft : Step → List ℕ → List ℕ
+startLeft s old = cond (eqb (length old) 77) (leftBy s old) old
+
+-- the step of a start: 9, its refusal; or Go and the record's 77 words
 abbrev pub PutsStart : Step → List ℕ → ℕ → List ℕ → Type 0
 PutsStart s old r out =
-    Gives startCode
-    (refusalIn (s .answer))
-    (breakerWords (s .breaker))
-    old r out
+    Leaves
+    (startAnswer s old)
+    (startLeft s old)
+    r out
 
--- "The breaker", a start: 10, 12; or Go and the record's 77 words
+-- "The breaker", a start: 9, 10; or Go and the record's 77 words
 abbrev pub StartsBreaker : ℕ → ℕ → ℕ → ℕ → ℕ → ℕ → List ℕ → ℕ → List ℕ → Type 0
 StartsBreaker k m timeout reduce full time old r out = PutsStart (starts k m timeout reduce full time) old r out
 
@@ -90,10 +85,6 @@ unfoldable pub callAnswer : Call → List ℕ → ℕ
 callAnswer c old =
     cond (not (isRecord old)) (answerCode (Refused Malformed))
     (answerCode (called (breakerOf old) c .answer))
-
--- a refused call leaves the words as they were; any other leaves those of the next record
-abbrev pub leftBy : Step → List ℕ → List ℕ
-leftBy s old = cond (isRefused (s .answer)) old (breakerWords (s .breaker))
 
 unfoldable pub callLeft : Call → List ℕ → List ℕ
 callLeft c old =

@@ -35,7 +35,7 @@ abbrev pub readingWords : Reading → List ℕ
 readingWords (Reading.Refused refusal) = []
 readingWords (Reading.Read c) = compoundWords c
 
--- flasknib_read_compound ("Packets", the compound reader): 10 for the profile, 1 if empty, 10, then the first fault of the scan, 12; or 0 and 24
+-- flasknib_read_compound ("Packets", the compound reader): 10 for the profile, 1 if empty, 10, then the first fault of the scan, 12; or 0 and 25
 -- words
 abbrev pub ReadsCompound : List ℕ → ℕ → ℕ → List ℕ → ℕ → List ℕ → Type 0
 ReadsCompound bytes media profile old r found =

@@ -4,7 +4,6 @@ ghost use lib.ListN.{length};
 ghost use Rattle.capi.specs.Codes.{Leaves};
 ghost use Rattle.breaker.specs.declared.Loss.the-variants.{Fraction};
 ghost use Rattle.capi.specs.BreakerCalls.{answerCode, isRefused, recordIn, leftBy, PutsStart, StartsBreaker, StartsPreset, countsGiven, TakesReport, TakesTick, TakesHeard};
-use answers::ROOM;
 use answers::Refusal;
 use breaker::Answer;
 use breaker::Breaker;
@@ -71,23 +70,7 @@ fn put_back(step: Step, words: &mut [u64]) -> u16
     code(answer)
 }
 
-// Stores the record of a start at the front of the words, if there are enough, and gives the number of Go or of the refusal.
-fn put_front(step: Step, words: &mut [u64]) -> u16
-    ensures { λ r. ⌜ PutsStart step (now (words .entry)) r (now (words .exit)) ⌝ }
-{
-    let answer = step.answer;
-    let next = step.breaker;
-    if is_refused(answer) {
-        return code(answer);
-    }
-    if words.len() < breaker_words::WORDS {
-        return REFUSED + ROOM as u16;
-    }
-    breaker_words::store(next, words);
-    code(Answer::Go)
-}
-
-// Starts a breaker: Go and the record at the front of `breaker`, or refusal 10, or 12 where there are fewer than 77 words.
+// Starts a breaker: Go and the record in the 77 words of `breaker`, or refusal 9 for another number of words, or 10.
 #[no_mangle]
 pub extern "C" fn flasknib_breaker_start(
     k: u64,
@@ -100,6 +83,9 @@ pub extern "C" fn flasknib_breaker_start(
 ) -> u16
     ensures { λ r. ⌜ StartsBreaker k m timeout reduce full time (now (breaker .entry)) r (now (breaker .exit)) ⌝ }
 {
+    if breaker.len() != breaker_words::WORDS {
+        return code(Answer::Refused(Refusal::Malformed));
+    }
     if 1 < reduce {
         return code(Answer::Refused(Refusal::Limits));
     }
@@ -113,15 +99,26 @@ pub extern "C" fn flasknib_breaker_start(
         reduce: reduce == 1,
         full: full == 1,
     };
-    put_front(Breaker::start(settings, time), breaker)
+    put_back(Breaker::start(settings, time), breaker)
 }
 
-// Starts a breaker with the preset settings: Go and the record at the front of `breaker`, or refusal 10 or 12.
+// Stores the record of a start in its place of 77 words, and gives the number of Go or of the refusal, 9 for another number of words.
+fn put_start(step: Step, place: &mut [u64]) -> u16
+    ensures { λ r. ⌜ PutsStart step (now (place .entry)) r (now (place .exit)) ⌝ }
+{
+    if place.len() != breaker_words::WORDS {
+        let refused = Answer::Refused(Refusal::Malformed);
+        return code(refused);
+    }
+    put_back(step, place)
+}
+
+// Starts a breaker with the preset settings: Go and the record in the 77 words of `breaker`, or refusal 9 for another number of words, or 10.
 #[no_mangle]
 pub extern "C" fn flasknib_breaker_start_preset(time: u64, breaker: &mut [u64]) -> u16
     ensures { λ r. ⌜ StartsPreset time (now (breaker .entry)) r (now (breaker .exit)) ⌝ }
 {
-    put_front(Breaker::start_preset(time), breaker)
+    put_start(Breaker::start_preset(time), breaker)
 }
 
 // A report on the record in `breaker`: the answer, and the next record in its place.

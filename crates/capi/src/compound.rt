@@ -27,7 +27,7 @@ fn read_by(bytes: &[u8], media: u32, profile: u8) -> Reading
     rtcp::read_compound(bytes, media, profile_of(profile))
 }
 
-// Reads a compound by the profile 0, RFC 3550's, or 1, which takes reduced-size ones too. Gives 0 and 24 words at the front of `found`, or the
+// Reads a compound by the profile 0, RFC 3550's, or 1, which takes reduced-size ones too. Gives 0 and 25 words at the front of `found`, or the
 // refusal, 10 for another profile before all others; 12 where `found` has fewer words.
 #[no_mangle]
 pub extern "C" fn flasknib_read_compound(

@@ -7,7 +7,7 @@ use lent::call_words;
 use lent::compound_words;
 use lent::kept_words;
 
-// The call for the packet in the 24 words that flasknib_read_compound gave, where `kept` is of its receiver. Gives 0, 6 words at the front of `call`,
+// The call for the packet in the 25 words that flasknib_read_compound gave, where `kept` is of its receiver. Gives 0, 6 words at the front of `call`,
 // and what is kept then in the place of what was; or refusal 9 for other words, or 12 where `call` has fewer.
 #[no_mangle]
 pub extern "C" fn flasknib_breaker_call(found: &[u64], kept: &mut [u64], call: &mut [u64]) -> u8

@@ -8,7 +8,6 @@ ghost use Rattle.capi.specs.RunCalls.{StartsRun, TakesBlock};
 ghost use Rattle.capi.specs.StepCalls.{wordsAfter};
 ghost use Rattle.lent.specs.RunWords.{runWords};
 use crate::codes;
-use answers::ROOM;
 use answers::Refusal;
 use answers::Written;
 use convert::Begin;
@@ -17,16 +16,16 @@ use convert::Step;
 use lent::run_words;
 use lent::run_words::Loaded;
 
-// Takes block 0. Gives 0 and 15 words at the front of `run`, or refusal 1, 13 or 14, or 12 where `run` has fewer words.
+// Takes block 0. Gives 0 and the run in the 15 words of `run`, or refusal 9 for another number of words, or 1, 13 or 14.
 #[no_mangle]
 pub extern "C" fn flasknib_run_start(zeroth: &[u8], run: &mut [u64]) -> u8
     ensures { λ r. ⌜ StartsRun (now (zeroth .entry)) (now (run .entry)) r (now (run .exit)) ⌝ }
 {
+    if run.len() != run_words::WORDS {
+        return Refusal::Malformed.number();
+    }
     match Run::start(zeroth) {
         Begin::Started(first) => {
-            if run.len() < run_words::WORDS {
-                return ROOM;
-            }
             run_words::store(first, run);
             0
         }

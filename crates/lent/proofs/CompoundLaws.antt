@@ -14,8 +14,8 @@ use Rattle.rtcp.specs.declared.Compound.{Compound}
 use Rattle.between.specs.declared.calls.MaybeKept.{MaybeKept}
 use Rattle.between.specs.PacketCalls.{keptAfter, callOf, callFor}
 use Rattle.lent.specs.BreakerWords.{flag}
-use Rattle.lent.specs.CompoundWords.{reportWords, feedbackWords, summaryWords, compoundWords, reportOf, feedbackOf, summaryOf, compoundOf}
-use Rattle.lent.specs.CompoundWords.{reportFits, feedbackFits, summaryFits, isCompound, loaded, typedReport, typedFeedback, typedSummary, SameCall, someCompound, SomeTyped}
+use Rattle.lent.specs.CompoundWords.{reportWords, feedbackWords, summaryWords, reporterOf, compoundWords, reportOf, feedbackOf, summaryOf, compoundOf}
+use Rattle.lent.specs.CompoundWords.{reportFits, feedbackFits, summaryFits, isCompound, loaded, typedReport, typedFeedback, typedSummary, SameCall, ReporterLast, someCompound, SomeTyped}
 use Rattle.lent.specs.declared.compound_words.Loaded.the-variants.{Held, Malformed}
 use Rattle.lent.proofs.Parts.{length-compound}
 
@@ -54,17 +54,18 @@ module _ (earlier : MaybeKept) (b : Bool) where
     feedback : feedbackFits (compoundWords (made r f s)) ≡ typedFeedback f
     summary : summaryFits (compoundWords (made r f s)) ≡ typedSummary s
     last : getD (compoundWords (made r f s)) 23 0 ≡ flag b
+    reporter : getD (compoundWords (made r f s)) 24 0 ≡ reporterOf r
 
   parts : (r : MaybeReport) (f : MaybeFeedback) (s : MaybeSummary) → Seen r f s
-  unfolding compoundWords reportWords feedbackWords summaryWords reportFits feedbackFits summaryFits callOf keptAfter
-  parts (MaybeReport.Present r) (MaybeFeedback.Present f) (MaybeSummary.Present s) = record { call = refl; report = refl; feedback = refl; summary = refl; last = refl }
-  parts (MaybeReport.Present r) (MaybeFeedback.Present f) MaybeSummary.Absent = record { call = refl; report = refl; feedback = refl; summary = refl; last = refl }
-  parts (MaybeReport.Present r) MaybeFeedback.Absent (MaybeSummary.Present s) = record { call = refl; report = refl; feedback = refl; summary = refl; last = refl }
-  parts (MaybeReport.Present r) MaybeFeedback.Absent MaybeSummary.Absent = record { call = refl; report = refl; feedback = refl; summary = refl; last = refl }
-  parts MaybeReport.Absent (MaybeFeedback.Present f) (MaybeSummary.Present s) = record { call = refl; report = refl; feedback = refl; summary = refl; last = refl }
-  parts MaybeReport.Absent (MaybeFeedback.Present f) MaybeSummary.Absent = record { call = refl; report = refl; feedback = refl; summary = refl; last = refl }
-  parts MaybeReport.Absent MaybeFeedback.Absent (MaybeSummary.Present s) = record { call = refl; report = refl; feedback = refl; summary = refl; last = refl }
-  parts MaybeReport.Absent MaybeFeedback.Absent MaybeSummary.Absent = record { call = refl; report = refl; feedback = refl; summary = refl; last = refl }
+  unfolding compoundWords reportWords feedbackWords summaryWords reporterOf reportFits feedbackFits summaryFits callOf keptAfter
+  parts (MaybeReport.Present r) (MaybeFeedback.Present f) (MaybeSummary.Present s) = record { call = refl; report = refl; feedback = refl; summary = refl; last = refl; reporter = refl }
+  parts (MaybeReport.Present r) (MaybeFeedback.Present f) MaybeSummary.Absent = record { call = refl; report = refl; feedback = refl; summary = refl; last = refl; reporter = refl }
+  parts (MaybeReport.Present r) MaybeFeedback.Absent (MaybeSummary.Present s) = record { call = refl; report = refl; feedback = refl; summary = refl; last = refl; reporter = refl }
+  parts (MaybeReport.Present r) MaybeFeedback.Absent MaybeSummary.Absent = record { call = refl; report = refl; feedback = refl; summary = refl; last = refl; reporter = refl }
+  parts MaybeReport.Absent (MaybeFeedback.Present f) (MaybeSummary.Present s) = record { call = refl; report = refl; feedback = refl; summary = refl; last = refl; reporter = refl }
+  parts MaybeReport.Absent (MaybeFeedback.Present f) MaybeSummary.Absent = record { call = refl; report = refl; feedback = refl; summary = refl; last = refl; reporter = refl }
+  parts MaybeReport.Absent MaybeFeedback.Absent (MaybeSummary.Present s) = record { call = refl; report = refl; feedback = refl; summary = refl; last = refl; reporter = refl }
+  parts MaybeReport.Absent MaybeFeedback.Absent MaybeSummary.Absent = record { call = refl; report = refl; feedback = refl; summary = refl; last = refl; reporter = refl }
 
 flag-back : (b : Bool) → (eqb (flag b) 1 ≡ b) × (leb (flag b) 1 ≡ true)
 flag-back true = (refl, refl)
@@ -77,8 +78,13 @@ same-call c earlier t =
     let p = parts earlier (c .reporting) (c .report) (c .feedback) (c .summary) in
     let last = ap (λ (n : ℕ). leb n 1) (p .last) ∙ flag-back (c .reporting) .1 in
     let reporting : eqb (getD ws 23 0) 1 ≡ c .reporting = ap (λ (n : ℕ). eqb n 1) (p .last) ∙ flag-back (c .reporting) .0 in
-    let fits : isCompound ws ≡ true = rw (eq-eqb (length ws) 24 (length-compound c), p .report ∙ t .report, p .feedback ∙ t .feedback, p .summary ∙ t .summary, last) in
+    let fits : isCompound ws ≡ true = rw (eq-eqb (length ws) 25 (length-compound c), p .report ∙ t .report, p .feedback ∙ t .feedback, p .summary ∙ t .summary, last) in
     (fits, ap (λ (b : Bool). callFor (seen earlier b ws) earlier) reporting ∙ p .call)
+
+pub reporter-last : ReporterLast
+reporter-last c =
+    let p = parts MaybeKept.Absent (c .reporting) (c .report) (c .feedback) (c .summary) in
+    record { words = length-compound c; reporting = p .last; reporter = p .reporter }
 
 pub some-typed : SomeTyped
 some-typed = record { report = refl; feedback = refl; summary = refl }
@@ -86,4 +92,5 @@ some-typed = record { report = refl; feedback = refl; summary = refl }
 used : Unit {0}
 used =
     let call = same-call someCompound MaybeKept.Absent some-typed in
+    let last = reporter-last someCompound in
     tt

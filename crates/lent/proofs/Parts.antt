@@ -3,7 +3,7 @@ use mathlib.Core.Path.{_≡_, refl, sym, ap, ap₂, _∙_}
 use mathlib.Core.List.{List, [], _∷_, _++_}
 use Prim.Native.Nat.{ℕ, _+_}
 use native.Mathlib.Omega.{arith}
-use lib.ListN.{length, set, length-append}
+use lib.ListN.{length, length-append}
 use lib.Seq.{sets}
 use Rattle.answers.proofs.Stores.{sets-append}
 use Rattle.rtcp.specs.declared.MaybeReport.{MaybeReport}
@@ -11,7 +11,7 @@ use Rattle.rtcp.specs.declared.MaybeFeedback.{MaybeFeedback}
 use Rattle.rtcp.specs.declared.MaybeSummary.{MaybeSummary}
 use Rattle.rtcp.specs.declared.Compound.{Compound}
 use Rattle.lent.specs.BreakerWords.{flag}
-use Rattle.lent.specs.CompoundWords.{reportWords, feedbackWords, summaryWords, compoundWords}
+use Rattle.lent.specs.CompoundWords.{reportWords, feedbackWords, summaryWords, reporterOf, compoundWords}
 
 length-report : (x : MaybeReport) → length (reportWords x) ≡ 7
 unfolding reportWords
@@ -39,20 +39,20 @@ module _ (c : Compound) where
   length-three : length (front ++ summaryWords (c .summary)) ≡ 23
   length-three = length-append front (summaryWords (c .summary)) ∙ ap₂ (λ (x y : ℕ). x + y) length-front (length-summary (c .summary))
 
-  pub length-compound : length (compoundWords c) ≡ 24
+  pub length-compound : length (compoundWords c) ≡ 25
   unfolding compoundWords
-  length-compound = length-append (front ++ summaryWords (c .summary)) (flag (c .reporting) ∷ []) ∙ ap (λ (x : ℕ). x + 1) length-three
+  length-compound = length-append (front ++ summaryWords (c .summary)) (flag (c .reporting) ∷ reporterOf (c .report) ∷ []) ∙ ap (λ (x : ℕ). x + 2) length-three
 
 -- the parts stored one after the other
 pub four-runs : (l : List ℕ) (c : Compound)
-    → set (sets (sets (sets l 0 (reportWords (c .report))) 7 (feedbackWords (c .feedback))) 16 (summaryWords (c .summary))) 23 (flag (c .reporting))
+    → sets (sets (sets (sets l 0 (reportWords (c .report))) 7 (feedbackWords (c .feedback))) 16 (summaryWords (c .summary))) 23 (flag (c .reporting) ∷ reporterOf (c .report) ∷ [])
     ≡ sets l 0 (compoundWords c)
 unfolding compoundWords
 four-runs l c =
     let r = reportWords (c .report) in
     let f = feedbackWords (c .feedback) in
     let s = summaryWords (c .summary) in
-    let g = flag (c .reporting) ∷ [] in
+    let g = flag (c .reporting) ∷ reporterOf (c .report) ∷ [] in
     let m : 0 + length r ≡ 7 = omega (arith, length-report (c .report)) in
     let n : 0 + length (r ++ f) ≡ 16 = omega (arith, length-front c) in
     let k : 0 + length (r ++ f ++ s) ≡ 23 = omega (arith, length-three c) in

@@ -1,4 +1,4 @@
--- What a compound says of one source (document 01, "Packets"; document 02, L4) as 24 words, in the order of include/flasknib.h.
+-- What a compound says of one source (document 01, "Packets"; document 02, L4) as 25 words, in the order of include/flasknib.h.
 use mathlib.Core.Path.{_≡_}
 use mathlib.Core.Bool.{Bool, true, cond, _&&_}
 use mathlib.Core.List.{List, [], _∷_, _++_}
@@ -36,16 +36,22 @@ unfoldable pub summaryWords : MaybeSummary → List ℕ
 summaryWords (MaybeSummary.Present counts) = 1 ∷ countWords counts
 summaryWords MaybeSummary.Absent = replicate 7 0
 
--- the last word: whether an SR or an RR is in the compound
-unfoldable pub compoundWords : Compound → List ℕ
-compoundWords c = reportWords (c .report) ++ feedbackWords (c .feedback) ++ summaryWords (c .summary) ++ (flag (c .reporting) ∷ [])
+-- the SSRC of who sent the report block, or 0 if there is none
+unfoldable pub reporterOf : MaybeReport → ℕ
+reporterOf (MaybeReport.Present x) = x .reporter
+reporterOf MaybeReport.Absent = 0
 
--- ---- the compound in 24 words, as far as the breaker's call for a packet looks at it (specs/PacketCalls of `between`); what plays no part is 0
+-- the last two words: whether an SR or an RR is in the compound, and the reporter
+unfoldable pub compoundWords : Compound → List ℕ
+compoundWords c =
+    reportWords (c .report) ++ feedbackWords (c .feedback) ++ summaryWords (c .summary) ++ (flag (c .reporting) ∷ reporterOf (c .report) ∷ [])
+
+-- ---- the compound in 25 words, as far as the breaker's call for a packet looks at it (specs/PacketCalls of `between`); what plays no part is 0
 
 abbrev pub reportOf : List ℕ → MaybeReport
 reportOf ws =
     cond (eqb (getD ws 0 0) 1)
-    (MaybeReport.Present (record { fraction = getD ws 1 0; lost = pos 0; highest = getD ws 3 0; jitter = 0; lsr = 0; dlsr = 0 }))
+    (MaybeReport.Present (record { fraction = getD ws 1 0; lost = pos 0; highest = getD ws 3 0; jitter = 0; lsr = 0; dlsr = 0; reporter = 0 }))
     MaybeReport.Absent
 
 abbrev pub feedbackOf : List ℕ → MaybeFeedback
@@ -86,7 +92,7 @@ abbrev pub wordsFit : List ℕ → List Bool
 wordsFit ws = reportFits ws ∷ feedbackFits ws ∷ summaryFits ws ∷ leb (getD ws 23 0) 1 ∷ []
 
 abbrev pub isCompound : List ℕ → Bool
-isCompound ws = eqb (length ws) 24 && all (wordsFit ws)
+isCompound ws = eqb (length ws) 25 && all (wordsFit ws)
 
 unfoldable pub loaded : List ℕ → Loaded
 loaded ws = cond (isCompound ws) (Held (compoundOf ws)) Malformed
@@ -119,12 +125,21 @@ SameCall =
     (c : Compound) (earlier : MaybeKept) → Typed c
     → (isCompound (compoundWords c) ≡ true) × (callFor (compoundOf (compoundWords c)) earlier ≡ callFor c earlier)
 
+-- the reporter is the last of the words, whatever the others are, and the SR or RR stands before it
+pub record LastWords (c : Compound) : Type 0 where
+  pub words : length (compoundWords c) ≡ 25
+  pub reporting : getD (compoundWords c) 23 0 ≡ flag (c .reporting)
+  pub reporter : getD (compoundWords c) 24 0 ≡ reporterOf (c .report)
+
+abbrev pub ReporterLast : Type 0
+ReporterLast = (c : Compound) → LastWords c
+
 -- a packet with a report block, feedback and a summary entry, each number that plays a part the greatest
 abbrev pub someCompound : Compound
 someCompound =
     let counts : Counts = record { ect0 = 1; ect1 = 2; ce = 2 ^ 16 - 1; notect = 3; lost = 2 ^ 16 - 1; duplicates = 4 } in
     record {
-      report = MaybeReport.Present (record { fraction = 255; lost = negsuc 0; highest = 2 ^ 32 - 1; jitter = 5; lsr = 6; dlsr = 7 });
+      report = MaybeReport.Present (record { fraction = 255; lost = negsuc 0; highest = 2 ^ 32 - 1; jitter = 5; lsr = 6; dlsr = 7; reporter = 8 });
       feedback = MaybeFeedback.Present (record { sender = 9; highest = 2 ^ 32 - 1; counts = counts });
       summary = MaybeSummary.Present counts;
       reporting = true;

@@ -1,4 +1,4 @@
-// What a compound says of one source, as 24 words; and back, as far as the breaker's call for a packet looks at it.
+// What a compound says of one source, as 25 words; and back, as far as the breaker's call for a packet looks at it.
 ghost use mathlib.Core.Path.{_≡_};
 ghost use mathlib.Core.Bool.{true};
 ghost use lib.Seq.{sets};
@@ -6,10 +6,9 @@ ghost use lib.ListN.{getD};
 ghost use Rattle.answers.specs.Conditions.{all};
 ghost use Rattle.between.specs.PacketCalls.{countersGiven};
 ghost use Rattle.lent.specs.Widths.{countsFit};
-ghost use Rattle.lent.specs.CompoundWords.{reportWords, feedbackWords, summaryWords, compoundWords};
+ghost use Rattle.lent.specs.CompoundWords.{reportWords, feedbackWords, summaryWords, reporterOf, compoundWords};
 ghost use Rattle.lent.specs.CompoundWords.{reportFits, feedbackFits, summaryFits, wordsFit, reportOf, feedbackOf, summaryOf, compoundOf, loaded};
 use crate::access::complement;
-use crate::access::put;
 use crate::access::put_all;
 use crate::access::word_at;
 use crate::widths::FRACTIONS;
@@ -26,7 +25,7 @@ use rtcp::MaybeSummary;
 use rtcp::ReportBlock;
 
 // The words of a compound.
-pub const WORDS: usize = 24;
+pub const WORDS: usize = 25;
 
 // A compound taken from words, or that they are no compound's.
 pub enum Loaded {
@@ -34,7 +33,7 @@ pub enum Loaded {
     Malformed,
 }
 
-// The report block: that there is one, and its six fields.
+// The report block: that there is one, and its fields but for the reporter.
 fn report_in(report: MaybeReport) -> [u64; 7]
     ensures { λ r. ⌜ r ≡ reportWords report ⌝ }
 {
@@ -93,6 +92,16 @@ fn summary_in(summary: MaybeSummary) -> [u64; 7]
     }
 }
 
+// The SSRC of who sent the report block, or 0 if there is none.
+fn reporter_in(report: MaybeReport) -> u32
+    ensures { λ r. ⌜ r ≡ reporterOf report ⌝ }
+{
+    match report {
+        MaybeReport::Present(x) => x.reporter,
+        MaybeReport::Absent => 0,
+    }
+}
+
 // Stores the words of c, as far as there are places.
 pub fn store(c: Compound, words: &mut [u64])
     ensures { λ _. ⌜ now (words .exit) ≡ sets (now (words .entry)) 0 (compoundWords c) ⌝ }
@@ -100,13 +109,14 @@ pub fn store(c: Compound, words: &mut [u64])
     let report = c.report;
     let feedback = c.feedback;
     let summary = c.summary;
+    let last = [c.reporting as u64, reporter_in(report) as u64];
     let report = report_in(report);
     let feedback = feedback_in(feedback);
     let summary = summary_in(summary);
     put_all(&report, words, 0);
     put_all(&feedback, words, 7);
     put_all(&summary, words, 16);
-    put(c.reporting as u64, words, 23);
+    put_all(&last, words, 23);
 }
 
 // Whether there is no report block, or one whose fraction and highest number have their widths.
@@ -190,6 +200,7 @@ fn report_of(words: &[u64]) -> MaybeReport
         jitter: 0,
         lsr: 0,
         dlsr: 0,
+        reporter: 0,
     })
 }
 
@@ -237,7 +248,7 @@ fn compound_of(words: &[u64]) -> Compound
     }
 }
 
-// The compound in 24 words, as far as the breaker's call looks at it: another number of words, a yes-or-no word above 1, and a word that plays a part
+// The compound in 25 words, as far as the breaker's call looks at it: another number of words, a yes-or-no word above 1, and a word that plays a part
 // and is past its width are no compound's. What plays no part is 0.
 pub fn load(words: &[u64]) -> Loaded
     ensures { λ r. ⌜ r ≡ loaded (now (words .entry)) ⌝ }

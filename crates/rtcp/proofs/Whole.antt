@@ -1,7 +1,7 @@
 -- A packet without a fault is whole, with its padding and its body inside. Assumes nothing.
 use Prim.Native.Nat.{ℕ, _+_, _-_, _*_, _≤_}
 use mathlib.Core.Path.{_≡_, refl, _∙_}
-use mathlib.Core.Bool.{Bool, true, false}
+use mathlib.Core.Bool.{Bool, true, false, cond}
 use mathlib.Core.List.{List, [], _∷_}
 use native.Mathlib.Omega.{arith}
 use borrow.Author.Tests.{leb-true, eqb-true}
@@ -11,7 +11,7 @@ use Rattle.answers.specs.Conditions.{all}
 use Rattle.answers.proofs.Conditions.{cond-ends, all-true, and-left}
 use Rattle.rtcp.specs.declared.Profile.{Profile}
 use Rattle.rtcp.specs.declared.Verdict.{Verdict}
-use Rattle.rtcp.specs.Layout.{rtpfb, xr, ecnFeedback, reportSize, feedbackSize}
+use Rattle.rtcp.specs.Layout.{sr, rtpfb, xr, ecnFeedback, srHead, rrHead, reportSize, feedbackSize}
 use Rattle.rtcp.specs.declared.header.Header.{Header}
 use Rattle.rtcp.specs.Header.{padding}
 use Rattle.rtcp.specs.Packets.{Check, must, firstFault, isReport, blocksFrom, isFeedback, paddingRules, paddingRight, bodyRight, packetChecks, packetVerdict, bodyEnd, Sound}
@@ -37,6 +37,15 @@ module _ (h : Header) where
   not-report : h .kind ≡ rtpfb → isReport h ≡ false
   unfolding isReport
   not-report e = rw e
+
+  -- the header and the SSRC of who sent it stand before the report blocks
+  pub blocks-behind : 8 ≤ blocksFrom h
+  unfolding blocksFrom
+  blocks-behind = go (eqb (h .kind) sr)
+    where
+      go : (t : Bool) → 8 ≤ cond t srHead rrHead
+      go true = omega arith
+      go false = omega arith
 
 module _ (h : Header) (b : List ℕ) (at : ℕ) where
   -- ---- padding that is right leaves the header

@@ -25,6 +25,10 @@ ecnSummary = 13
 abbrev pub header : ℕ
 header = 4
 
+-- where the SSRC of who sent a packet stands in it: in the word behind the header
+abbrev pub sender : ℕ
+sender = 4
+
 -- what stands before the report blocks of an SR and an RR and before the blocks of an XR packet
 abbrev pub srHead : ℕ
 srHead = 28

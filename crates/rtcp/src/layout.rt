@@ -18,6 +18,9 @@ pub const VERSION: u8 = 2;
 
 pub const HEADER: usize = 4;
 
+// Where the SSRC of who sent a packet stands in it.
+pub const SENDER: usize = 4;
+
 pub const COMPOUND_MOST: usize = 65507;
 
 // What stands before the report blocks of an SR and an RR and before the blocks of an XR packet.

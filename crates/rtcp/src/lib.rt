@@ -27,7 +27,8 @@ mod layout;
 mod packet;
 mod reports;
 
-// The report block of an SR or RR about one source (RFC 3550, section 6.4.1). The cumulative lost has 24 bits and is signed.
+// The report block of an SR or RR about one source (RFC 3550, section 6.4.1). The cumulative lost has 24 bits and is signed. The reporter is the
+// SSRC of who sent that SR or RR.
 pub struct ReportBlock {
     pub fraction: u8,
     pub lost: i32,
@@ -35,6 +36,7 @@ pub struct ReportBlock {
     pub jitter: u32,
     pub lsr: u32,
     pub dlsr: u32,
+    pub reporter: u32,
 }
 
 // The ECN feedback packet about one source (RFC 6679, section 5.1).

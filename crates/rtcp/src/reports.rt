@@ -17,6 +17,7 @@ use crate::fields::number16;
 use crate::fields::number32;
 use crate::header::Header;
 use crate::layout::REPORT_BLOCK;
+use crate::layout::SENDER;
 use crate::packet::blocks_from;
 use crate::packet::is_report;
 
@@ -32,9 +33,10 @@ fn signed24(b: &[u8], at: usize) -> i32
     n as i32 - 16777216
 }
 
-fn report_block_at(b: &[u8], at: usize) -> ReportBlock
-    requires { ⌜ at + 24 ≤ length (now b) ⌝ }
-    ensures { λ r. ⌜ r ≡ reportBlock (now (b .entry)) at ⌝ }
+// The report block at `at` in the SR or RR at `packet`.
+fn report_block_at(b: &[u8], packet: usize, at: usize) -> ReportBlock
+    requires { ⌜ (packet + 8 ≤ length (now b)) × (at + 24 ≤ length (now b)) ⌝ }
+    ensures { λ r. ⌜ r ≡ reportBlock (now (b .entry)) packet at ⌝ }
 {
     ReportBlock {
         fraction: byte(b, at + 4),
@@ -43,6 +45,7 @@ fn report_block_at(b: &[u8], at: usize) -> ReportBlock
         jitter: number32(b, at + 12),
         lsr: number32(b, at + 16),
         dlsr: number32(b, at + 20),
+        reporter: number32(b, packet + SENDER),
     }
 }
 
@@ -57,7 +60,7 @@ fn report_in(b: &[u8], at: usize, header: Header, media: u32) -> MaybeReport
     let from = at + blocks_from(header);
     let place = find_entry(b, from, REPORT_BLOCK, header.count as usize, media);
     match place {
-        Place::At(entry) => MaybeReport::Present(report_block_at(b, entry)),
+        Place::At(entry) => MaybeReport::Present(report_block_at(b, at, entry)),
         Place::Absent => MaybeReport::Absent,
     }
 }

@@ -35,6 +35,7 @@ fn show_block(r: ReportBlock) {
     show::number(r.jitter as u64);
     show::number(r.lsr as u64);
     show::number(r.dlsr as u64);
+    show::number(r.reporter as u64);
 }
 
 fn show_report(report: MaybeReport) {

@@ -52,7 +52,7 @@ pub const SOURCES_MOST_PLACES: usize = 16;
 pub const PLACE_SSRC: usize = 0;
 pub const PLACE_SOURCE: usize = 1;
 pub const SOURCES_COMPOUND_MOST_BYTES: usize = 520;
-pub const COMPOUND_WORDS: usize = 24;
+pub const COMPOUND_WORDS: usize = 25;
 pub const COMPOUND_REPORT: usize = 0;
 pub const COMPOUND_REPORT_FRACTION: usize = 1;
 pub const COMPOUND_REPORT_LOST: usize = 2;
@@ -77,6 +77,7 @@ pub const COMPOUND_SUMMARY_NOT_ECT: usize = 20;
 pub const COMPOUND_SUMMARY_LOST: usize = 21;
 pub const COMPOUND_SUMMARY_DUPLICATES: usize = 22;
 pub const COMPOUND_SR_OR_RR: usize = 23;
+pub const COMPOUND_REPORT_REPORTER: usize = 24;
 pub const COMPOUND_MOST_BYTES: usize = 65507;
 pub const PROFILE_COMPOUND: usize = 0;
 pub const PROFILE_REDUCED_SIZE: usize = 1;
@@ -411,7 +412,7 @@ pub fn sources_place(sources: &[u64], place: usize, found: &mut [u64]) -> u8 {
 }
 
 /// Reads a compound, the payload of one UDP packet, for what it reports about the SSRC `media`. A fault
-/// anywhere in the compound refuses all of it. Gives 0, and 24 words. Refusals: 10 for another profile than
+/// anywhere in the compound refuses all of it. Gives 0, and 25 words. Refusals: 10 for another profile than
 /// the two; 1 for no bytes; 10 for too many; the first of 1 to 6, packet by packet; 12 if `found` has fewer
 /// words. Changes the front of `found`.
 pub fn read_compound(bytes: &[u8], media: u32, profile: u8, found: &mut [u64]) -> u8 {
@@ -449,15 +450,15 @@ pub fn lost_since(later: u16, earlier: u16) -> i16 {
 
 /// Starts a breaker. With `full` the congestion rule takes the full throughput equation (RFC 8083, section
 /// 4.3, with b = 1 and t_RTO = 4 * Tr), which reacts earlier if much is lost; without, the simplified one.
-/// Gives FLASKNIB_GO, and the record. Refusals: 10, also for a `reduce` or `full` that is not 0 or 1; 12 if
-/// `breaker` has fewer than 77 words. Changes the front of `breaker`.
+/// Gives FLASKNIB_GO, and the record. Refusals: 9 for another number of words than 77; 10, also for a
+/// `reduce` or `full` that is not 0 or 1. Changes `breaker`.
 pub fn breaker_start(k: u64, m: u64, timeout: u64, reduce: u8, full: u8, time: u64, breaker: &mut [u64]) -> u16 {
     unsafe { raw::flasknib_breaker_start(k, m, timeout, reduce, full, time, breaker.as_mut_ptr(), breaker.len()) }
 }
 
 /// Starts a breaker with the preset settings: k = 3, m = 3, a timeout of 15,000 ms, no reductions, the
-/// simplified equation. Gives FLASKNIB_GO, and the record. Refusals: 10 for a time of 2^48 ms or more; 12 if
-/// `breaker` has fewer than 77 words. Changes the front of `breaker`.
+/// simplified equation. Gives FLASKNIB_GO, and the record. Refusals: 9 for another number of words than 77;
+/// 10 for a time of 2^48 ms or more. Changes `breaker`.
 pub fn breaker_start_preset(time: u64, breaker: &mut [u64]) -> u16 {
     unsafe { raw::flasknib_breaker_start_preset(time, breaker.as_mut_ptr(), breaker.len()) }
 }
@@ -495,17 +496,17 @@ pub fn breaker_heard(breaker: &mut [u64], time: u64) -> u16 {
     unsafe { raw::flasknib_breaker_heard(breaker.as_mut_ptr(), breaker.len(), time) }
 }
 
-/// Says which call a packet is for, by the 24 words that flasknib_read_compound gave of it and the 4 words
-/// kept of its receiver. What the reader gave and an earlier call kept is never refused with 9, and the
-/// breaker takes the losses that this call gives: time, round trip, packet size and rate are the caller's.
-/// flasknib_breaker_take makes the call. Gives 0, the 6 words of the call, and what is kept then. Refusals:
-/// 9; 12 if `call` has fewer than 6 words. 9 is for - another number of words than 24 or 4; a word 0, 7, 16
-/// or 23 of the compound, or a first one of what is kept, above 1; - if a report block is there, a fraction
-/// past 8 bits or a highest number past 32; if feedback is there, a highest number past 32 bits, CE or lost
-/// past 16; if a summary entry is there, CE or lost past 16; the same of what is kept; - kept words that are
-/// not 0 if none is kept. No other word is looked at. Changes the front of `call`, and `kept`. If the breaker
-/// then refuses the call, put the kept words back to what they were before, so that the next report counts
-/// from there.
+/// Says which call a packet is for, by the 25 words that flasknib_read_compound gave of it and the 4 words
+/// kept of its receiver: flasknib_compound_receiver says who that is. What the reader gave and an earlier
+/// call kept is never refused with 9, and the breaker takes the losses that this call gives: time, round
+/// trip, packet size and rate are the caller's. flasknib_breaker_take makes the call. Gives 0, the 6 words of
+/// the call, and what is kept then. Refusals: 9; 12 if `call` has fewer than 6 words. 9 is for - another
+/// number of words than 25 or 4; a word 0, 7, 16 or 23 of the compound, or a first one of what is kept, above
+/// 1; - if a report block is there, a fraction past 8 bits or a highest number past 32; if feedback is there,
+/// a highest number past 32 bits, CE or lost past 16; if a summary entry is there, CE or lost past 16; the
+/// same of what is kept; - kept words that are not 0 if none is kept. No other word is looked at. Changes the
+/// front of `call`, and `kept`. If the breaker then refuses the call, put the kept words back to what they
+/// were before, so that the next report counts from there.
 pub fn breaker_call(found: &[u64], kept: &mut [u64], call: &mut [u64]) -> u8 {
     unsafe { raw::flasknib_breaker_call(found.as_ptr(), found.len(), kept.as_mut_ptr(), kept.len(), call.as_mut_ptr(), call.len()) }
 }
@@ -607,8 +608,8 @@ pub fn write_refused(number: u8, block: u64, out: &mut [u8]) -> i64 {
     unsafe { raw::flasknib_write_refused(number, block, out.as_mut_ptr(), out.len()) }
 }
 
-/// Takes block 0, which must be a label block of either form. Gives 0, and 15 words. Refusals: 1, 13 or 14
-/// for the block (14 for arrivals too); 12 if `run` has fewer words. Changes the front of `run`.
+/// Takes block 0, which must be a label block of either form. Gives 0, and 15 words. Refusals: 9 for another
+/// number of words; 1, 13 or 14 for the block (14 for arrivals too). Changes `run`.
 pub fn run_start(zeroth: &[u8], run: &mut [u64]) -> u8 {
     unsafe { raw::flasknib_run_start(zeroth.as_ptr(), zeroth.len(), run.as_mut_ptr(), run.len()) }
 }

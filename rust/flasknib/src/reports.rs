@@ -22,6 +22,8 @@ pub struct ReportBlock {
     pub jitter: u32,
     pub lsr: u32,
     pub dlsr: u32,
+    /// The SSRC of who sent that SR or RR.
+    pub reporter: u32,
 }
 
 /// An ECN feedback packet.
@@ -74,6 +76,11 @@ impl Compound {
         self.0[header::COMPOUND_SR_OR_RR] != 0
     }
 
+    /// Of whom the packet is: the SSRC of the report block's reporter, or else of the feedback's sender; `None` without either.
+    pub fn receiver(&self) -> Option<u32> {
+        self.report().map(|report| report.reporter).or(self.feedback().map(|feedback| feedback.sender))
+    }
+
     /// The first report block about the source.
     pub fn report(&self) -> Option<ReportBlock> {
         let word = |place: usize| self.0[place];
@@ -84,6 +91,7 @@ impl Compound {
             jitter: word(header::COMPOUND_REPORT_JITTER) as u32,
             lsr: word(header::COMPOUND_REPORT_LSR) as u32,
             dlsr: word(header::COMPOUND_REPORT_DLSR) as u32,
+            reporter: word(header::COMPOUND_REPORT_REPORTER) as u32,
         })
     }
 

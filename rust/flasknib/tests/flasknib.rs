@@ -133,6 +133,7 @@ fn what_a_packet_says() {
     let report = read.report().unwrap();
     assert_eq!((report.fraction, report.lost, report.highest), (64, -1, 70000));
     assert_eq!((report.jitter, report.lsr, report.dlsr, read.feedback(), read.words().len()), (5, 6, 7, None, header::COMPOUND_WORDS));
+    assert_eq!((report.reporter, read.receiver()), (9, Some(9)));
     let extended = [&receiver_report(None)[..], &[0x80, 0xCF, 0, 7, 0, 0, 0, 9], &counted(&C1).summary(1).unwrap()].concat();
     let summary = read_compound(&extended, 1, Profile::Compound).unwrap().summary().unwrap();
     assert_eq!((summary.ect0, summary.ect1, summary.ce, summary.not_ect, summary.lost, summary.duplicates), (2, 1, 2, 0, 2, 1));

@@ -1,45 +1,44 @@
 -- `capi::runs::flasknib_run_start` meets its contract. Assumes nothing.
 use borrow.Author.Needs.{needs}
-use mathlib.Core.Path.{refl, sym, ap, _∙_}
-use native.Mathlib.Omega.{arith}
+use mathlib.Core.Path.{sym, ap, _∙_}
 use denote.Ref.{now}
-use Rattle.answers.proofs.Stores.{wrote-refused, wrote-short, wrote-all}
-use Rattle.convert.specs.Runs.{startOf}
 use Rattle.lent.specs.RunWords.{runWords}
 use Rattle.lent.proofs.RunLaws.{length-run}
-use Rattle.capi.specs.Codes.{refusalCode}
-use Rattle.capi.specs.RunCalls.{startFault, startWords}
-use Rattle.capi.proofs.Answers.{gives}
+use Rattle.capi.specs.RunCalls.{startCode, startWords}
+use Rattle.capi.proofs.Fronts.{sets-whole}
+use Rattle.capi.proofs.RunSteps.{starts-other, starts-begun}
 use Rattle.capi.proofs.runs.flasknib_run_start.Statement.{statement}
 use Rattle.capi.proofs.runs.flasknib_run_start.Tie as tie
 
 returns : tie.Need-returns
 returns c =
-    let a = c .before .before .before .before .before .before .before .args in
-    let g = c .before .before .first .given in
-    let told = sym (c .before .before .before .before .start .ensures) ∙ g .1 in
-    rw told (gives refusalCode (wrote-short (runWords (g .0 .0)) (now (a .run)) refl (omega (arith, length-run (g .0 .0), c .if1 .taken)) (sym (length-run (g .0 .0)))) refl)
+    let a = c .before .before .before .before .args in
+    starts-other (now (a .zeroth)) (now (a .run)) (c .before .if1 .taken) (c .number .ensures)
 
 returns-2 : tie.Need-returns-2
 returns-2 c =
     let a = c .before .before .before .before .before .before .before .before .before .before .before .args in
-    let g = c .before .before .before .before .before .before .first .given in
-    let told = sym (c .before .before .before .before .before .before .before .before .start .ensures) ∙ g .1 in
-    rw told (gives refusalCode (wrote-all (runWords (g .0 .0)) (now (a .run)) refl (omega (arith, length-run (g .0 .0), c .before .before .before .before .if1 .left)) refl (c .before .before .store .ensures)) refl)
+    let g = c .before .before .before .before .before .first .given in
+    let sized = c .before .before .before .before .before .before .before .before .if1 .left in
+    let whole = sets-whole (now (a .run)) (runWords (g .0 .0)) (sized ∙ sym (length-run (g .0 .0))) in
+    starts-begun (now (a .zeroth)) (now (a .run)) sized (c .before .before .before .before .before .before .before .start .ensures)
+    (sym (ap startCode (g .1))) (c .before .before .store .ensures ∙ whole ∙ sym (ap (startWords (now (a .run))) (g .1)))
 
 returns-3 : tie.Need-returns-3
 returns-3 c =
-    let a = c .before .before .before .before .before .before .before .args in
-    let told = sym (c .before .before .before .before .start .ensures) ∙ c .before .before .refusal .given .1 in
-    gives refusalCode (wrote-refused (startWords (startOf (now (a .zeroth)))) (now (a .run)) (ap startFault told)) (c .number .ensures)
+    let a = c .before .before .before .before .before .before .before .before .args in
+    let g = c .before .before .refusal .given in
+    starts-begun (now (a .zeroth)) (now (a .run)) (c .before .before .before .before .before .if1 .left) (c .before .before .before .before .start .ensures)
+    (c .number2 .ensures ∙ sym (ap startCode (g .1))) (sym (ap (startWords (now (a .run))) (g .1)))
 
 pub flasknib-run-start-spec : {M : Type 1} → statement M
 flasknib-run-start-spec =
     tie.close
     (tie.spec
     (λ c κs. search needs)
-    (λ c. search needs)
     returns
+    (λ c κs. search needs)
+    (λ c. search needs)
     (λ c κs. search needs)
     (λ c. search needs)
     (λ c κs. search needs)

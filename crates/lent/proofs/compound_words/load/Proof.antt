@@ -12,12 +12,12 @@ use Rattle.lent.proofs.compound_words.load.Tie as tie
 
 returns : tie.Need-returns
 unfolding loaded
-returns c = rw (ne-eqb (length (now (c .before .before .args .words))) 24 (c .if1 .taken))
+returns c = rw (ne-eqb (length (now (c .before .before .args .words))) 25 (c .if1 .taken))
 
 returns-2 : tie.Need-returns-2
 unfolding loaded
 returns-2 c =
-    rw (eq-eqb (length (now (c .before .before .before .before .args .words))) 24 (c .before .before .if1 .left), was-false (c .before .do-fit .ensures) (c .if2 .taken))
+    rw (eq-eqb (length (now (c .before .before .before .before .args .words))) 25 (c .before .before .if1 .left), was-false (c .before .do-fit .ensures) (c .if2 .taken))
 
 compound-of-requires : tie.Need-compound-of-requires
 compound-of-requires c κs = was-true (c .before .do-fit .ensures) (c .if2 .left)
@@ -25,7 +25,7 @@ compound-of-requires c κs = was-true (c .before .do-fit .ensures) (c .if2 .left
 returns-3 : tie.Need-returns-3
 unfolding loaded
 returns-3 c =
-    rw (eq-eqb (length (now (c .before .before .before .before .before .args .words))) 24 (c .before .before .before .if1 .left), was-true (c .before .before .do-fit .ensures) (c .before .if2 .left))
+    rw (eq-eqb (length (now (c .before .before .before .before .before .args .words))) 25 (c .before .before .before .if1 .left), was-true (c .before .before .do-fit .ensures) (c .before .if2 .left))
     (ap Held (c .compound-of .ensures))
 
 pub load-spec : {M : Type 1} → statement M

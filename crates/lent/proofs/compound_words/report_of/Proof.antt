@@ -37,7 +37,7 @@ cast-t7 c =
 returns-2 : tie.Need-returns-2
 returns-2 c =
     rw (is-there (c .before .before .before .word-at .ensures) (c .before .before .if1 .left))
-    (λ i. MaybeReport.Present (record { fraction = c .before .word-at2 .ensures i; lost = pos 0; highest = c .word-at3 .ensures i; jitter = 0; lsr = 0; dlsr = 0 }))
+    (λ i. MaybeReport.Present (record { fraction = c .before .word-at2 .ensures i; lost = pos 0; highest = c .word-at3 .ensures i; jitter = 0; lsr = 0; dlsr = 0; reporter = 0 }))
 
 pub report-of-spec : {M : Type 1} → statement M
 report-of-spec =

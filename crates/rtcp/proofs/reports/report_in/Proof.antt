@@ -12,7 +12,7 @@ use Rattle.rtcp.specs.Packets.{isReport}
 use Rattle.rtcp.specs.ReportBlocks.{reportAt, reportIn}
 use Rattle.rtcp.specs.declared.Place.{Place}
 use Rattle.rtcp.specs.declared.MaybeReport.{MaybeReport}
-use Rattle.rtcp.proofs.Whole.{reports-within}
+use Rattle.rtcp.proofs.Whole.{blocks-behind, reports-within}
 use Rattle.rtcp.proofs.Places.{entry-within}
 use Rattle.rtcp.proofs.reports.report_in.Statement.{statement}
 use Rattle.rtcp.proofs.reports.report_in.Tie as tie
@@ -28,10 +28,10 @@ within c =
     omega (arith, s .whole, c .blocks-from .ensures .0, reports-within (a .header) (now (a .b)) (a .at) s (is-one c))
 
 -- the answer, by the place that is found
-is : (c : tie.After-find-entry) (p : Place) → p ≡ c .find-entry .result → reportAt (now (c .before .before .before .before .before .before .args .b)) p ≡ reportIn (c .before .before .before .before .before .before .args .header) (now (c .before .before .before .before .before .before .args .b)) (c .before .before .before .before .before .before .args .at) (c .before .before .before .before .before .before .args .media)
+is : (c : tie.After-find-entry) (p : Place) → p ≡ c .find-entry .result → reportAt (now (c .before .before .before .before .before .before .args .b)) (c .before .before .before .before .before .before .args .at) p ≡ reportIn (c .before .before .before .before .before .before .args .header) (now (c .before .before .before .before .before .before .args .b)) (c .before .before .before .before .before .before .args .at) (c .before .before .before .before .before .before .args .media)
 unfolding reportIn
 is c p e =
-    ap (reportAt (now (c .before .before .before .before .before .before .args .b))) (e ∙ c .find-entry .ensures)
+    ap (reportAt (now (c .before .before .before .before .before .before .args .b)) (c .before .before .before .before .before .before .args .at)) (e ∙ c .find-entry .ensures)
     ∙ rw (is-one (c .before .before), ← (c .before .before .blocks-from .ensures .0))
 
 returns : tie.Need-returns
@@ -46,8 +46,10 @@ report-block-at-requires c κs =
     let a = c .before .before .before .before .before .before .before .before .before .args in
     let at = c .before .place .given .0 .0 in
     let from = a .at + c .before .before .before .before .before .blocks-from .result in
-    let e = sym (c .before .before .before .find-entry .ensures) ∙ c .before .place .given .1 in
-    omega (arith, within (c .before .before .before .before .before), entry-within reportSize (now (a .b)) (a .header .count) from (a .media) at e)
+    let e = sym (c .before .before .before .find-entry .ensures) ∙ c .before .place .given .1 in (
+      omega (arith, within (c .before .before .before .before .before), c .before .before .before .before .before .blocks-from .ensures .0, blocks-behind (a .header)),
+      omega (arith, within (c .before .before .before .before .before), entry-within reportSize (now (a .b)) (a .header .count) from (a .media) at e),
+    )
 
 returns-2 : tie.Need-returns-2
 returns-2 c = ap MaybeReport.Present (c .report-block-at .ensures) ∙ is (c .before .before .before .before) (Place.At (c .before .before .place .given .0 .0)) (sym (c .before .before .place .given .1))
