@@ -812,7 +812,7 @@ class Salvage(Tried):
     DAMAGED, SALVAGED = SAMPLES / "damaged.trace", SAMPLES / "salvaged.trace"
     LISTED = """    block  refused with
     5      13  the block's checksum does not fit
-    9      1   the trace is empty, or ends in the middle of a block
+    9      1   the input is empty, or ends in the middle of a block or a header
 """
 
     def salvaged(self, path, status, counts, out=None, **kept) -> str:

@@ -33,7 +33,8 @@ from typing import Any, Iterator, NamedTuple, Optional
 
 from . import files, origins, several
 from .blocks import BLOCK, FORMS, blocks_in, label_in
-from .common import REFUSALS, REFUSED, WELL, tell
+from .common import REFUSED, WELL, tell
+from .layer import refusal_text
 from .library import package
 from .sheets import aligned
 
@@ -106,7 +107,7 @@ def checked(trace: str, streams: bool) -> Checked:
 
 
 def human_row(trace: str, found: Checked) -> tuple:
-    first = "-" if found.number is None else f"block {found.block} with {found.number}: {REFUSALS[found.number]}"
+    first = "-" if found.number is None else f"block {found.block} with {found.number}: {refusal_text(found.number)}"
     label = "-" if found.label is None else json.dumps(found.label.decode("ascii"))
     known = [str(found.form), str(found.sources)] if found.form else ["-", "-"]
     more = "; the rest is not judged" if found.form is None and found.blocks > 1 else ""

@@ -6,18 +6,9 @@ import re
 import sys
 from typing import Iterator, Optional
 
-from . import endings
+from . import endings, layer
 
 WELL, REFUSED, FAILED = 0, 1, 2
-
-# What the programs refuse, in the words of docs/PROGRAMS.md
-REFUSALS = {
-    1: "the trace is empty, or ends in the middle of a block",
-    13: "the block's checksum does not fit",
-    14: "the block breaks the format, or has a wrong kind, form or SSRC for its place",
-    15: "the trace has more than 16 sources; ecn split makes a trace of each",
-    17: "a time of 2^32 ms or more needs form 2",
-}
 
 
 class Ended(Exception):
@@ -120,5 +111,7 @@ def many(count: int, word: str) -> str:
 
 
 def refused_words(number: int, block: int) -> str:
-    words = f"block {block} is refused with {number}: {REFUSALS.get(number, 'see the table of refusals in docs/PROGRAMS.md')}"
+    words = f"block {block} is refused with {number}: {layer.refusal_text(number)}"
+    if number == 15:
+        return f"{words}; ecn split makes a trace of each source"
     return words + ("; probably this is no trace at all" if block == 0 and number != 14 else "")

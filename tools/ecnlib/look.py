@@ -25,8 +25,9 @@ from typing import BinaryIO, Iterator, NamedTuple, Optional
 
 from . import programs
 from .blocks import BLOCK, FORMS, MARKS, blocks_in, check, header, label_in, records_in
-from .common import FAILED, REFUSALS, REFUSED, WELL, Ended, file_name, many, printing
+from .common import FAILED, REFUSED, WELL, Ended, file_name, many, printing
 from .files import Input
+from .layer import refusal_text
 from .library import file_of, package
 
 MOST_RUNS = 100  # of the program on one trace
@@ -141,7 +142,7 @@ class Judge:
 
 
 def refused(number: int, more: str = "") -> Verdict:
-    return Verdict(Kind.REFUSED, f"{Kind.REFUSED.value} with {number}: {REFUSALS.get(number, '')}{more}")
+    return Verdict(Kind.REFUSED, f"{Kind.REFUSED.value} with {number}: {refusal_text(number)}{more}")
 
 
 def shown(block: bytes, brief: bool) -> Iterator[str]:

@@ -16,7 +16,8 @@ from typing import NoReturn
 
 from . import endings, programs
 from .common import FAILED, Ended, fill_streams, printing, tell
-from .library import package, version
+from .layer import version
+from .library import package
 
 COMMANDS = ("table", "look", "make", "label", "salvage", "plot", "answer", "breaker", "summary", "check", "records", "split", "forms", "report", "rtcp", "page")
 BY_LIBRARY = ("plot", "answer", "breaker", "summary", "records", "split", "report", "rtcp", "page")  # they run no program

@@ -9,7 +9,7 @@ from typing import Any, BinaryIO, Dict, Iterator, NamedTuple, Optional
 from . import endings, programs, several
 from .common import FAILED, REFUSED, Ended
 from .files import opened, shown
-from .library import version
+from .layer import version
 
 ENDING = ".origin"
 FORMAT = 1

@@ -33,8 +33,9 @@ from typing import Iterator, List, Optional, Tuple
 
 from . import programs, runs
 from .blocks import BLOCK
-from .common import FAILED, REFUSALS, REFUSED, WELL, Ended, many, refused_words, say, tell
+from .common import FAILED, REFUSED, WELL, Ended, many, refused_words, say, tell
 from .label import COPIES, add_arguments  # noqa: F401
+from .layer import refusal_text
 
 UNREAD = "; copy it first with dd bs=512 conv=noerror,sync, and salvage that image"
 
@@ -58,7 +59,7 @@ def listed(refusals: List[programs.Refusal]) -> Iterator[str]:
     width = max(len(where) for where, _ in [("block", 0), *rows])
     yield f"    {'block':<{width}}  refused with"
     for where, number in rows:
-        yield f"    {where:<{width}}  {number:<2}  {REFUSALS.get(number, '')}"
+        yield f"    {where:<{width}}  {number:<2}  {refusal_text(number)}"
 
 
 class Salvage(runs.Run):
