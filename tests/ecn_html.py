@@ -123,7 +123,7 @@ class Pages(Tried):
         self.assertEqual([row[2] for row in page.rows[1:]], ["2 blocks refused", "whole"])
         for said in (
             "Block 5 is refused with 13: the block's checksum does not fit.",
-            "Block 9 is refused with 1: the trace is empty, or ends in the middle of a block.",
+            "Block 9 is refused with 1: the input is empty, or ends in the middle of a block or a header.",
             "What to do: The file was cut off, or its writer was stopped. Copy it again.",
             "ecn salvage saves the other blocks.",
         ):

@@ -22,9 +22,10 @@ throughput equation. If they would give another rule than the call, ecn says so 
     ecn breaker link.csv --full --csv > answers.csv
     ecn breaker link.csv --plot link.svg --width 85
 
---plot draws it: the rate and ten times the equation, the silence against the timeout, the run against m, each as far as
-the breaker ran; the stop with its rule, reductions, lines that are refused, and where no report came for half the timeout
-or longer. With more than 2,000 lines a point stands for several: the highest rate and the lowest limit among them.
+--plot draws it: the rate and ten times the equation, the silence against the timeout, the run against m, each as far
+as the breaker ran. The stop is marked with its rule, and so are reductions, refused lines, and silences of half the
+timeout or longer. With more than 2,000 lines a point stands for several: the highest rate and the lowest limit among
+them.
 
 A stop is an answer and no failure. A line that the breaker refuses counts for nothing, and the next lines go on.
 

@@ -2,15 +2,15 @@
 
     ecn page traces/*.trace -o night.html -j 4
 
-The page is one HTML file. It needs no network and holds no script; a browser prints it as PDF. It has the summary of all
-traces; for each trace its picture as `ecn plot` draws it, its refused blocks in plain words with what to do, and the SHA-256
-of the trace and of its table; and how it was made. Rows, verdicts and times are the proved library's. The same command on
-the same traces writes the same page.
+The page is one HTML file. It needs no network and holds no script; a browser prints it as PDF. It has the summary of
+all traces, and how it was made. For each trace it has the picture that `ecn plot` draws, and its refused blocks in
+plain words with what to do. It gives the SHA-256 of the trace and of its table. Rows, verdicts and times are the proved
+library's. The same command on the same traces writes the same page.
 
 With --streams the blocks of a trace may be of several sources: then each source has a row, and a bar in the picture.
 
-A trace `-` is standard input; a trace is read once. OUT `-` is standard output, which gets the page when it is whole and no
-byte before. A page with refused blocks is put in place, and says so. If a trace cannot be read none is.
+A trace `-` is standard input; a trace is read once. OUT `-` is standard output, which gets the page when it is whole
+and no byte before. A page with refused blocks is put in place, and says so. If a trace cannot be read none is.
 
 Exit status: 0 no block is refused; 1 one is; 2 a read or a write failed, the library is not there, or the arguments are
 wrong.
@@ -25,7 +25,8 @@ from typing import List
 
 from . import files, pageread, pagetext, several
 from .common import FAILED, REFUSED, WELL, file_name, tell
-from .library import package, version
+from .layer import version
+from .library import package
 from .origins import sum_at
 
 

@@ -4,7 +4,8 @@ from fractions import Fraction
 from typing import Iterable, Iterator, List, Optional, Tuple
 
 from .bars import MARKS
-from .common import REFUSALS, many
+from .common import many
+from .layer import refusal_text
 from .origins import Sum
 from .pageread import Found
 from .plotscale import printable
@@ -84,7 +85,7 @@ def sum_line(what: str, found: Sum) -> str:
 
 def refused_line(number: int, first: int, last: int) -> str:
     blocks = f"Block {first:,} is" if first == last else f"Blocks {first:,} to {last:,} are"
-    return f"<li>{blocks} refused with {number}: {html.escape(REFUSALS[number])}.</li>"
+    return f"<li>{blocks} refused with {number}: {html.escape(refusal_text(number))}.</li>"
 
 
 def advice_on(found: Found) -> Iterator[str]:
