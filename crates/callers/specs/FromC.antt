@@ -20,7 +20,7 @@ use Rattle.capi.specs.OneSource.{TellsLost, WritesFeedback, WritesSummary}
 use Rattle.capi.specs.Blocks.{WritesRow}
 use Rattle.capi.specs.Chains.{arriveChain}
 use Rattle.demands.specs.Calls.{TruePacket, arrivals, Described}
-use Rattle.demands.specs.Count.{baseOf, highestOf, lostOf, count, countsIn, SameArrivals}
+use Rattle.demands.specs.Count.{baseOf, greatestIn, lostOf, count, countsIn, SameArrivals}
 use Rattle.demands.specs.TableRow.{countRow}
 use Rattle.callers.specs.Callers.{passed, Chain}
 
@@ -36,7 +36,7 @@ pub record EndFromC (ps : List TruePacket) : Type 0 where
   pub sound : sound (count (arrivals ps)) ≡ true
   -- flasknib_write_feedback and flasknib_write_summary, whatever the SSRCs and the output
   pub feedback : (sender media : ℕ) (old out : List ℕ) (r : ℤ) → WritesFeedback (endWords ps) sender media old r out
-      → Gives lengthCode none (feedbackOf sender media (modulo (2 ^ 32) (highestOf (arrivals ps))) (countsIn (arrivals ps))) old r out
+      → Gives lengthCode none (feedbackOf sender media (modulo (2 ^ 32) (greatestIn (arrivals ps))) (countsIn (arrivals ps))) old r out
   pub summary : (media : ℕ) (old out : List ℕ) (r : ℤ) → WritesSummary (endWords ps) media old r out
       → Gives lengthCode none (summaryOf media (countsIn (arrivals ps))) old r out
   -- flasknib_lost

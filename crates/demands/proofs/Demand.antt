@@ -18,7 +18,7 @@ use Rattle.report.proofs.Faults.{fault-none}
 use Rattle.table.specs.Lines.{rowBytes}
 use Rattle.table.proofs.Faults.{fault-none as row-accepted}
 use Rattle.demands.specs.Calls.{TruePacket, arrivals, run}
-use Rattle.demands.specs.Count.{baseOf, highestOf, duplicatesOf, tally, lostOf, countFrom, count, countsIn}
+use Rattle.demands.specs.Count.{baseOf, greatestIn, duplicatesOf, tally, lostOf, countFrom, count, countsIn}
 use Rattle.demands.specs.TableRow.{countRow}
 use Rattle.demands.specs.Demand3.{Demand3}
 use Rattle.demands.proofs.Members.{Marks}
@@ -34,7 +34,7 @@ unfolding lost countFrom Record.fresh
 count-lost [] m good = ap lost (count-none (pos 0) refl)
 count-lost (p ∷ ps) m good =
     rw (fresh-is (count (p ∷ ps)) good ∙ ne-eqb (Record.arrivals (count (p ∷ ps))) 0 (λ e. omega (arith, count-arrivals (p .number) (p ∷ ps) m)))
-    (ap (λ (n : ℕ). highestOf (p ∷ ps) -ℤ p .number +ℤ pos 1 -ℤ pos n) (count-distinct (p .number) (p ∷ ps) m))
+    (ap (λ (n : ℕ). greatestIn (p ∷ ps) -ℤ p .number +ℤ pos 1 -ℤ pos n) (count-distinct (p .number) (p ∷ ps) m))
 
 module _ (ps : List TruePacket) (lost-is : lost (count ps) ≡ lostOf ps) where
   pub count-counts : countsOf (count ps) ≡ countsIn ps
@@ -60,7 +60,7 @@ demand3 ps d =
     let r = run-counted ps (d .steady) (d .few) in
     let good : sound (run ps) ≡ true = run-sound freshRecord ps fresh-sound in
     let lost-is = count-lost (arrivals ps) (arrivals-marks ps) (ap sound (sym (r .state)) ∙ good) in
-    let top : run ps .highest .0 ≡ highestOf (arrivals ps) = ap (λ (s : Source). s .highest .0) (r .state) ∙ count-highest (baseOf (arrivals ps)) (arrivals ps) in
+    let top : run ps .highest .0 ≡ greatestIn (arrivals ps) = ap (λ (s : Source). s .highest .0) (r .state) ∙ count-highest (baseOf (arrivals ps)) (arrivals ps) in
     let counts : countsOf (run ps) ≡ countsIn (arrivals ps) = ap countsOf (r .state) ∙ count-counts (arrivals ps) lost-is in
     record {
       answers = r .answers;

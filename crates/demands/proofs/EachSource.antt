@@ -22,7 +22,7 @@ use Rattle.sources.specs.Places.{heldOf}
 use Rattle.sources.specs.Rules.{fault}
 use Rattle.sources.specs.Stands.{found, isNew, recordIn, recordOf}
 use Rattle.demands.specs.Calls.{TruePacket, runFrom, AnsweredFrom, run, arrivals}
-use Rattle.demands.specs.Count.{baseOf, highestOf, count, countsIn}
+use Rattle.demands.specs.Count.{baseOf, greatestIn, count, countsIn}
 use Rattle.demands.specs.PrintedTable.{ofArrival}
 use Rattle.demands.specs.EachSource.{ssrcsFit, onlyFeedback, Call, named, Fits, AllFit, behindCall, behindAll, seatedCall, placesSuffice, brought, seen, Brings, Answered, AllAnswered, EachSource}
 use Rattle.demands.proofs.Steady.{count-arrivals, count-highest}
@@ -125,7 +125,7 @@ each-source ps calls ssrc tps h =
     good = ap sound (sym (demand3 tps (h .described) .state)) ∙ run-sound freshRecord tps fresh-sound
 
     carried : (sender : ℕ) → onlyFeedback (feedbackAbout sender (some (count (arrivals tps))))
-        ≡ onlyFeedback (MaybeFeedback.Present (record { sender = sender; highest = modulo (2 ^ 32) (highestOf (arrivals tps)); counts = countsIn (arrivals tps) }))
+        ≡ onlyFeedback (MaybeFeedback.Present (record { sender = sender; highest = modulo (2 ^ 32) (greatestIn (arrivals tps)); counts = countsIn (arrivals tps) }))
     carried sender =
         ap₂ (λ (z : ℤ) (c : Counts). onlyFeedback (MaybeFeedback.Present (record { sender = sender; highest = modulo (2 ^ 32) z; counts = c })))
         (count-highest (baseOf (arrivals tps)) (arrivals tps))

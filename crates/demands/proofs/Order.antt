@@ -15,7 +15,7 @@ use Rattle.source.specs.Places.{bit, history}
 use Rattle.source.specs.Arrivals.{extended}
 use Rattle.source.proofs.Rows.{history-ext}
 use Rattle.demands.specs.Calls.{TruePacket}
-use Rattle.demands.specs.Count.{greatest, highestOf, mem, distinctOf, tally, recent, countFrom, occurs, SameArrivals}
+use Rattle.demands.specs.Count.{greatest, greatestIn, mem, distinctOf, tally, recent, countFrom, occurs, SameArrivals}
 use Rattle.demands.proofs.Members.{member-le, greatest-in}
 
 -- ---- the same arrivals are a permutation
@@ -132,7 +132,7 @@ perm-distinct (List·Permᴰ·swap {a′ = a} {b′ = b} {l = l} e f) = ap₂ (�
 perm-distinct (List·Permᴰ·trans r t) = perm-distinct r ∙ perm-distinct t
 
 -- the greatest is in both lists, so each is at most the other
-same-highest : (ps qs : List TruePacket) → length ps ≡ length qs → ((z : ℤ) → mem z ps ≡ mem z qs) → highestOf ps ≡ highestOf qs
+same-highest : (ps qs : List TruePacket) → length ps ≡ length qs → ((z : ℤ) → mem z ps ≡ mem z qs) → greatestIn ps ≡ greatestIn qs
 same-highest [] [] e h = refl
 same-highest [] (q ∷ qs) e h = absurd (omega arith)
 same-highest (p ∷ ps) [] e h = absurd (omega arith)
@@ -141,7 +141,7 @@ same-highest (p ∷ ps) (q ∷ qs) e h =
     (member-le (greatest (p .number) ps) q qs (subst T (h (greatest (p .number) ps)) (greatest-in p ps)))
     (member-le (greatest (q .number) qs) p ps (subst T (sym (h (greatest (q .number) qs))) (greatest-in q qs)))
 
-pub perm-highest : {ps qs : List TruePacket} → List·Permᴰ ps qs → highestOf ps ≡ highestOf qs
+pub perm-highest : {ps qs : List TruePacket} → List·Permᴰ ps qs → greatestIn ps ≡ greatestIn qs
 perm-highest {ps} {qs} r = same-highest ps qs (perm-length r) (λ z. perm-mem z r)
 
 -- ---- the count
@@ -161,7 +161,7 @@ perm-count base {ps} {qs} r = λ i. record {
 }
   where
     row : (k : ℕ) → k < 100 → recent ps k ≡ recent qs k
-    row k l = ap (λ (z : ℤ). mem (z -ℤ pos k) ps) (perm-highest r) ∙ perm-mem (highestOf qs -ℤ pos k) r
+    row k l = ap (λ (z : ℤ). mem (z -ℤ pos k) ps) (perm-highest r) ∙ perm-mem (greatestIn qs -ℤ pos k) r
 
 -- a list and its reverse
 perm-reverseAux : (ps qs : List TruePacket) → List·Permᴰ (reverseAux ps qs) (ps ++ qs)

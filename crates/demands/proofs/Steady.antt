@@ -17,7 +17,7 @@ use Rattle.source.specs.Record.{sound}
 use Rattle.source.proofs.Rows.{marked-ext, pack-lt, marks-history, places-history}
 use Rattle.source.proofs.Facts.{Facts, facts-count, has-counted-sound}
 use Rattle.demands.specs.Calls.{TruePacket}
-use Rattle.demands.specs.Count.{greatest, highestOf, mem, distinctOf, recent, countFrom}
+use Rattle.demands.specs.Count.{greatest, greatestIn, mem, distinctOf, recent, countFrom}
 use Rattle.demands.proofs.Numbers.{Near, above, below}
 use Rattle.demands.proofs.Members.{Marks, greatest-in, top-above, top-below, new-above, distinct-le, distinct-some, marked-distinct, tally-sum}
 
@@ -79,7 +79,7 @@ module _ (base : ℤ) (ps : List TruePacket) where
   unfolding countFrom
   count-distinct m = omega (arith, tally-sum ps m, distinct-le ps)
 
-  pub count-highest : countFrom base ps .highest .0 ≡ highestOf ps
+  pub count-highest : countFrom base ps .highest .0 ≡ greatestIn ps
   unfolding countFrom
   count-highest = refl
 

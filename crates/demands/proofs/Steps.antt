@@ -28,7 +28,7 @@ use Rattle.source.proofs.Rows.{history-ext}
 use Rattle.source.proofs.Answers.{arrival-first, arrival-later}
 use Rattle.source.proofs.Reached.{reach-ahead, reach-level, reach-behind}
 use Rattle.demands.specs.Calls.{TruePacket, wireOf, call}
-use Rattle.demands.specs.Count.{greatest, highestOf, mem, distinctOf, tally, recent, duplicatesOf, countFrom}
+use Rattle.demands.specs.Count.{greatest, greatestIn, mem, distinctOf, tally, recent, duplicatesOf, countFrom}
 use Rattle.demands.proofs.Numbers.{Near, above, below, distance-above, distance-below, distance-level}
 use Rattle.demands.proofs.Members.{top-above, top-below, new-above, above-out, distinct-le}
 use Rattle.demands.proofs.Steady.{Known, in-wire, count-arrivals, count-highest, count-marks, count-sound}
@@ -40,7 +40,7 @@ count-none base e = rw e
 
 -- the next record is the count of the longer list, where its highest, duplicates and history are that list's
 next-is : (old base h : ℤ) (p : TruePacket) (ps : List TruePacket) (n : ℕ) (row : ℕ → Bool)
-    → h ≡ highestOf (p ∷ ps) → n ≡ duplicatesOf (p ∷ ps) → ((k : ℕ) → k < 100 → row k ≡ recent (p ∷ ps) k)
+    → h ≡ greatestIn (p ∷ ps) → n ≡ duplicatesOf (p ∷ ps) → ((k : ℕ) → k < 100 → row k ≡ recent (p ∷ ps) k)
     → counted (countFrom old ps) (p .mark) (extended base) (extended h) n (history row) ≡ countFrom base (p ∷ ps)
 unfolding counted countFrom
 next-is old base h p ps n row eh en er = λ i. record {

@@ -24,9 +24,9 @@ abbrev pub greatest : ℤ → List TruePacket → ℤ
 greatest z [] = z
 greatest z (p ∷ ps) = maxZ z (greatest (p .number) ps)
 
-abbrev pub highestOf : List TruePacket → ℤ
-highestOf [] = pos 0
-highestOf (p ∷ ps) = greatest (p .number) ps
+abbrev pub greatestIn : List TruePacket → ℤ
+greatestIn [] = pos 0
+greatestIn (p ∷ ps) = greatest (p .number) ps
 
 -- whether a number is in the list
 abbrev pub mem : ℤ → List TruePacket → Bool
@@ -50,18 +50,18 @@ tally mark (p ∷ ps) = tally mark ps + bit (eqb (p .mark) mark)
 -- lost = highest - base + 1 - distinct
 abbrev pub lostOf : List TruePacket → ℤ
 lostOf [] = pos 0
-lostOf (p ∷ ps) = highestOf (p ∷ ps) -ℤ baseOf (p ∷ ps) +ℤ pos 1 -ℤ pos (distinctOf (p ∷ ps))
+lostOf (p ∷ ps) = greatestIn (p ∷ ps) -ℤ baseOf (p ∷ ps) +ℤ pos 1 -ℤ pos (distinctOf (p ∷ ps))
 
 -- the history marks, of the numbers from highest - 99 to highest, exactly those in the list
 abbrev pub recent : List TruePacket → ℕ → Bool
-recent ps k = mem (highestOf ps -ℤ pos k) ps
+recent ps k = mem (greatestIn ps -ℤ pos k) ps
 
 -- ---- as a record, which remembers no number, and as a report carries it
 
 unfoldable pub countFrom : ℤ → List TruePacket → Source
 countFrom base ps = record {
   base = extended base;
-  highest = extended (highestOf ps);
+  highest = extended (greatestIn ps);
   notect = tally 0 ps;
   ect1 = tally 1 ps;
   ect0 = tally 2 ps;

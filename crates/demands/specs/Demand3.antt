@@ -15,7 +15,7 @@ use Rattle.report.specs.Reports.{fault, feedbackOf, feedbackBytes, summaryOf, s
 use Rattle.source.specs.Totals.{mostTold}
 use Rattle.trace.specs.Contents.{labelOk}
 use Rattle.demands.specs.Calls.{TruePacket, AnsweredFrom, arrivals, run, Described}
-use Rattle.demands.specs.Count.{baseOf, highestOf, count, countsIn, SameArrivals}
+use Rattle.demands.specs.Count.{baseOf, greatestIn, count, countsIn, SameArrivals}
 use Rattle.demands.specs.TableRow.{Row}
 
 pub record Outcome (ps : List TruePacket) : Type 0 where
@@ -26,7 +26,7 @@ pub record Outcome (ps : List TruePacket) : Type 0 where
   -- a report on it is not refused with 9, and carries the count: the feedback packet and the summary block, whatever the SSRCs
   pub sound : fault (run ps) ≡ none
   pub feedback : (sender media : ℕ)
-      → feedbackBytes sender media (run ps) ≡ feedbackOf sender media (modulo (2 ^ 32) (highestOf (arrivals ps))) (countsIn (arrivals ps))
+      → feedbackBytes sender media (run ps) ≡ feedbackOf sender media (modulo (2 ^ 32) (greatestIn (arrivals ps))) (countsIn (arrivals ps))
   pub summary : (media : ℕ) → summaryBytes media (run ps) ≡ summaryOf media (countsIn (arrivals ps))
   -- and so does a row of the table, with any label that a trace can have
   pub row : (label : List ℕ) (ssrc jumped restarts : ℕ) → labelOk label ≡ true → jumped ≤ mostTold → restarts ≤ mostTold → Row ps label ssrc jumped restarts

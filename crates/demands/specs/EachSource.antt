@@ -30,7 +30,7 @@ use Rattle.sources.specs.Answers.{outside, countAnswer, countPlaces}
 use Rattle.sources.specs.Compounds.{compoundBytes}
 use Rattle.sources.specs.Theorems.{Arrival, answer, behindOne, seated}
 use Rattle.demands.specs.Calls.{TruePacket, arrivals, Described}
-use Rattle.demands.specs.Count.{baseOf, highestOf, count, countsIn, SameArrivals}
+use Rattle.demands.specs.Count.{baseOf, greatestIn, count, countsIn, SameArrivals}
 use Rattle.demands.specs.PrintedTable.{ofArrival}
 use Rattle.demands.specs.BetweenReports.{feedbackFrom}
 
@@ -144,7 +144,7 @@ pub record SourceOutcome (ps : List Place) (calls : List Call) (ssrc : ℕ) (tps
   -- and the table's compound carries that count of it
   pub feedback : (sender : ℕ) (profile : Profile) → sender < 2 ^ 32 → 1 ≤ length (arrivals tps)
       → reading (compoundBytes sender (behindAll ps calls)) ssrc profile
-      ≡ onlyFeedback (MaybeFeedback.Present (record { sender = sender; highest = modulo (2 ^ 32) (highestOf (arrivals tps)); counts = countsIn (arrivals tps) }))
+      ≡ onlyFeedback (MaybeFeedback.Present (record { sender = sender; highest = modulo (2 ^ 32) (greatestIn (arrivals tps)); counts = countsIn (arrivals tps) }))
   -- any other such calls on any other such table, with the same arrivals of the source and the same first one, end in the same record of it
   pub order : (qs : List Place) (others : List Call) (tqs : List TruePacket) → Brings qs others ssrc tqs → SameArrivals (arrivals tps) (arrivals tqs)
       → baseOf (arrivals tps) ≡ baseOf (arrivals tqs) → recordOf ssrc (behindAll ps calls) ≡ recordOf ssrc (behindAll qs others)

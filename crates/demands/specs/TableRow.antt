@@ -7,13 +7,13 @@ use Rattle.table.specs.Decimal.{decimal, signed}
 use Rattle.table.specs.Field.{asField, line}
 use Rattle.table.specs.Lines.{rowFault, rowBytes}
 use Rattle.demands.specs.Calls.{TruePacket, arrivals, run}
-use Rattle.demands.specs.Count.{highestOf, duplicatesOf, tally, lostOf}
+use Rattle.demands.specs.Count.{greatestIn, duplicatesOf, tally, lostOf}
 
 -- the texts of a row's numbers, from the count over a list of arrivals
 abbrev pub countTexts : ℕ → List TruePacket → ℕ → ℕ → List (List ℕ)
 countTexts ssrc ps jumped restarts =
     decimal ssrc
-    ∷ signed (highestOf ps)
+    ∷ signed (greatestIn ps)
     ∷ decimal (tally 2 ps)
     ∷ decimal (tally 1 ps)
     ∷ decimal (tally 3 ps)
