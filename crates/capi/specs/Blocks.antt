@@ -11,11 +11,11 @@ use Rattle.format.specs.Forms.{shapeOf}
 use Rattle.source.specs.declared.Totals.{Totals}
 use Rattle.trace.specs.declared.Block.{Block}
 use Rattle.trace.specs.declared.Block.the-variants.{Label, Arrivals, Refused}
+use Rattle.trace.specs.Numbered.{laterAs}
 use Rattle.trace.specs.Layout.{labelBlock, arrivalsBlock, recordsBlock}
 use Rattle.trace.specs.declared.Found.{Found}
 use Rattle.trace.specs.declared.Found.the-variants.{Is, Refused as Missing}
 use Rattle.trace.specs.declared.Later.{Later}
-use Rattle.trace.specs.declared.Later.the-variants as later
 use Rattle.trace.specs.declared.Spaced.{Spaced}
 use Rattle.trace.specs.declared.Spaced.the-variants as spaced
 use Rattle.trace.specs.Reading.{blockOf, foundAt}
@@ -52,10 +52,9 @@ ReadsBlock block old r found =
 
 -- ---- flasknib_read_own
 
--- 0, or what a later block is refused with
+-- 0, or what a later block is refused with: the paper's number
 abbrev pub laterCode : Later → ℕ
-laterCode (later.Arrivals n) = 0
-laterCode (later.Refused refusal) = numberOf refusal
+laterCode answer = laterAs answer .number
 
 -- "Trace file", a later block, by the label's form and SSRC: 10 for another form than 1 or 2; 1, 13, 14; or 0
 abbrev pub ownCode : ℕ → ℕ → List ℕ → ℕ

@@ -8,6 +8,7 @@ use Rattle.answers.specs.declared.Refusal.{Refusal}
 use Rattle.answers.specs.declared.Written.{Written}
 use Rattle.answers.specs.declared.Written.the-variants.{Length, Room, Refused}
 use Rattle.answers.specs.Refusals.{numberOf, roomNumber}
+use Rattle.answers.specs.Numbered.{writtenAs}
 use Rattle.answers.specs.Writers.{written, stored}
 
 -- a writer's length, or minus its refusal; with 12 the bytes that it would write, 256 times
@@ -16,11 +17,9 @@ lengthCode (Length n) = pos n
 lengthCode (Room n) = negℤ (pos (256 * n + roomNumber))
 lengthCode (Refused refusal) = negℤ (pos (numberOf refusal))
 
--- 0, or a refusal
+-- 0, or a refusal: the paper's number
 abbrev pub refusalCode : Written → ℕ
-refusalCode (Length n) = 0
-refusalCode (Room n) = roomNumber
-refusalCode (Refused refusal) = numberOf refusal
+refusalCode answer = writtenAs answer .number
 
 -- what a function answers, and leaves in the lent output `old`, that puts the bytes or words `new` at its front; `fault` is the refusal of its
 -- values, if there is one

@@ -9,6 +9,7 @@ use Rattle.answers.specs.Refusals.{numberOf, roomNumber}
 use Rattle.answers.specs.declared.Refusal.the-variants.{Malformed}
 use Rattle.convert.specs.declared.feeds.FeedAnswer.{FeedAnswer}
 use Rattle.convert.specs.declared.feeds.FeedAnswer.the-variants as answer
+use Rattle.convert.specs.Numbered.{feedAs}
 use Rattle.convert.specs.Feeds.{Given, unchanged, feedOf, closeOf}
 use Rattle.lent.specs.FeedWords.{uploadOf, isUpload, feedWords}
 
@@ -51,12 +52,9 @@ pub record FeedsWords (words lent stretch old : List ℕ) (r : ℤ) (left kept o
 unfoldable pub closedOf : List ℕ → List ℕ → Given
 closedOf words lent = cond (isUpload words) (closeOf (uploadOf words) lent) (unchanged (uploadOf words) lent (answer.Refused Malformed))
 
--- 0, or a refusal
+-- 0, or a refusal: the paper's number
 abbrev pub closeCode : FeedAnswer → ℕ
-closeCode (answer.Length n) = 0
-closeCode (answer.Room n) = roomNumber
-closeCode (answer.Refused refusal) = numberOf refusal
-closeCode (answer.Faulty refusal block n) = numberOf refusal
+closeCode told = feedAs told .number
 
 -- request L7, a closing call: 9, the kept refusal, 1; or 0, and the upload
 pub record ClosesWords (words lent : List ℕ) (r : ℕ) (left : List ℕ) : Type 0 where

@@ -33,6 +33,7 @@ use Rattle.convert.specs.declared.feeds.Fed.{Fed}
 use Rattle.convert.specs.declared.feeds.FeedAnswer.{FeedAnswer}
 use Rattle.convert.specs.declared.feeds.FeedAnswer.the-variants as answer
 use Rattle.convert.specs.Runs.{soundTotals, soundRun}
+use Rattle.convert.specs.Numbered.{feedAs}
 use Rattle.convert.specs.Feeds.{takenBy, mostFed, lentBytes, zerothIn, partIn, ownBy, runOk, keepable, uploadConditions, soundUpload, endsWhole, broken, feedBy, feedOf, closeBy, closeOf, Given, unchanged, Feeds, Closes}
 use Rattle.convert.proofs.Kept.{Good, sound-good, start-good}
 use Rattle.convert.proofs.Steps.{start-by}
@@ -174,3 +175,11 @@ closes-whole u lent e =
     let same : closeBy u lent Going ≡ unchanged u lent (answer.Length 0) =
     ap (λ (b : Bool). cond b (unchanged u lent (answer.Length 0)) (unchanged (broken u) lent (answer.Faulty Incomplete (u .blocks) 0))) e in
     record { answer = ap (λ (g : Given). g .answer) (sym same); upload = ap (λ (g : Given). g .upload) (sym same) }
+
+-- ---- the same in the paper's terms
+
+pub feeds-numbered : {g : Given} {old lent out : List ℕ} {r : Fed} → Feeds g old r lent out → Feeds g old r lent out × (feedAs (r .answer) ≡ feedAs (g .answer))
+feeds-numbered w = (w, ap feedAs (w .answer))
+
+pub closes-numbered : {g : Given} {r : Fed} → Closes g r → Closes g r × (feedAs (r .answer) ≡ feedAs (g .answer))
+closes-numbered w = (w, ap feedAs (w .answer))

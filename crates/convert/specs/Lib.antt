@@ -5,3 +5,4 @@ pub mod Pieces
 pub mod Feeds
 pub mod Passes
 pub mod FeedTheorems
+pub mod Numbered

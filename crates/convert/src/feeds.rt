@@ -13,6 +13,7 @@ ghost use lib.ListN.{length};
 ghost use Rattle.answers.specs.declared.Refusal.the-variants.{Incomplete};
 ghost use Rattle.walk.specs.declared.Ended.the-variants.{Going};
 ghost use Rattle.convert.specs.declared.feeds.FeedAnswer.the-variants.{Faulty};
+ghost use Rattle.convert.specs.Numbered.{feedAs};
 ghost use Rattle.convert.specs.Feeds.{freshUpload, broken, feedOf, closeBy, closeOf, Feeds, Closes};
 
 // How far a trace has come: the run, the whole blocks taken, how many bytes of the next are kept, 0 to 511, and whether a refusal is kept: 1, 13 or 14, its
@@ -111,6 +112,7 @@ impl Upload {
     // 12 with the length of the rows, the block's.
     pub fn feed(self, lent: &mut [u8], stretch: &[u8], out: &mut [u8]) -> Fed
         ensures { λ r. ⌜ Feeds (feedOf self (now (lent .entry)) (now (stretch .entry)) (length (now (out .entry)))) (now (out .entry)) r (now (lent .exit)) (now (out .exit)) ⌝ }
+        ensures { λ r. ⌜ feedAs (r .answer) ≡ feedAs (feedOf self (now (lent .entry)) (now (stretch .entry)) (length (now (out .entry))) .answer) ⌝ }
     {
         if !is_sound(self, lent) {
             return Fed {
@@ -129,6 +131,7 @@ impl Upload {
     // nothing changes nothing, and feeding may go on. Refusals: 9 a malformed upload, the kept one, 1.
     pub fn close(self, lent: &[u8]) -> Fed
         ensures { λ r. ⌜ Closes (closeOf self (now (lent .entry))) r ⌝ }
+        ensures { λ r. ⌜ feedAs (r .answer) ≡ feedAs (closeOf self (now (lent .entry)) .answer) ⌝ }
     {
         if !is_sound(self, lent) {
             return Fed {

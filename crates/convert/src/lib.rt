@@ -8,6 +8,7 @@ use trace::Zeroth;
 use trace::places::read_label;
 ghost use mathlib.Core.Path.{_≡_};
 ghost use Rattle.walk.specs.Steps.{Stepped};
+ghost use Rattle.convert.specs.Numbered.{beginAs};
 ghost use Rattle.convert.specs.Runs.{startOf, callNext, rowIn};
 ghost use Rattle.convert.specs.Tables.{noRun};
 
@@ -57,6 +58,7 @@ impl Run {
     // Takes block 0, which must be a label block. Refusals: 1, 13 and 14, as `read_label` gives them.
     pub fn start(zeroth: &[u8]) -> Begin
         ensures { λ r. ⌜ r ≡ startOf (now (zeroth .entry)) ⌝ }
+        ensures { λ r. ⌜ beginAs r ≡ beginAs (startOf (now (zeroth .entry))) ⌝ }
     {
         match read_label(zeroth) {
             Zeroth::Label { form, length, ssrc } => {

@@ -30,6 +30,7 @@ pub mod WitnessesBreaker
 pub mod WitnessesBetween
 pub mod BetweenCalls
 pub mod NumberedAnswers
+pub mod NumberedRuns
 pub mod WitnessesSources
 pub mod WitnessesPieces
 pub mod FedTables

@@ -37,12 +37,12 @@ use Rattle.between.specs.Differences.{betweenAs}
 use Rattle.demands.specs.Numbered.{AnswersTell, RefusalsNumbered}
 
 -- what is won back tells
-tells : {A B : Type 0} (f : A → B) (g : B → A) → ((x : A) → g (f x) ≡ x) → (x y : A) → f x ≡ f y → x ≡ y
+pub tells : {A B : Type 0} (f : A → B) (g : B → A) → ((x : A) → g (f x) ≡ x) → (x y : A) → f x ≡ f y → x ≡ y
 tells f g back x y e = sym (back x) ∙ ap g e ∙ back y
 
 -- ---- the refusal of a number
 
-refusalOf : ℕ → Option Refusal
+unfoldable pub refusalOf : ℕ → Option Refusal
 refusalOf n =
     cond (eqb n 1) (some Incomplete)
     (cond (eqb n 2) (some Version)
@@ -64,7 +64,7 @@ refusalOf n =
     (cond (eqb n 19) (some Retired)
     none)))))))))))))))))
 
-refusal-back : (r : Refusal) → refusalOf (numberOf r) ≡ some r
+pub refusal-back : (r : Refusal) → refusalOf (numberOf r) ≡ some r
 unfolding refusalOf
 refusal-back Incomplete = refl
 refusal-back Version = refl

@@ -14,6 +14,7 @@ pub mod BetweenReports
 pub mod OwnReports
 pub mod BetweenCalls
 pub mod Numbered
+pub mod NumberedRuns
 pub mod EachSource
 pub mod WorseLoss
 pub mod Witnesses

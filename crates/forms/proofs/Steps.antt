@@ -37,9 +37,10 @@ use Rattle.trace.proofs.Records.{length-recordsIn}
 use Rattle.walk.specs.Steps.{Next, goes, refuses}
 use Rattle.walk.proofs.Putting.{step-refuses}
 use Rattle.forms.specs.Packing.{fullBlocks, full, left, lastBlock}
-use Rattle.forms.specs.Conversions.{toShape, beginFault, beginBytes, beginBy, Began, allTimes, timed, nextBy, nextOf, heldIn, sound, callNext, bytesIn, carries, carriedBy, holding, TakesBlock, closeFault, closeBytes}
+use Rattle.forms.specs.Conversions.{toShape, beginFault, beginBytes, beginBy, beginOf, Began, allTimes, timed, nextBy, nextOf, heldIn, sound, callNext, bytesIn, carries, carriedBy, holding, TakesBlock, closeFault, closeBytes}
 use Rattle.forms.specs.Steps.{Packable, Parted}
 use Rattle.forms.specs.declared.Conversion.{Conversion}
+use Rattle.forms.specs.Numbered.{beginAs}
 use Rattle.forms.specs.declared.Begin.{Begin}
 use Rattle.forms.specs.declared.Begin.the-variants as begin
 use Rattle.forms.proofs.Held.{is-sound, held-fits}
@@ -195,3 +196,7 @@ module _ (c : Conversion) (part old : List ℕ) where
       (ap₂ (λ (f : Form) (l : List ℕ). bodyFault (shapeOf f) l) et bytes ∙ no-fault form (c .held) part o fit (s .good) some (omega (arith, s .few)) ∙ rw g)
       (ap₂ (λ (f : Form) (l : List ℕ). recordsBlock (shapeOf f) l (c .ssrc)) et bytes ∙ block-is form (c .held) part o fit (s .good) (c .ssrc) ∙ last-is (heldIn c part) (rw (length-recordsIn (toShape c) (c .held) part) some))
       wrote
+
+-- the answer to block 0 in the paper's terms
+pub begin-numbered : {b old : List ℕ} {r : Begin} {out : List ℕ} → Began b old r out → Began b old r out × (beginAs r ≡ beginAs (beginOf b old))
+begin-numbered w = (w, ap beginAs (w .answers))

@@ -5,3 +5,4 @@ pub mod Converted
 pub mod Theorems
 pub mod Pieces
 pub mod Witnesses
+pub mod Numbered

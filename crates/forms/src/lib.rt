@@ -5,7 +5,8 @@ ghost use Prim.Native.Nat.{ℕ};
 ghost use Rattle.answers.specs.Writers.{Wrote};
 ghost use Rattle.trace.specs.Reading.{blockOf};
 ghost use Rattle.trace.specs.declared.Block.{Block};
-ghost use Rattle.forms.specs.Conversions.{Began, callNext, TakesBlock, closeFault, closeBytes};
+ghost use Rattle.forms.specs.Numbered.{beginAs};
+ghost use Rattle.forms.specs.Conversions.{beginOf, Began, callNext, TakesBlock, closeFault, closeBytes};
 
 mod moving;
 mod packing;
@@ -66,6 +67,7 @@ impl Conversion {
     // 12 output too small.
     pub fn start(zeroth: &[u8], out: &mut [u8]) -> Begin
         ensures { λ r. ⌜ Began (now (zeroth .entry)) (now (out .entry)) r (now (out .exit)) ⌝ }
+        ensures { λ r. ⌜ beginAs r ≡ beginAs (beginOf (now (zeroth .entry)) (now (out .entry))) ⌝ }
     {
         match read_label(zeroth) {
             Zeroth::Label {

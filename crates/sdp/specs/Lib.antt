@@ -7,3 +7,4 @@ pub mod Steps
 pub mod Tallies
 pub mod Texts
 pub mod Theorems
+pub mod Numbered

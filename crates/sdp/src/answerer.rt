@@ -9,6 +9,7 @@ use answers::Refusal;
 ghost use mathlib.Core.Path.{_≡_};
 ghost use Prim.Native.Nat.{_≤_};
 ghost use Rattle.sdp.specs.Writing.{methodsIn};
+ghost use Rattle.sdp.specs.Numbered.{negotiatedAs};
 ghost use Rattle.sdp.specs.Answers.{sameMethod, names, capability, bothOneWay, firstIn, answerOf};
 
 // Whether two methods are the same.
@@ -110,6 +111,7 @@ fn first_common(offer: Attribute, ours: Attribute) -> Negotiated
 // 10 over 8 methods on either side.
 pub fn answer(offer: Attribute, ours: Attribute) -> Negotiated
     ensures { λ r. ⌜ r ≡ answerOf offer ours ⌝ }
+    ensures { λ r. ⌜ negotiatedAs r ≡ negotiatedAs (answerOf offer ours) ⌝ }
 {
     if 8 < offer.used {
         return Negotiated::Refused(Refusal::Limits);

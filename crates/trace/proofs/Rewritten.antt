@@ -18,7 +18,8 @@ use Rattle.trace.specs.Reading.{blockOf}
 use Rattle.trace.specs.Places.{zerothOf}
 use Rattle.trace.specs.Retired.{retiredIn, spacedLabel}
 use Rattle.trace.specs.Writing.{labelFault}
-use Rattle.trace.specs.Rewriting.{zerothFault, blockAs, blockSpaced, replacedIn, spacedBy, Spaces}
+use Rattle.trace.specs.Rewriting.{zerothFault, blockAs, blockSpaced, replacedIn, spacedBy, spacedOf, Spaces}
+use Rattle.trace.specs.Numbered.{spacedAs}
 use Rattle.trace.specs.Theorems.{SpacedReads}
 use Rattle.trace.specs.declared.Block.the-variants as block
 use Rattle.trace.specs.declared.Spaced.{Spaced}
@@ -68,6 +69,10 @@ module _ (b : List ℕ) where
         → r ≡ spacedBy (retiredIn part) (written none (labelBlock (shapeOf form) (spacedLabel part) ssrc) old)
         → out ≡ stored none (labelBlock (shapeOf form) (spacedLabel part) ssrc) old → Spaces b old r out
     spaces-label a s = record { answers = rw (e, ← label-there) a; stores = rw (e, ← label-there) s }
+
+-- the same in the paper's terms
+pub spaces-numbered : {b old : List ℕ} {r : Spaced} {out : List ℕ} → Spaces b old r out → Spaces b old r out × (spacedAs r ≡ spacedAs (spacedOf b old))
+spaces-numbered w = (w, ap spacedAs (w .answers))
 
 -- ---- the block with its label spaced
 

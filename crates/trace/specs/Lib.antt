@@ -8,3 +8,4 @@ pub mod Writing
 pub mod Rewriting
 pub mod Accepted
 pub mod Theorems
+pub mod Numbered

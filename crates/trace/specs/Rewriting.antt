@@ -47,7 +47,10 @@ spacedBy number (answer.Length size) = spaced.Replaced number
 spacedBy number (answer.Room size) = spaced.Room size
 spacedBy number (answer.Refused refusal) = spaced.Refused refusal
 
+abbrev pub spacedOf : List ℕ → List ℕ → Spaced
+spacedOf b old = spacedBy (replacedIn b (zerothOf b)) (written (zerothFault (zerothOf b)) (blockSpaced b (zerothOf b)) old)
+
 -- `r` and `out` are what the call gives for block 0 and the output `old`
 pub record Spaces (b old : List ℕ) (r : Spaced) (out : List ℕ) : Type 0 where
-  pub answers : r ≡ spacedBy (replacedIn b (zerothOf b)) (written (zerothFault (zerothOf b)) (blockSpaced b (zerothOf b)) old)
+  pub answers : r ≡ spacedOf b old
   pub stores : out ≡ stored (zerothFault (zerothOf b)) (blockSpaced b (zerothOf b)) old

@@ -10,6 +10,7 @@ ghost use mathlib.Core.Path.{_≡_};
 ghost use mathlib.Core.Bool.{_&&_};
 ghost use lib.Dec.{eqb};
 ghost use Rattle.format.specs.Forms.{sameForm};
+ghost use Rattle.trace.specs.Numbered.{zerothAs, laterAs};
 ghost use Rattle.trace.specs.Places.{zerothOf, laterOf};
 
 // Whether arrivals of a form and an SSRC are those of a trace of its own form and SSRC.
@@ -25,6 +26,7 @@ fn is_own(own: Form, number: u32, form: Form, ssrc: u32) -> bool
 // Reads block 0, which must be a label block. Refusals: 1, 13 and 14, as `read_block` gives them, and 14 for arrivals.
 pub fn read_label(zeroth: &[u8]) -> Zeroth
     ensures { λ r. ⌜ r ≡ zerothOf (now (zeroth .entry)) ⌝ }
+    ensures { λ r. ⌜ zerothAs r ≡ zerothAs (zerothOf (now (zeroth .entry))) ⌝ }
 {
     let read = read_block(zeroth);
     let Block::Label { form, length, ssrc } = read else {
@@ -37,6 +39,7 @@ pub fn read_label(zeroth: &[u8]) -> Zeroth
 // label, another form or another SSRC.
 pub fn read_own(form: Form, ssrc: u32, block: &[u8]) -> Later
     ensures { λ r. ⌜ r ≡ laterOf form ssrc (now (block .entry)) ⌝ }
+    ensures { λ r. ⌜ laterAs r ≡ laterAs (laterOf form ssrc (now (block .entry))) ⌝ }
 {
     let read = read_block(block);
     let Block::Arrivals {

@@ -30,6 +30,7 @@ ghost use Rattle.format.specs.Blocks.{blockBytes, bodyBytes, behindTime};
 ghost use Rattle.format.specs.Forms.{Shape, shapeOf, width};
 ghost use Rattle.trace.specs.Layout.{recordAt};
 ghost use Rattle.trace.specs.Contents.{every, isZero, goodRecords, labelBody, arrivalsBody};
+ghost use Rattle.trace.specs.Numbered.{readAs, foundAs};
 ghost use Rattle.trace.specs.Reading.{rightCheck, contentsOf, blockOf, faultOf, foundAt};
 
 // Whether body is that of a label of n bytes.
@@ -137,6 +138,7 @@ fn right_check(b: &[u8]) -> bool
 // Reads a block. Refused are any length but 512 (1), a wrong check (13) and wrong contents (14), in this order.
 pub fn read_block(b: &[u8]) -> Block
     ensures { λ r. ⌜ r ≡ blockOf (now (b .entry)) ⌝ }
+    ensures { λ r. ⌜ readAs r ≡ readAs (blockOf (now (b .entry))) ⌝ }
 {
     if b.len() != BLOCK {
         return Block::Refused(Refusal::Incomplete);
@@ -177,6 +179,7 @@ fn record_in(form: Form, body: &[u8], at: usize) -> Record
 // once a block.
 pub fn record_at(b: &[u8], i: usize) -> Found
     ensures { λ r. ⌜ r ≡ foundAt (now (b .entry)) i ⌝ }
+    ensures { λ r. ⌜ foundAs r ≡ foundAs (foundAt (now (b .entry)) i) ⌝ }
 {
     if b.len() != BLOCK {
         return Found::Refused(Refusal::Incomplete);

@@ -8,8 +8,10 @@ use answers::Written;
 use format::Form;
 use format::block::BODY;
 ghost use Rattle.answers.specs.Writers.{Wrote};
+ghost use mathlib.Core.Path.{_≡_};
+ghost use Rattle.trace.specs.Numbered.{spacedAs};
 ghost use Rattle.trace.specs.Places.{zerothOf};
-ghost use Rattle.trace.specs.Rewriting.{zerothFault, blockAs, Spaces};
+ghost use Rattle.trace.specs.Rewriting.{zerothFault, blockAs, spacedOf, Spaces};
 
 // Writes the label and the SSRC of block 0 as a label block of the given form at the front of out. Refusals: 1, 13 and 14, as `read_label` gives them; 12 an
 // output under 512 bytes.
@@ -33,6 +35,7 @@ pub fn write_label_as(form: Form, zeroth: &[u8], out: &mut [u8]) -> Written
 // Refusals: 1, 13 and 14, as `read_label` gives them; 12 an output under 512 bytes.
 pub fn space_label(zeroth: &[u8], out: &mut [u8]) -> Spaced
     ensures { λ r. ⌜ Spaces (now (zeroth .entry)) (now (out .entry)) r (now (out .exit)) ⌝ }
+    ensures { λ r. ⌜ spacedAs r ≡ spacedAs (spacedOf (now (zeroth .entry)) (now (out .entry))) ⌝ }
 {
     match read_label(zeroth) {
         Zeroth::Label { form, length, ssrc } => {

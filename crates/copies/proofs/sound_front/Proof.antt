@@ -30,7 +30,7 @@ part-read-own-end c = omega (arith, c .before .loop .inv .within, c .loop-test .
 returns : tie.Need-returns Inv-loop μ-loop
 returns c =
     loop-refused (c .before .before .before .before .before .before .loop .inv) (c .before .before .before .before .before .loop-test .taken) refl
-    (sym (c .before .before .before .read-own .ensures) ∙ c .before .read .given .1)
+    (sym (c .before .before .before .read-own .ensures .0) ∙ c .before .read .given .1)
 
 loop-less : tie.Need-loop-less Inv-loop μ-loop
 loop-less c = omega (arith, c .before .before .before .before .before .loop .inv .within, c .before .before .before .before .loop-test .taken)
@@ -38,7 +38,7 @@ loop-less c = omega (arith, c .before .before .before .before .before .loop .inv
 loop-again : tie.Need-loop-again Inv-loop μ-loop
 loop-again c =
     loop-taken (c .before .before .before .before .before .loop .inv) (c .before .before .before .before .loop-test .taken) refl
-    (sym (c .before .before .read-own .ensures) ∙ c .enum-told .given .1)
+    (sym (c .before .before .read-own .ensures .0) ∙ c .enum-told .given .1)
 
 returns-2 : tie.Need-returns-2 Inv-loop μ-loop
 returns-2 c = loop-last (c .before .loop .inv) (omega (arith, c .loop-test .left))

@@ -9,12 +9,12 @@ use Rattle.labels.proofs.started.Tie as tie
 returns : tie.Need-returns
 returns c =
     let a = c .before .before .before .before .before .args in
-    sym (ap (λ (z : Zeroth). startedBy z (a .replaced)) (sym (c .before .before .before .read-label .ensures) ∙ c .before .form .given .1))
+    sym (ap (λ (z : Zeroth). startedBy z (a .replaced)) (sym (c .before .before .before .read-label .ensures .0) ∙ c .before .form .given .1))
 
 returns-2 : tie.Need-returns-2
 returns-2 c =
     let a = c .before .before .before .before .before .args in
-    sym (ap (λ (z : Zeroth). startedBy z (a .replaced)) (sym (c .before .before .before .read-label .ensures) ∙ c .before .refusal .given .1))
+    sym (ap (λ (z : Zeroth). startedBy z (a .replaced)) (sym (c .before .before .before .read-label .ensures .0) ∙ c .before .refusal .given .1))
 
 pub started-spec : {M : Type 1} → statement M
 started-spec =

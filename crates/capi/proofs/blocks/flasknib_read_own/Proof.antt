@@ -14,13 +14,13 @@ returns c =
 returns-2 : tie.Need-returns-2
 returns-2 c =
     let known = was-true (c .before .before .before .before .before .is-form .ensures) (c .before .before .before .before .if1 .left) in
-    let told = sym (c .before .before .read-own .ensures) ∙ c .enum-told .given .1 in
+    let told = sym (c .before .before .read-own .ensures .0) ∙ c .enum-told .given .1 in
     rw (known, ← c .before .before .before .form-of .ensures, ap laterCode told)
 
 returns-3 : tie.Need-returns-3
 returns-3 c =
     let known = was-true (c .before .before .before .before .before .before .before .is-form .ensures) (c .before .before .before .before .before .before .if1 .left) in
-    let told = sym (c .before .before .before .before .read-own .ensures) ∙ c .before .before .refusal .given .1 in
+    let told = sym (c .before .before .before .before .read-own .ensures .0) ∙ c .before .before .refusal .given .1 in
     rw (known, ← c .before .before .before .before .before .form-of .ensures, c .number2 .ensures, ap laterCode told)
 
 pub flasknib-read-own-spec : {M : Type 1} → statement M

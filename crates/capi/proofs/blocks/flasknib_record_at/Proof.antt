@@ -12,13 +12,13 @@ use Rattle.capi.proofs.blocks.flasknib_record_at.Tie as tie
 
 returns : tie.Need-returns
 returns c =
-    let told = sym (c .before .before .before .before .before .before .before .before .before .before .record-at .ensures) ∙ c .before .before .before .before .before .before .before .before .record .given .1 in
+    let told = sym (c .before .before .before .before .before .before .before .before .before .before .record-at .ensures .0) ∙ c .before .before .before .before .before .before .before .before .record .given .1 in
     rw told (c .before .before .put-found .ensures)
 
 returns-2 : tie.Need-returns-2
 returns-2 c =
     let a = c .before .before .before .before .before .before .before .args in
-    let told = sym (c .before .before .before .before .record-at .ensures) ∙ c .before .before .refusal .given .1 in
+    let told = sym (c .before .before .before .before .record-at .ensures .0) ∙ c .before .before .refusal .given .1 in
     gives refusalCode (wrote-refused (recordWords (foundAt (now (a .block)) (a .i))) (now (a .found)) (ap foundFault told)) (c .number2 .ensures)
 
 pub flasknib-record-at-spec : {M : Type 1} → statement M

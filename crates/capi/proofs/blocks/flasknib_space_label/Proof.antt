@@ -12,11 +12,11 @@ use Rattle.capi.proofs.blocks.flasknib_space_label.Tie as tie
 replaced-requires : tie.Need-replaced-requires
 replaced-requires c κs =
     let a = c .before .before .before .before .before .before .args in
-    omega (arith, spaced-size (now (a .zeroth)) (now (a .out)) (c .before .before .space-label .ensures))
+    omega (arith, spaced-size (now (a .zeroth)) (now (a .out)) (c .before .before .space-label .ensures .0))
 
 returns : tie.Need-returns
 returns c =
-    let w = c .before .before .before .space-label .ensures in
+    let w = c .before .before .before .space-label .ensures .0 in
     record { answers = seen-is (c .replaced .result) (search needs) ∙ c .replaced .ensures ∙ ap spacedCode (w .answers); stores = w .stores }
 
 pub flasknib-space-label-spec : {M : Type 1} → statement M

@@ -17,12 +17,12 @@ returns c =
 put-begun-requires : tie.Need-put-begun-requires
 put-begun-requires c κs =
     let a = c .before .before .before .before .before .before .before .before .before .args in
-    (c .before .before .before .before .before .if1 .left, omega (arith, begin-size (now (a .zeroth)) (now (a .out)) (c .before .before .before .start .ensures)))
+    (c .before .before .before .before .before .if1 .left, omega (arith, begin-size (now (a .zeroth)) (now (a .out)) (c .before .before .before .start .ensures .0)))
 
 returns-2 : tie.Need-returns-2
 returns-2 c =
     let a = c .before .before .before .before .before .before .before .before .before .before .before .before .args in
-    let w = begins-begun (now (a .words)) (now (a .zeroth)) (now (a .out)) (c .before .before .before .before .before .before .before .before .if1 .left) (c .before .before .before .before .before .before .start .ensures) (c .before .before .put-begun .ensures) in
+    let w = begins-begun (now (a .words)) (now (a .zeroth)) (now (a .out)) (c .before .before .before .before .before .before .before .before .if1 .left) (c .before .before .before .before .before .before .start .ensures .0) (c .before .before .put-begun .ensures) in
     record { answers = seen-is (c .before .before .put-begun .result) (search needs) ∙ w .answers; keeps = w .keeps; stores = w .stores }
 
 pub flasknib-forms-start-spec : {M : Type 1} → statement M

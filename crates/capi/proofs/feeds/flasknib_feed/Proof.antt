@@ -25,7 +25,7 @@ put-fed-requires c κs =
     let stretch-octets : Octets (now (a .stretch)) = λ i. omega (arith, s .before .before .before .before .before .shared-slice-known .given i) in
     let kept-octets : Octets (now (a .kept)) = λ i. omega (arith, s .before .before .before .before .before .before .slice-known2 .given i) in
     let size = feed-size (s .given .given .0 .0) (now (a .kept)) (now (a .stretch)) (now (a .out)) (upload-ssrc (now (a .upload)) e) kept-octets stretch-octets in
-    (words-of (now (a .upload)) (held (now (a .upload)) e .0) .long, omega (arith, ap feedSize (c .before .before .before .before .before .feed .ensures .answer), size))
+    (words-of (now (a .upload)) (held (now (a .upload)) e .0) .long, omega (arith, ap feedSize (c .before .before .before .before .before .feed .ensures .0 .answer), size))
 
 returns-2 : tie.Need-returns-2
 returns-2 c =
@@ -33,7 +33,7 @@ returns-2 c =
     let a = s .before .before .before .before .before .before .before .before .args in
     let e = sym (s .before .before .load .ensures) ∙ s .given .given .1 in
     feeds-as (seen-is (c .before .before .put-fed .result) (search needs))
-    (feed-held (now (a .upload)) (now (a .kept)) e (now (a .stretch)) (now (a .out)) (c .before .before .before .before .before .before .before .before .feed .ensures) (c .before .before .put-fed .ensures))
+    (feed-held (now (a .upload)) (now (a .kept)) e (now (a .stretch)) (now (a .out)) (c .before .before .before .before .before .before .before .before .feed .ensures .0) (c .before .before .put-fed .ensures))
 
 pub flasknib-feed-spec : {M : Type 1} → statement M
 flasknib-feed-spec =

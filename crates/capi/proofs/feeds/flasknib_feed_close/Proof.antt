@@ -23,7 +23,7 @@ returns-2 c =
     let s = c .before .before .before .before .before .before in
     let a = s .before .before .before .before .before .before .args in
     let e = sym (s .before .before .load .ensures) ∙ s .given .given .1 in
-    close-held (now (a .upload)) (now (a .kept)) e (c .before .before .before .before .close .ensures) (c .before .before .put-closed .ensures)
+    close-held (now (a .upload)) (now (a .kept)) e (c .before .before .before .before .close .ensures .0) (c .before .before .put-closed .ensures)
 
 pub flasknib-feed-close-spec : {M : Type 1} → statement M
 flasknib-feed-close-spec =

@@ -26,7 +26,7 @@ returns-3 : tie.Need-returns-3
 returns-3 c =
     let a = c .before .before .before .before .before .before .before .before .before .before .before .before .before .before .before .before .args in
     told-by
-    (c .before .before .before .before .answer .ensures
+    (c .before .before .before .before .answer .ensures .0
     ∙ both-held (now (a .offer)) (now (a .ours)) (c .before .before .before .before .before .before .before .before .before .before .before .before .load .ensures) (c .before .before .before .before .before .before .before .enum-told2 .given .1) (c .before .before .before .before .before .before .before .before .before .before .before .load2 .ensures) (c .before .before .before .before .before .enum-told4 .given .1)) _ _ _
     (c .before .before .put-negotiated .ensures)
 

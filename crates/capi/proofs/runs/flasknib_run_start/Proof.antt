@@ -21,14 +21,14 @@ returns-2 c =
     let g = c .before .before .before .before .before .first .given in
     let sized = c .before .before .before .before .before .before .before .before .if1 .left in
     let whole = sets-whole (now (a .run)) (runWords (g .0 .0)) (sized ∙ sym (length-run (g .0 .0))) in
-    starts-begun (now (a .zeroth)) (now (a .run)) sized (c .before .before .before .before .before .before .before .start .ensures)
+    starts-begun (now (a .zeroth)) (now (a .run)) sized (c .before .before .before .before .before .before .before .start .ensures .0)
     (sym (ap startCode (g .1))) (c .before .before .store .ensures ∙ whole ∙ sym (ap (startWords (now (a .run))) (g .1)))
 
 returns-3 : tie.Need-returns-3
 returns-3 c =
     let a = c .before .before .before .before .before .before .before .before .args in
     let g = c .before .before .refusal .given in
-    starts-begun (now (a .zeroth)) (now (a .run)) (c .before .before .before .before .before .if1 .left) (c .before .before .before .before .start .ensures)
+    starts-begun (now (a .zeroth)) (now (a .run)) (c .before .before .before .before .before .if1 .left) (c .before .before .before .before .start .ensures .0)
     (c .number2 .ensures ∙ sym (ap startCode (g .1))) (sym (ap (startWords (now (a .run))) (g .1)))
 
 pub flasknib-run-start-spec : {M : Type 1} → statement M

@@ -13,7 +13,7 @@ use Rattle.convert.proofs.feed_passes.from_label.Tie as tie
 take-all-requires : tie.Need-take-all-requires
 take-all-requires c κs =
     let a = c .before .before .before .before .before .before .before .before .args in
-    let e = sym (c .before .before .before .before .start .ensures) ∙ c .before .before .run .given .1 in
+    let e = sym (c .before .before .before .before .start .ensures .0) ∙ c .before .before .run .given .1 in
     record { sound = sound-good (start-good (now (a .block)) (c .before .before .run .given .0 .0) e); short = c .before .before .before .before .before .before .before .before .pre .1; small = omega arith }
 
 add-t14 : tie.Need-add-t14
@@ -26,13 +26,13 @@ returns : tie.Need-returns
 returns c zeroth =
     let a = c .before .before .before .before .before .before .before .before .before .before .before .before .before .args in
     let b = now (a .block) in
-    let e = sym (c .before .before .before .before .before .before .before .before .before .start .ensures) ∙ c .before .before .before .before .before .before .before .run .given .1 in
+    let e = sym (c .before .before .before .before .before .before .before .before .before .start .ensures .0) ∙ c .before .before .before .before .before .before .before .run .given .1 in
     passes-label (kept (c .before .before .before .before .before .before .before .run .given .0 .0) b) (label-goes (record { run = a .given; zeroth = zeroth }) b (wholeIn (now (a .rest))) e) (c .before .before .before .before .take-all .ensures .passed 1) refl
 
 returns-2 : tie.Need-returns-2
 returns-2 c zeroth =
     let a = c .before .before .before .before .before .before .before .args in
-    let e = sym (c .before .before .before .start .ensures) ∙ c .before .refusal .given .1 in
+    let e = sym (c .before .before .before .start .ensures .0) ∙ c .before .refusal .given .1 in
     passes-no-label (record { run = a .given; zeroth = zeroth }) (now (a .out)) (label-refused (record { run = a .given; zeroth = zeroth }) (now (a .block)) (wholeIn (now (a .rest))) e)
 
 pub from-label-spec : {M : Type 1} → statement M

@@ -11,26 +11,26 @@ use Rattle.convert.proofs.feed_soundness.is_own.Statement.{statement}
 use Rattle.convert.proofs.feed_soundness.is_own.Tie as tie
 
 returns : tie.Need-returns
-returns c = let a = c .before .before .before .before .args in sym (ap (ownBy (a .run)) (sym (c .before .before .read-label .ensures)) ∙ own-refused (a .run) (c .before .before .read-label .result) (c .before .match .keys2))
+returns c = let a = c .before .before .before .before .args in sym (ap (ownBy (a .run)) (sym (c .before .before .read-label .ensures .0)) ∙ own-refused (a .run) (c .before .before .read-label .result) (c .before .match .keys2))
 
 returns-2 : tie.Need-returns-2
 returns-2 c =
     let a = c .before .before .before .before .before .before .before .before .args in
-    let own = ap (ownBy (a .run)) (sym (c .before .before .before .before .before .before .read-label .ensures) ∙ c .before .before .before .before .read .given .1) in
+    let own = ap (ownBy (a .run)) (sym (c .before .before .before .before .before .before .read-label .ensures .0) ∙ c .before .before .before .before .read .given .1) in
     let other : sameForm (c .before .before .before .before .read .given .0 .0) (a .run .form) ≡ false = ap₂ eqb (sym (c .before .before .label .ensures)) (sym (c .before .label2 .ensures)) ∙ ne-eqb _ _ (c .if1 .taken) in
     sym (own ∙ rw other)
 
 returns-3 : tie.Need-returns-3
 returns-3 c =
     let a = c .before .before .before .before .before .before .before .before .before .before .args in
-    let own = ap (ownBy (a .run)) (sym (c .before .before .before .before .before .before .before .before .read-label .ensures) ∙ c .before .before .before .before .before .before .read .given .1) in
+    let own = ap (ownBy (a .run)) (sym (c .before .before .before .before .before .before .before .before .read-label .ensures .0) ∙ c .before .before .before .before .before .before .read .given .1) in
     let same : sameForm (c .before .before .before .before .before .before .read .given .0 .0) (a .run .form) ≡ true = ap₂ eqb (sym (c .before .before .before .before .label .ensures)) (sym (c .before .before .before .label2 .ensures)) ∙ eq-eqb _ _ (c .before .before .if1 .left) in
     sym (own ∙ rw (same, ne-eqb (c .before .before .before .before .before .before .read .given .0 .1 .0) (a .run .length) (c .if2 .taken)))
 
 returns-4 : tie.Need-returns-4
 returns-4 c =
     let a = c .before .before .before .before .before .before .before .before .before .before .before .args in
-    let own = ap (ownBy (a .run)) (sym (c .before .before .before .before .before .before .before .before .before .read-label .ensures) ∙ c .before .before .before .before .before .before .before .read .given .1) in
+    let own = ap (ownBy (a .run)) (sym (c .before .before .before .before .before .before .before .before .before .read-label .ensures .0) ∙ c .before .before .before .before .before .before .before .read .given .1) in
     let same : sameForm (c .before .before .before .before .before .before .before .read .given .0 .0) (a .run .form) ≡ true = ap₂ eqb (sym (c .before .before .before .before .before .label .ensures)) (sym (c .before .before .before .before .label2 .ensures)) ∙ eq-eqb _ _ (c .before .before .before .if1 .left) in
     sym (own ∙ rw (same, eq-eqb (c .before .before .before .before .before .before .before .read .given .0 .1 .0) (a .run .length) (c .before .if2 .left), and-true (eqb (c .before .before .before .before .before .before .before .read .given .0 .1 .1 .0) (a .run .ssrc))))
 

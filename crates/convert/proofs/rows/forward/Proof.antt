@@ -12,18 +12,18 @@ use Rattle.convert.proofs.rows.forward.Tie as tie
 forward-row-requires : tie.Need-forward-row-requires
 forward-row-requires c κs =
     let a = c .before .before .before .before .before .before .before .before .args in
-    (c .before .before .before .before .before .before .before .before .pre, later-arrivals (a .run .form) (a .run .ssrc) (now (a .block)) (sym (c .before .before .before .before .read-own .ensures) ∙ c .before .before .count .given .1))
+    (c .before .before .before .before .before .before .before .before .pre, later-arrivals (a .run .form) (a .run .ssrc) (now (a .block)) (sym (c .before .before .before .before .read-own .ensures .0) ∙ c .before .before .count .given .1))
 
 returns : tie.Need-returns
 returns c =
     let a = c .before .before .before .before .before .before .before .before .before .before .before .args in
-    rw (next-by (a .run) (now (a .block)) (sym (c .before .before .before .before .before .before .before .read-own .ensures) ∙ c .before .before .before .before .before .count .given .1)) (c .before .before .forward-row .ensures)
+    rw (next-by (a .run) (now (a .block)) (sym (c .before .before .before .before .before .before .before .read-own .ensures .0) ∙ c .before .before .before .before .before .count .given .1)) (c .before .before .forward-row .ensures)
 
 returns-2 : tie.Need-returns-2
 returns-2 c =
     let a = c .before .before .before .before .before .before .before .before .args in
     let b = now (a .block) in
-    forwarded-refuses (a .run) (rowIn (now (a .zeroth)) (nextOf (a .run) b)) (now (a .out)) (next-by (a .run) b (sym (c .before .before .before .before .read-own .ensures) ∙ c .before .before .refusal .given .1)) (c .refused .ensures .0) (c .refused .ensures .1)
+    forwarded-refuses (a .run) (rowIn (now (a .zeroth)) (nextOf (a .run) b)) (now (a .out)) (next-by (a .run) b (sym (c .before .before .before .before .read-own .ensures .0) ∙ c .before .before .refusal .given .1)) (c .refused .ensures .0) (c .refused .ensures .1)
 
 pub forward-spec : {M : Type 1} → statement M
 forward-spec =

@@ -3,15 +3,18 @@ use borrow.Author.Needs.{needs}
 use mathlib.Core.Path.{sym, _∙_}
 use denote.Ref.{now}
 use Rattle.trace.proofs.Placed.{zeroth-label}
-use Rattle.forms.proofs.Steps.{begin-refused}
+use Rattle.forms.proofs.Steps.{begin-refused, begin-numbered}
 use Rattle.forms.proofs.Conversion.start.Statement.{statement}
 use Rattle.forms.proofs.Conversion.start.Tie as tie
 
 started-requires : tie.Need-started-requires
-started-requires c κs = (_, zeroth-label (now (c .before .before .before .before .before .before .before .args .zeroth)) (sym (c .before .before .before .before .read-label .ensures) ∙ c .before .before .form .given .1))
+started-requires c κs = (_, zeroth-label (now (c .before .before .before .before .before .before .before .args .zeroth)) (sym (c .before .before .before .before .read-label .ensures .0) ∙ c .before .before .form .given .1))
+
+returns : tie.Need-returns
+returns c = begin-numbered (search needs)
 
 returns-2 : tie.Need-returns-2
-returns-2 c = let a = c .before .before .before .before .before .before .args in begin-refused (now (a .zeroth)) (now (a .out)) (sym (c .before .before .before .read-label .ensures) ∙ c .before .refusal .given .1)
+returns-2 c = let a = c .before .before .before .before .before .before .args in begin-numbered (begin-refused (now (a .zeroth)) (now (a .out)) (sym (c .before .before .before .read-label .ensures .0) ∙ c .before .refusal .given .1))
 
 pub start-spec : {M : Type 1} → statement M
 start-spec =
@@ -22,5 +25,5 @@ start-spec =
     started-requires
     (λ c. search needs)
     (λ c. search needs)
-    (λ c. search needs)
+    returns
     returns-2)

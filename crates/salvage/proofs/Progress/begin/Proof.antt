@@ -7,10 +7,10 @@ use Rattle.salvage.proofs.Progress.begin.Statement.{statement}
 use Rattle.salvage.proofs.Progress.begin.Tie as tie
 
 returns : tie.Need-returns
-returns c = sym (begun-by (now (c .before .before .before .before .before .args .zeroth)) (sym (c .before .before .before .read-label .ensures) ∙ c .before .form .given .1))
+returns c = sym (begun-by (now (c .before .before .before .before .before .args .zeroth)) (sym (c .before .before .before .read-label .ensures .0) ∙ c .before .form .given .1))
 
 returns-2 : tie.Need-returns-2
-returns-2 c = sym (begun-by (now (c .before .before .before .before .before .args .zeroth)) (sym (c .before .before .before .read-label .ensures) ∙ c .before .refusal .given .1))
+returns-2 c = sym (begun-by (now (c .before .before .before .before .before .args .zeroth)) (sym (c .before .before .before .read-label .ensures .0) ∙ c .before .refusal .given .1))
 
 pub begin-spec : {M : Type 1} → statement M
 begin-spec =

@@ -1,5 +1,7 @@
 -- `trace::places::read_own` meets its contract. Assumes nothing.
 use borrow.Author.Needs.{needs}
+use Rattle.answers.proofs.Numbers.{numbered}
+use Rattle.trace.specs.Numbered.{laterAs}
 use mathlib.Core.Path.{sym, ap, _∙_}
 use denote.Ref.{now}
 use Rattle.answers.proofs.Conditions.{was-true, was-false}
@@ -12,19 +14,19 @@ returns : tie.Need-returns
 returns c =
     let a = c .before .before .before .before .args in
     let read = c .before .before .read-block in
-    ap Refused (c .fault-of .ensures) ∙ sym (later-other (a .form) (a .ssrc) (now (a .block)) (read .result) (sym (read .ensures)) (c .before .match .keys2))
+    numbered laterAs (ap Refused (c .fault-of .ensures) ∙ sym (later-other (a .form) (a .ssrc) (now (a .block)) (read .result) (sym (read .ensures .0)) (c .before .match .keys2)))
 
 returns-2 : tie.Need-returns-2
 returns-2 c =
     let a = c .before .before .before .before .before .before .before .args in
     let read = c .before .before .before .before .before .read-block in
-    sym (later-foreign (a .form) (a .ssrc) (now (a .block)) (sym (read .ensures) ∙ c .before .before .before .read .given .1) (was-false (c .before .is-own .ensures) (c .if1 .taken)))
+    numbered laterAs (sym (later-foreign (a .form) (a .ssrc) (now (a .block)) (sym (read .ensures .0) ∙ c .before .before .before .read .given .1) (was-false (c .before .is-own .ensures) (c .if1 .taken))))
 
 returns-3 : tie.Need-returns-3
 returns-3 c =
     let a = c .before .before .before .before .before .before .before .args in
     let read = c .before .before .before .before .before .read-block in
-    sym (later-own (a .form) (a .ssrc) (now (a .block)) (sym (read .ensures) ∙ c .before .before .before .read .given .1) (was-true (c .before .is-own .ensures) (c .if1 .left)))
+    numbered laterAs (sym (later-own (a .form) (a .ssrc) (now (a .block)) (sym (read .ensures .0) ∙ c .before .before .before .read .given .1) (was-true (c .before .is-own .ensures) (c .if1 .left))))
 
 pub read-own-spec : {M : Type 1} → statement M
 read-own-spec =

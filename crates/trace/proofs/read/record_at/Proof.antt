@@ -1,5 +1,7 @@
 -- `trace::read::record_at` meets its contract. Assumes nothing.
 use borrow.Author.Needs.{needs}
+use Rattle.answers.proofs.Numbers.{numbered}
+use Rattle.trace.specs.Numbered.{foundAs}
 use native.Mathlib.Omega.{arith}
 use Prim.Native.Nat.{ℕ, _+_, _-_, _*_, _≤_}
 use denote.Ref.{now}
@@ -30,22 +32,25 @@ room : (c : tie.After-width) → c .before .before .before .before .before .befo
 room c = rw (c .width .ensures) (record-fits (fits (c .before .before .before .before .before .before .before .kind .given .0 .0)) (count-right _ _ (count (c .before .before .before)) .1) (c .before .before .before .before .before .before .before .before .before .before .before .before .before .args .i) (c .before .before .if3 .left))
 
 returns : tie.Need-returns
-returns c = let a = c .before .before .args in found-short (now (a .b)) (a .i) (c .if1 .taken)
+returns c = let a = c .before .before .args in numbered foundAs (found-short (now (a .b)) (a .i) (c .if1 .taken))
 
 returns-2 : tie.Need-returns-2
 returns-2 c =
     let a = c .before .before .before .before .before .args in
-    found-other (now (a .b)) (a .i) (c .before .of .result) (c .match .keys2) ∙ found-whole (now (a .b)) (a .i) (c .before .before .before .if1 .left) (kind-told (now (a .b)) (c .before .before .read16 .ensures) (c .before .of .ensures) refl)
+    numbered foundAs
+    (found-other (now (a .b)) (a .i) (c .before .of .result) (c .match .keys2) ∙ found-whole (now (a .b)) (a .i) (c .before .before .before .if1 .left) (kind-told (now (a .b)) (c .before .before .read16 .ensures) (c .before .of .ensures) refl))
 
 returns-3 : tie.Need-returns-3
 returns-3 c =
     let a = c .before .before .before .before .before .before .before .before .before .before .args in
-    found-none (now (a .b)) (a .i) (c .before .before .before .before .kind .given .0 .0) (c .before .before .read162 .ensures) (was-false (c .before .is-count .ensures) (c .if2 .taken)) ∙ arrivals (c .before .before .before)
+    numbered foundAs
+    (found-none (now (a .b)) (a .i) (c .before .before .before .before .kind .given .0 .0) (c .before .before .read162 .ensures) (was-false (c .before .is-count .ensures) (c .if2 .taken)) ∙ arrivals (c .before .before .before))
 
 returns-4 : tie.Need-returns-4
 returns-4 c =
     let a = c .before .before .before .before .before .before .before .before .before .before .before .args in
-    found-past (now (a .b)) (a .i) (c .before .before .before .before .before .kind .given .0 .0) (c .before .before .before .read162 .ensures) (count (c .before)) (c .if3 .taken) ∙ arrivals (c .before .before .before .before)
+    numbered foundAs
+    (found-past (now (a .b)) (a .i) (c .before .before .before .before .before .kind .given .0 .0) (c .before .before .before .read162 .ensures) (count (c .before)) (c .if3 .taken) ∙ arrivals (c .before .before .before .before))
 
 mul-record-in : tie.Need-mul-record-in
 mul-record-in c = omega (arith, room c)
@@ -57,8 +62,9 @@ returns-5 : tie.Need-returns-5
 returns-5 c =
     let a = c .before .before .before .before .before .before .before .before .before .before .before .before .before .before .args in
     let form = c .before .before .before .before .before .before .before .before .kind .given .0 .0 in
-    ap Is (c .record-in .ensures ∙ ap (λ (w : ℕ). recordAt (shapeOf form) (bodyOf (now (a .b))) (a .i * w)) (c .before .width .ensures))
-    ∙ found-here (now (a .b)) (a .i) form (c .before .before .before .before .before .before .read162 .ensures) (count (c .before .before .before .before)) (c .before .before .before .if3 .left) ∙ arrivals (c .before .before .before .before .before .before .before)
+    numbered foundAs
+    (ap Is (c .record-in .ensures ∙ ap (λ (w : ℕ). recordAt (shapeOf form) (bodyOf (now (a .b))) (a .i * w)) (c .before .width .ensures))
+    ∙ found-here (now (a .b)) (a .i) form (c .before .before .before .before .before .before .read162 .ensures) (count (c .before .before .before .before)) (c .before .before .before .if3 .left) ∙ arrivals (c .before .before .before .before .before .before .before))
 
 pub record-at-spec : {M : Type 1} → statement M
 record-at-spec =

@@ -4,7 +4,7 @@ use mathlib.Core.Path.{refl}
 use denote.Ref.{now}
 use lib.ListN.{length}
 use Rattle.answers.proofs.Conditions.{was-true, was-false}
-use Rattle.convert.proofs.SoundUploads.{feed-malformed, feed-sound, feeds-unchanged}
+use Rattle.convert.proofs.SoundUploads.{feed-malformed, feed-sound, feeds-unchanged, feeds-numbered}
 use Rattle.convert.proofs.feeds.Upload.feed.Statement.{statement}
 use Rattle.convert.proofs.feeds.Upload.feed.Tie as tie
 
@@ -12,7 +12,7 @@ returns : tie.Need-returns
 returns c =
     let a = c .before .before .before .before .before .before .args in
     let e = was-false (c .before .is-sound .ensures) (c .if1 .taken) in
-    feeds-unchanged (now (a .out)) (feed-malformed (a .self) (now (a .lent)) (now (a .stretch)) (length (now (a .out))) e) refl refl
+    feeds-numbered (feeds-unchanged (now (a .out)) (feed-malformed (a .self) (now (a .lent)) (now (a .stretch)) (length (now (a .out))) e) refl refl)
 
 take-stretch-requires : tie.Need-take-stretch-requires
 take-stretch-requires c κs = (was-true (c .before .before .before .before .before .is-sound .ensures) (c .before .before .before .before .if1 .left), c .before .before .enum-told .given .1)
@@ -21,13 +21,13 @@ returns-2 : tie.Need-returns-2
 returns-2 c =
     let a = c .before .before .before .before .before .before .before .before .before .before .args in
     let e = was-true (c .before .before .before .before .before .is-sound .ensures) (c .before .before .before .before .if1 .left) in
-    feeds-unchanged (now (a .out)) (feed-sound (a .self) (now (a .lent)) (now (a .stretch)) (length (now (a .out))) e (c .before .before .ended .given .1)) (c .repeated .ensures .0) (c .repeated .ensures .1)
+    feeds-numbered (feeds-unchanged (now (a .out)) (feed-sound (a .self) (now (a .lent)) (now (a .stretch)) (length (now (a .out))) e (c .before .before .ended .given .1)) (c .repeated .ensures .0) (c .repeated .ensures .1))
 
 returns-3 : tie.Need-returns-3
 returns-3 c =
     let a = c .before .before .before .before .before .before .before .before .before .before .before .before .before .before .before .args in
     let e = was-true (c .before .before .before .before .before .before .before .before .before .before .is-sound .ensures) (c .before .before .before .before .before .before .before .before .before .if1 .left) in
-    rw (feed-sound (a .self) (now (a .lent)) (now (a .stretch)) (length (now (a .out))) e (c .before .before .before .before .before .before .before .enum-told .given .1)) (c .before .before .before .before .take-stretch .ensures)
+    feeds-numbered (rw (feed-sound (a .self) (now (a .lent)) (now (a .stretch)) (length (now (a .out))) e (c .before .before .before .before .before .before .before .enum-told .given .1)) (c .before .before .before .before .take-stretch .ensures))
 
 pub feed-spec : {M : Type 1} → statement M
 feed-spec =

@@ -12,7 +12,7 @@ use Rattle.forms.proofs.pieces.Progress.begin.Tie as tie
 begun-by : (c : tie.After-start) {r : Begin} → c .start .result ≡ r → Begins (now (c .before .before .before .before .args .zeroth)) (now (c .before .before .before .before .args .out)) (begunFor r) (c .start .last .1 .0)
 begun-by c e =
     let a = c .before .before .before .before .args in
-    subst (λ (r : Begin). Begins (now (a .zeroth)) (now (a .out)) (begunFor r) (c .start .last .1 .0)) e (begins (now (a .zeroth)) (now (a .out)) (c .start .ensures))
+    subst (λ (r : Begin). Begins (now (a .zeroth)) (now (a .out)) (begunFor r) (c .start .last .1 .0)) e (begins (now (a .zeroth)) (now (a .out)) (c .start .ensures .0))
 
 returns : tie.Need-returns
 returns c = begun-by (c .before .before .before .before .before) (c .before .conversion .given .1)
