@@ -22,6 +22,7 @@ use Rattle.source.proofs.Totalled.{packets-wires, AllCounted, all-counted}
 use Rattle.engine.proofs.Parting.{count-append}
 use Rattle.trace.specs.Contents.{every}
 use Rattle.trace.proofs.Limits.{below}
+use Rattle.sources.specs.Answers.{behind}
 use Rattle.walk.specs.Pieces.{Octets}
 use Rattle.lent.specs.SourceWords.{sourceOf, isSource, sourceWords, loaded}
 use Rattle.lent.specs.declared.source_words.Loaded.the-variants.{Held}
@@ -38,20 +39,20 @@ use Rattle.demands.proofs.OneCall.{marks-fit}
 use Rattle.demands.proofs.Demand.{demand3}
 use Rattle.demands.proofs.Witnesses.{met}
 use Rattle.callers.specs.InTurn.{leftBy, answersOf, Every, ReadOn}
-use Rattle.callers.specs.BlocksFromC.{Block, BlockFits, blocksLeft, blocksAnswered, counts, behind, jumpsIn, restartsIn, next, afterBlocks, sum, packetsIn, packetsOf, BlocksInTurn, CountsBlocksInTurn, BlocksHoldCount, c1First, c1Second, c1Blocks}
+use Rattle.callers.specs.BlocksFromC.{Block, BlockFits, blocksLeft, blocksAnswered, counts, jumpsIn, restartsIn, next, afterBlocks, sum, packetsIn, packetsOf, BlocksInTurn, CountsBlocksInTurn, BlocksHoldCount, c1First, c1Second, c1Blocks}
 use Rattle.callers.proofs.InTurn.{in-turn}
 
 -- ---- one block
 
 -- what its answer, of these packets, says
-record One (s : Source) (ps : List Packet) (c : BlockCount) : Type 0 where
-  all : countAll ps s 0 0 ≡ Counted (behind c) (jumpsIn c) (restartsIn c)
-  left : countWords (sourceWords s) c ≡ sourceWords (behind c)
-  good : sound (behind c) ≡ true
-  typed : wireNumber (behind c .remembered) ≡ true
+pub record One (s : Source) (ps : List Packet) (c : BlockCount) : Type 0 where
+  pub all : countAll ps s 0 0 ≡ Counted (behind c) (jumpsIn c) (restartsIn c)
+  pub left : countWords (sourceWords s) c ≡ sourceWords (behind c)
+  pub good : sound (behind c) ≡ true
+  pub typed : wireNumber (behind c .remembered) ≡ true
 
 module _ (s : Source) (b : Block) (g : sound s ≡ true) (w : wireNumber (s .remembered) ≡ true) where
-  one : BlockFits b → One s (packetsIn b) (counts s b)
+  pub one : BlockFits b → One s (packetsIn b) (counts s b)
   unfolding blockCount countAll
   one o = subst (λ (t : Bool). One s (packetsIn b) (cond (not t) (Refused Malformed s) (by (all (inLimits (b .0) (b .1)))))) (sym g) (go (all (inLimits (b .0) (b .1))))
     where

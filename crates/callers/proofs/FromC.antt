@@ -30,7 +30,7 @@ use Rattle.callers.specs.FromC.{endWords, Demand3FromC}
 use Rattle.callers.proofs.Callers.{chain-holds-count}
 
 -- what a function gives, by equal refusals and equal bytes
-gives-same : {A : Type 0} {code : Written → A} {f g : Option Refusal} {new next old out : List ℕ} {r : A} → f ≡ g → new ≡ next
+pub gives-same : {A : Type 0} {code : Written → A} {f g : Option Refusal} {new next old out : List ℕ} {r : A} → f ≡ g → new ≡ next
     → Gives code f new old r out → Gives code g next old r out
 gives-same {code = code} {old = old} e n w = record {
   answers = w .answers ∙ ap₂ (λ (f : Option Refusal) (l : List ℕ). code (written f l old)) e n;

@@ -11,6 +11,7 @@ use Rattle.source.specs.declared.BlockCount.{BlockCount}
 use Rattle.source.specs.declared.BlockCount.the-variants.{Counted, Refused}
 use Rattle.source.specs.Record.{freshRecord, sound, wireNumber}
 use Rattle.source.specs.Blocks.{Packet, packets, inLimits, countAll, blockCount}
+use Rattle.sources.specs.Answers.{behind}
 use Rattle.walk.specs.Pieces.{Octets}
 use Rattle.lent.specs.SourceWords.{sourceWords, loaded}
 use Rattle.lent.specs.declared.source_words.Loaded.the-variants.{Held}
@@ -40,11 +41,7 @@ blocksAnswered words bs = answersOf (λ w b. blockAnswer w (b .0) (b .1)) (λ w 
 abbrev pub counts : Source → Block → BlockCount
 counts s b = blockCount s (b .0) (b .1)
 
--- the record handed back, and the jumps and restarts told
-abbrev pub behind : BlockCount → Source
-behind (Counted s jumps restarts) = s
-behind (Refused refusal s) = s
-
+-- the jumps and restarts told
 abbrev pub jumpsIn : BlockCount → ℕ
 jumpsIn (Counted s jumps restarts) = jumps
 jumpsIn (Refused refusal s) = 0
@@ -53,6 +50,7 @@ abbrev pub restartsIn : BlockCount → ℕ
 restartsIn (Counted s jumps restarts) = restarts
 restartsIn (Refused refusal s) = 0
 
+-- the record handed back
 abbrev pub next : Source → Block → Source
 next s b = behind (counts s b)
 
