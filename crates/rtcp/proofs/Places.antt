@@ -1,11 +1,10 @@
 -- Laws of the search for an entry, over the entries' size. Assumes nothing.
 use Prim.Native.Nat.{ℕ, zero, suc, _+_, _-_, _*_, _≤_, _<_}
-use mathlib.Core.Path.{_≡_, refl}
+use mathlib.Core.Path.{_≡_, refl, sym, ap}
 use mathlib.Core.Bool.{Bool, true, false, cond}
 use mathlib.Core.List.{List}
 use native.Mathlib.Nat.{mul-suc}
 use native.Mathlib.Omega.{arith}
-use borrow.Author.Tests.{eq-eqb, ne-eqb}
 use lib.Dec.{eqb}
 use Rattle.numbers.specs.BigEndian.{word}
 use Rattle.rtcp.specs.declared.Place.{Place}
@@ -17,20 +16,16 @@ one-more size zero h = omega arith
 one-more size (suc n) h = let e : suc n - 1 ≡ n = omega arith in rw e (omega arith)
 
 module _ (size : ℕ) (b : List ℕ) where
-  pub entry-here : (n at media : ℕ) → 0 < n → word 4 b at ≡ media → entryFor size n b at media ≡ Place.At at
-  unfolding entryFor
-  entry-here zero at media h e = absurd (omega arith)
-  entry-here (suc n) at media h e = simp (eq-eqb _ _ e)
-
-  pub entry-next : (n at media : ℕ) → 0 < n → (word 4 b at ≡ media → ⊥) → entryFor size n b at media ≡ entryFor size (n - 1) b (at + size) media
-  unfolding entryFor
-  entry-next zero at media h e = absurd (omega arith)
-  entry-next (suc n) at media h e = let p : suc n - 1 ≡ n = omega arith in simp (ne-eqb _ _ e, p)
-
-  pub entry-none : (n at media : ℕ) → n ≤ 0 → entryFor size n b at media ≡ Place.Absent
+  -- none of no entries; of one more, that one, or what is behind it
+  pub entry-none : (n at media : ℕ) → n ≡ 0 → Place.Absent ≡ entryFor size n b at media
   unfolding entryFor
   entry-none zero at media h = refl
   entry-none (suc n) at media h = absurd (omega arith)
+
+  pub entry-more : (n at behind media : ℕ) → at + size ≡ behind
+      → cond (eqb (word 4 b at) media) (Place.At at) (entryFor size n b behind media) ≡ entryFor size (suc n) b at media
+  unfolding entryFor
+  entry-more n at behind media e = ap (λ (k : ℕ). cond (eqb (word 4 b at) media) (Place.At at) (entryFor size n b k media)) (sym e)
 
   -- the entry that is found lies whole among those looked at
   pub entry-within : (n from media at : ℕ) → entryFor size n b from media ≡ Place.At at → at + size ≤ from + size * n

@@ -1,56 +1,63 @@
--- `rtcp::entries::find_entry` meets its contract. Assumes nothing.
-use Prim.Native.Nat.{_+_, _*_, _≤_}
-use lib.ListN.{length}
-use mathlib.Core.Path.{_≡_, refl, sym, _∙_}
+-- `rtcp::entries::find_entry` meets its contract. The loop keeps what is found of the entries from `at` on. Assumes nothing.
+use borrow.Author.Needs.{needs}
+use Prim.Native.Nat.{ℕ, suc, _+_, _-_, _*_, _≤_}
+use mathlib.Core.Bool.{cond}
+use mathlib.Core.Path.{_≡_, refl, sym, ap, ap₂, _∙_}
 use denote.Ref.{now}
 use native.Mathlib.Omega.{arith}
+use lib.Dec.{eqb}
+use Rattle.numbers.specs.BigEndian.{word}
 use Rattle.rtcp.specs.Entries.{entryFor}
-use Rattle.rtcp.proofs.Places.{one-more, entry-here, entry-next, entry-none}
+use Rattle.rtcp.specs.declared.Place.{Place}
+use Rattle.rtcp.proofs.Places.{one-more, entry-none, entry-more}
 use Rattle.rtcp.proofs.entries.find_entry.Statement.{statement}
 use Rattle.rtcp.proofs.entries.find_entry.Tie as tie
 
 abbrev Inv-loop : tie.InvT-loop
-Inv-loop b from size count media at₀ left₀ at left = (at + size * left ≤ length b) × (entryFor size left b at media ≡ entryFor size count b from media)
+Inv-loop b from size count media place₀ at₀ left₀ place at left =
+    (at ≡ from + size * left) × (at ≤ from + size * count) × (left ≤ count) × (place ≡ entryFor size (count - left) b at media)
 
 abbrev μ-loop : tie.MeasureT-loop
-μ-loop b from size count media at₀ left₀ at left = left
+μ-loop b from size count media place₀ at₀ left₀ place at left = left
 
 loop-holds : tie.Need-loop-holds Inv-loop μ-loop
-loop-holds c = (omega arith, refl)
+loop-holds c =
+    let a = c .before .args in
+    (refl, omega arith, omega arith, entry-none (a .size) (now (a .b)) (a .count - a .count) _ (a .media) (omega arith))
 
-number32-requires : tie.Need-number32-requires Inv-loop μ-loop
-number32-requires c κs =
-    omega (arith, one-more (c .before .before .before .args .size) (c .before .loop .left) (c .loop-test .taken))
+sub-at : tie.Need-sub-at Inv-loop μ-loop
+sub-at c = omega (arith, one-more (c .before .before .before .args .size) (c .before .loop .left) (c .loop-test .taken), c .before .loop .inv .0)
 
-returns : tie.Need-returns Inv-loop μ-loop
-returns c =
-    let a = c .before .before .before .before .before .args in
-    let l = c .before .before .before .loop in
-    sym (entry-here (a .size) (now (a .b)) (l .left) (l .at) (a .media) (c .before .before .loop-test .taken) (sym (c .before .number32 .ensures) ∙ c .if1 .taken)) ∙ l .inv .1
-
-add-at : tie.Need-add-at Inv-loop μ-loop
-add-at c =
-    omega (arith, one-more (c .before .before .before .before .before .args .size) (c .before .before .before .loop .left) (c .before .before .loop-test .taken))
-
-sub-left : tie.Need-sub-left Inv-loop μ-loop
-sub-left c = omega arith
-
-loop-less : tie.Need-loop-less Inv-loop μ-loop
-loop-less c = omega arith
+or-behind-requires : tie.Need-or-behind-requires Inv-loop μ-loop
+or-behind-requires c κs =
+    let a = c .before .before .before .args in
+    let l = c .before .loop in
+    omega (arith, one-more (a .size) (l .left) (c .loop-test .taken), l .inv .0, l .inv .1, c .before .before .before .pre .0, c .before .before .before .pre .1)
 
 loop-again : tie.Need-loop-again Inv-loop μ-loop
 loop-again c =
-    let a = c .before .before .before .before .before .args in
-    let l = c .before .before .before .loop in (
-      omega (arith, one-more (a .size) (l .left) (c .before .before .loop-test .taken)),
-      sym (entry-next (a .size) (now (a .b)) (l .left) (l .at) (a .media) (c .before .before .loop-test .taken) (λ e. c .if1 .left (c .before .number32 .ensures ∙ e))) ∙ l .inv .1,
+    let a = c .before .before .before .before .args in
+    let l = c .before .before .loop in
+    let one = one-more (a .size) (l .left) (c .before .loop-test .taken) in
+    let behind : l .at - a .size + a .size ≡ l .at = omega (arith, one, l .inv .0) in
+    let more : suc (a .count - l .left) ≡ a .count - (l .left - 1) = omega (arith, c .before .loop-test .taken, l .inv .2) in (
+      omega (arith, one, l .inv .0),
+      omega (arith, l .inv .1),
+      omega (arith, l .inv .2),
+      c .or-behind .ensures
+          ∙ ap (cond (eqb (word 4 (now (a .b)) (l .at - a .size)) (a .media)) (Place.At (l .at - a .size))) (l .inv .3)
+          ∙ entry-more (a .size) (now (a .b)) (a .count - l .left) (l .at - a .size) (l .at) (a .media) behind
+          ∙ ap (λ (n : ℕ). entryFor (a .size) n (now (a .b)) (l .at - a .size) (a .media)) more,
     )
 
-returns-2 : tie.Need-returns-2 Inv-loop μ-loop
-returns-2 c =
+returns : tie.Need-returns Inv-loop μ-loop
+returns c =
     let a = c .before .before .before .args in
     let l = c .before .loop in
-    sym (entry-none (a .size) (now (a .b)) (l .left) (l .at) (a .media) (c .loop-test .left)) ∙ l .inv .1
+    let none : l .left ≡ 0 = omega (arith, c .loop-test .left) in
+    let first : l .at ≡ a .from = l .inv .0 ∙ ap (λ (n : ℕ). a .from + a .size * n) none ∙ omega arith in
+    let all : a .count - l .left ≡ a .count = omega (arith, none) in
+    l .inv .3 ∙ ap₂ (λ (n at : ℕ). entryFor (a .size) n (now (a .b)) at (a .media)) all first
 
 pub find-entry-spec : {M : Type 1} → statement M
 find-entry-spec =
@@ -58,11 +65,12 @@ find-entry-spec =
     (tie.spec
     Inv-loop
     μ-loop
+    (λ c. search needs)
+    (λ c. search needs)
     loop-holds
-    number32-requires
-    returns
-    add-at
-    sub-left
-    loop-less
+    sub-at
+    (λ c. search needs)
+    or-behind-requires
+    (λ c. search needs)
     loop-again
-    returns-2)
+    returns)
