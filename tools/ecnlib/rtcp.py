@@ -9,8 +9,9 @@ commas, as from tshark, it is the first one. If the first line names the columns
 column udp.payload. Lines without it are passed over. FILE `-` is standard input.
 
 Of each compound the first report block, the first ECN feedback packet and the first ECN summary entry about the source
-are shown. All is read by the proved library. Packets that do not begin with an SR or RR (reduced size, RFC 5506) are
-taken; with --strict they are refused with 3.
+are shown; the block with its reporter, the SSRC of who sent the SR or RR in which it stands. All is read by the proved
+library. Packets that do not begin with an SR or RR (reduced size, RFC 5506) are taken; with --strict they are refused
+with 3.
 
 A fault anywhere refuses the whole compound: 1 empty or a header cut off, 2 the version, 3 the first packet, 4 the
 size of a packet; 5 the padding, 6 the size of an XR block, 10 over 65,507 bytes.
