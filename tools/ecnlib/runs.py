@@ -44,11 +44,16 @@ class Run:
             self.output = opened.enter_context(files.Output(out, inputs))
             self.handle = files.opened(trace)
             opened.callback(os.close, self.handle)
-            self.began = self.place()
+            self.began, self.before = self.place(), self.state()
             self.errors = opened.enter_context(tempfile.TemporaryFile())
             # The signals that Python ignores stay ignored, so that a file too large is an error with a name and no signal.
             self.child = subprocess.Popen([path], stdin=self.handle, stdout=self.output.file, stderr=self.errors, restore_signals=False)
             self.opened = opened.pop_all()
+
+    def state(self) -> tuple:
+        """What tells whether the trace has changed."""
+        there = os.fstat(self.handle)
+        return there.st_size, there.st_mtime_ns
 
     def place(self) -> Optional[int]:
         """The place in the trace's file, which the child shares; None for a pipe."""

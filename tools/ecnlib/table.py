@@ -93,15 +93,10 @@ class Original(Conversion):
         try:
             if self.output.path is None:
                 raise Ended(FAILED, f"{self.output.name}: --origin stands beside a table: give the table's file as OUT")
-            self.before = self.state()
             self.origin = self.opened.enter_context(files.Output(out + origins.ENDING, inputs))
         except BaseException:
             self.close()
             raise
-
-    def state(self) -> tuple:
-        there = os.fstat(self.handle)
-        return there.st_size, there.st_mtime_ns
 
     def finish(self) -> None:
         fault = self.fault()
