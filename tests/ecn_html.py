@@ -120,6 +120,7 @@ class Pages(Tried):
         """In plain words, with what to do, and the rest of the trace is judged, too."""
         page = self.page(SAMPLES / "damaged.trace", SAMPLES / "c1.trace", status=1)
         self.assertIn("2 traces, 1 whole, 1 not whole.", page.text)
+        self.assertRegex(self.told, r"damaged\.trace: block 5 is refused with 13: .*; 2 blocks are refused; the page says what to do\n$")
         self.assertEqual([row[2] for row in page.rows[1:]], ["2 blocks refused", "whole"])
         for said in (
             "Block 5 is refused with 13: the block's checksum does not fit.",
@@ -184,7 +185,7 @@ class Pages(Tried):
             ([copy, "-o", copy], "given as input and as output"),
             ([copy, "-o", "/dev/full"], "No space left"),
             (["-", "-", "-o", self.out], "standard input can be read only once"),
-            ([copy], "required: -o/--out; ecn page --help has an example"),
+            ([copy], "required: -o/--out; for example: ecn page traces/*.trace -o night.html -j 4; ecn page --help says more"),
         ):
             self.assertIn(said, self.ecn("page", *words, status=2, library=True).stderr)
         self.assertIn("libflasknib.so is not there", self.ecn("page", copy, "-o", self.out, status=2).stderr)

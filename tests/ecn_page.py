@@ -43,9 +43,18 @@ class Page(Tried):
         self.assertIn("there is no command xyzzy; ecn --help lists the commands", self.ecn("xyzzy", status=2).stderr)
         self.assertIn("say what to do, as: ecn table", self.ecn(status=2).stderr)
         self.assertIn("ecn --help", self.ecn("", status=2).stderr)
-        self.assertIn("required: -o/--out; ecn table --help has an example", self.ecn("table", "x", status=2).stderr)
-        told = self.ecn("check", "a", "-j", "2", "b", status=2).stderr
-        self.assertIn("unrecognized arguments: b; files stand together, before or after the options; ecn --help has an example", told)
+        for command in COMMANDS:
+            told = self.ecn(command, "--nothing", status=2).stderr
+            self.assertRegex(told, rf"; for example: ecn {command} .*; ecn {command} --help says more\n$")
+        for words, told in (
+            (["table", "x"], "required: -o/--out; for example: ecn table night1.trace -o night1.csv; ecn table --help says more"),
+            (["check", "a", "-j", "2", "b"], "ecn check: error: b stands apart from the other files: files stand together, before or after the options;"),
+            (["look", "a", "b"], "ecn look: error: ecn look takes one file at a time, and b is one too many; for example: ecn look night1.trace"),
+            (["check", "a", "--originn"], "ecn check has no option --originn, did you mean --origin?"),
+            (["check", "a", "--xyzzy"], "ecn check has no option --xyzzy; for example"),
+            (["--xyzzy"], "for example: ecn table night1.trace -o night1.csv; ecn --help says more"),
+        ):
+            self.assertIn(told, self.ecn(*words, status=2).stderr)
 
 
 if __name__ == "__main__":

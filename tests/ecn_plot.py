@@ -1,5 +1,4 @@
 """ecn_plot.py [NAME..]: ecn plot: what the pictures of tables and traces draw, and that their texts have room. The last line is 'N passed, M failed'."""
-import contextlib
 import itertools
 import os
 import pathlib
@@ -7,10 +6,10 @@ import pty
 import random
 import re
 import resource
+import select
 import shutil
 import subprocess
 import sys
-import time
 import unittest
 import xml.etree.ElementTree as xml
 from fractions import Fraction
@@ -316,21 +315,20 @@ class Traces(Pictures):
             controller, terminal = pty.openpty()
         except OSError as error:
             self.skipTest(f"no pseudo-terminal: {error}")
-        child = self.begun("plot", "-", "-o", self.out, stdin=subprocess.PIPE, stderr=terminal)
-        with child.stdin as pipe:
-            pipe.write((SAMPLES / "long.trace").read_bytes()[:5000])
-            pipe.flush()
-            time.sleep(1.3)
-            pipe.write((SAMPLES / "long.trace").read_bytes()[5000:])
-        self.assertEqual(child.wait(tools.LONG), 0)
-        os.close(terminal)
         shown = b""
-        with contextlib.suppress(OSError):
-            while piece := os.read(controller, 4096):
-                shown += piece
+        for command in ("plot", "records"):
+            child = self.begun(command, "-", "-o", self.folder / command, stdin=subprocess.PIPE, stderr=terminal)
+            with child.stdin as pipe:
+                for block in [label(), *[arrivals()] * 300]:
+                    pipe.write(block)
+                    pipe.flush()
+                    select.select([controller], [], [], 0.1)  # until the line is there
+            self.assertEqual(child.wait(tools.LONG), 0)
+            shown += os.read(controller, 1 << 16)
+        os.close(terminal)
         os.close(controller)
-        self.assertIn(b"ecn: 0 of 1 traces", shown)
-        self.assertTrue(shown.endswith(b"\r\x1b[K"))
+        once = rb"(?:\recn: 0 of 1 traces\x1b\[K)+\r\x1b\[K(?:\recn: 1 of 1 traces\x1b\[K\r\x1b\[K)?"
+        self.assertRegex(shown, b"^" + once + once + b"$")
 
     def test_texts_have_room(self):
         """In pictures of all kinds, from the narrowest to a wide one."""
@@ -370,6 +368,12 @@ class Drawing(unittest.TestCase):
             for one, other in itertools.combinations([plotdraw.FILLS[name] for name in names], 2):
                 greys = [sum(part * int(fill.colour[at : at + 2], 16) for part, at in ((0.299, 1), (0.587, 3), (0.114, 5))) for fill in (one, other)]
                 self.assertTrue(abs(greys[0] - greys[1]) > 80 or one.hatch != other.hatch, (one.name, other.name, greys))
+
+    def test_units(self):
+        """A rate is per second, minute, hour or day, so that a tenth or more came in one at some time."""
+        for count, ms, unit in ((1, 10000, "second"), (1, 10001, "minute"), (1, 600000, "minute"), (1, 600001, "hour"), (1, 10**9, "day"), (0, 5, "second")):
+            bar = bars.Bar("", Fraction(0), Fraction(ms), 1, ms, dict.fromkeys(bars.COUNTS, 0) | {"lost": -count})
+            self.assertEqual(plotpicture.unit_of(plotpicture.PANELS[2], [bar])[0], unit)
 
     def test_axis_texts(self):
         for value, step, text in ((0, 5, "0"), (1500, 500, "1,500"), (20000, 10000, "20k"), (3 * 10**6, 10**6, "3M"), (-2, 1, "\u22122"), (Fraction(1, 2), Fraction(1, 2), "0.5")):

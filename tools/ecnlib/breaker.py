@@ -60,7 +60,7 @@ def add_arguments(parser: argparse.ArgumentParser) -> None:
     parser.add_argument("--full", action="store_true", help="take the full throughput equation in place of the simplified one")
     parser.add_argument("--csv", action="store_true", help="print CSV, for programs")
     parser.add_argument("--plot", type=file_name, metavar="OUT.svg", help="draw it, too")
-    parser.add_argument("--width", type=millimetres, default=180, metavar="MM", help="how wide the picture is (180)")
+    parser.add_argument("--width", type=millimetres, metavar="MM", help="how wide the picture is (180)")
 
 
 def machine_row(found: Answered) -> list:
@@ -180,6 +180,8 @@ def drawn(flasknib: Any, options: argparse.Namespace) -> int:
 
 def run(options: argparse.Namespace) -> int:
     flasknib = package(needed=True)
+    if options.width and not options.plot:
+        raise Ended(FAILED, "--width is that of a picture: say where it goes, as: ecn breaker link.csv --plot link.svg --width 85")
     if options.plot and files.descriptor(options.plot, True) == 1:
         raise Ended(FAILED, "the answers are printed on standard output: give --plot a file for the picture")
     refused = drawn(flasknib, options) if options.plot else replayed(flasknib, options, lambda found: found)

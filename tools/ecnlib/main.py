@@ -11,6 +11,7 @@ import argparse
 import difflib
 import importlib
 import os
+import re
 import sys
 from typing import NoReturn
 
@@ -42,11 +43,30 @@ class Parser(argparse.ArgumentParser):
         print(self.format_help(), end="", file=file)  # argparse itself passes over a write that fails
 
     def error(self, message: str) -> NoReturn:
-        together = "; files stand together, before or after the options" if message.startswith("unrecognized") else ""
-        super().error(f"{message}{together}; {self.prog} --help has an example")
+        """With the first example of the help, which says what to type."""
+        example = re.search(rf"^    ({re.escape(self.prog)} \S.*)$", self.description or "", re.MULTILINE)
+        super().error(f"{message}; for example: {example[1] if example else 'ecn table night1.trace -o night1.csv'}; {self.prog} --help says more")
+
+    def parsed(self, words: list) -> argparse.Namespace:
+        """What was typed, with a sentence on words that are too many."""
+        options, left = self.parse_known_args(words)
+        if left:
+            options.parser.error(too_many(options.parser, left[0]))
+        return options
 
 
-def arguments(words: list) -> argparse.ArgumentParser:
+def too_many(parser: argparse.ArgumentParser, word: str) -> str:
+    """What to say of a word that a command does not take."""
+    if word.startswith("-") and word != "-":
+        own = [option for action in parser._actions for option in action.option_strings]
+        near = "".join(f", did you mean {name}?" for name in difflib.get_close_matches(word, own, 1))
+        return f"{parser.prog} has no option {word}{near}"
+    if any(action.nargs == "+" for action in parser._actions):
+        return f"{word} stands apart from the other files: files stand together, before or after the options"
+    return f"{parser.prog} takes one file at a time, and {word} is one too many"
+
+
+def arguments(words: list) -> "Parser":
     """Those of the command that is named, which alone is loaded; where none is, of all."""
     if not words:
         raise Ended(FAILED, "say what to do, as: ecn table night1.trace -o night1.csv; ecn --help lists the commands")
@@ -61,7 +81,7 @@ def arguments(words: list) -> argparse.ArgumentParser:
         short, explained = command.__doc__.splitlines()[0], argparse.RawDescriptionHelpFormatter
         own = commands.add_parser(name, help=short, description=command.__doc__, formatter_class=explained)
         command.add_arguments(own)
-        own.set_defaults(run=command.run)
+        own.set_defaults(run=command.run, parser=own)
         if name not in BY_LIBRARY:
             own.add_argument("--bin", metavar="FOLDER", help="where the proved programs are (else $ECN_BIN, beside this script, the path)")
     return parser
@@ -72,7 +92,7 @@ def main() -> int:
     endings.watch()
     try:
         with printing():
-            options = arguments(sys.argv[1:]).parse_args()
+            options = arguments(sys.argv[1:]).parsed(sys.argv[1:])
         return options.run(options)
     except Ended as ended:
         tell(str(ended))

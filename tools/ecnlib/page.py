@@ -24,7 +24,7 @@ import tempfile
 from typing import List
 
 from . import files, pageread, pagetext, several
-from .common import FAILED, REFUSED, WELL, file_name, tell
+from .common import FAILED, REFUSED, WELL, file_name, refused_words, tell
 from .layer import version
 from .library import package
 from .origins import sum_at
@@ -35,6 +35,13 @@ def add_arguments(parser: argparse.ArgumentParser) -> None:
     parser.add_argument("-o", "--out", required=True, type=file_name, metavar="OUT.html", help="the page; - is standard output")
     parser.add_argument("--title", default="Link tests", metavar="TEXT", help="its title (Link tests)")
     parser.add_argument("--streams", action="store_true", help="arrivals blocks may differ in SSRC")
+
+
+def tell_refused(trace: str, found: pageread.Found) -> None:
+    if found.refused:
+        first = found.refusals[0]
+        more = f"; {found.refused:,} blocks are refused" if found.refused > 1 else ""
+        tell(f"{files.shown(trace)}: {refused_words(first.number, first.first)}{more}; the page says what to do")
 
 
 def written(out: files.Output, sections, rows: List[str], statuses: List[int], options: argparse.Namespace) -> None:
@@ -59,6 +66,7 @@ def run(options: argparse.Namespace) -> int:
         for at, (trace, found) in enumerate(several.asked(options.traces, options.jobs, ask), 1):
             statuses.append(found.status if found.value is None else REFUSED if found.value.refused else WELL)
             if found.value is not None:
+                tell_refused(trace, found.value)
                 rows.append(pagetext.summary_rows(files.shown(trace), at, found.value))
                 sections.write(pagetext.section(files.shown(trace), at, found.value).encode())
         if FAILED in statuses:

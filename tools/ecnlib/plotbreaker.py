@@ -41,8 +41,8 @@ class Powers:
 class LinkPicture:
     """The panels of a link, so many mm wide."""
 
-    def __init__(self, link: Link, name: str, options: argparse.Namespace, mm: float, stop_words: str):
-        self.link, self.name, self.options, self.canvas, self.words = link, name, options, Canvas(mm), stop_words
+    def __init__(self, link: Link, name: str, mm: float, stop_words: str):
+        self.link, self.name, self.canvas, self.words = link, name, Canvas(mm), stop_words
         self.points, self.record = link.drawn(), link.last.record
         longest = max([each.since for each in self.points] + [self.record.timeout])
         self.unit = (1000, "s") if longest >= 5000 else (1, "ms")
@@ -188,4 +188,4 @@ class LinkPicture:
 def picture(link: Link, name: str, options: argparse.Namespace, stop_words: str) -> bytes:
     if not link.drawn():
         raise Ended(REFUSED, f"{name}: the breaker took no line, so there is nothing to draw")
-    return LinkPicture(link, name, options, options.width, stop_words).svg().encode("utf-8")
+    return LinkPicture(link, name, options.width or 180, stop_words).svg().encode("utf-8")
