@@ -203,7 +203,8 @@ class Plots(Pictures, Breakers):
         for count in (1, 7, 2000, 2001, 2002, 4003, 9001):
             link, values = plotlink.Link(0), []
             for at in range(count):
-                values.append(plotlink.Point(at, at, draw.choice((None, draw.randrange(99))), draw.choice((None, draw.randrange(99))), draw.randrange(99), None))
+                rate, limit = (draw.choice((None, draw.randrange(99))) for _ in range(2))
+                values.append(plotlink.Point(at, at, rate, limit, draw.randrange(99), None))
                 link.point(values[-1])
             found, at = link.drawn(), 0
             self.assertTrue(len(found) <= 2001 and (count > 2000 or found == values))

@@ -184,6 +184,7 @@ class Pages(Tried):
         for words, said in (
             ([copy, "-o", copy], "given as input and as output"),
             ([copy, "-o", "/dev/full"], "No space left"),
+            ([copy, SAMPLES / "c1.trace", copy, "-o", self.out], "made.trace is given twice: give each trace once"),
             (["-", "-", "-o", self.out], "standard input can be read only once"),
             ([copy], "required: -o/--out; for example: ecn page traces/*.trace -o night.html -j 4; ecn page --help says more"),
         ):

@@ -18,7 +18,7 @@ import tools
 import writer
 from tools import BIN, HEAD, SAMPLES, Tried, arrivals, label, needs_library
 
-from ecnlib import bars, plotdraw, plotpicture, plotrows, plotscale
+from ecnlib import bars, plotdraw, plotpanels, plotpicture, plotrows, plotscale
 from ecnlib.common import Ended
 
 SVG = "{http://www.w3.org/2000/svg}"
@@ -373,10 +373,11 @@ class Drawing(unittest.TestCase):
         """A rate is per second, minute, hour or day, so that a tenth or more came in one at some time."""
         for count, ms, unit in ((1, 10000, "second"), (1, 10001, "minute"), (1, 600000, "minute"), (1, 600001, "hour"), (1, 10**9, "day"), (0, 5, "second")):
             bar = bars.Bar("", Fraction(0), Fraction(ms), 1, ms, dict.fromkeys(bars.COUNTS, 0) | {"lost": -count})
-            self.assertEqual(plotpicture.unit_of(plotpicture.PANELS[2], [bar])[0], unit)
+            self.assertEqual(plotpanels.unit_of(plotpanels.PANELS[2], [bar])[0], unit)
 
     def test_axis_texts(self):
-        for value, step, text in ((0, 5, "0"), (1500, 500, "1,500"), (20000, 10000, "20k"), (3 * 10**6, 10**6, "3M"), (-2, 1, "\u22122"), (Fraction(1, 2), Fraction(1, 2), "0.5")):
+        half = Fraction(1, 2)
+        for value, step, text in ((0, 5, "0"), (1500, 500, "1,500"), (20000, 10000, "20k"), (3 * 10**6, 10**6, "3M"), (-2, 1, "\u22122"), (half, half, "0.5")):
             self.assertEqual(plotscale.axis_text(Fraction(value), Fraction(step)), text)
 
 

@@ -24,7 +24,7 @@ import tempfile
 from typing import List
 
 from . import files, pageread, pagetext, several
-from .common import FAILED, REFUSED, WELL, file_name, refused_words, tell
+from .common import FAILED, REFUSED, WELL, Ended, file_name, refused_words, tell
 from .layer import version
 from .library import package
 from .origins import sum_at
@@ -58,6 +58,9 @@ def written(out: files.Output, sections, rows: List[str], statuses: List[int], o
 
 def run(options: argparse.Namespace) -> int:
     package(needed=True)
+    twice = next((trace for trace in options.traces if options.traces.count(trace) > 1 and trace != "-"), None)
+    if twice is not None:
+        raise Ended(FAILED, f"{twice} is given twice: give each trace once")
     prefixes = {trace: f"t{at}-" for at, trace in enumerate(options.traces, 1)}
     ask = functools.partial(pageread.read, streams=options.streams, prefixes=prefixes)
     rows: List[str] = []

@@ -1,6 +1,6 @@
 """What a page says of a trace, found in one pass over it: its rows and picture, its refused blocks, and its sums."""
 import hashlib
-from typing import Any, List, NamedTuple, Optional, Tuple
+from typing import Any, List, NamedTuple, Optional
 
 from . import files, several
 from .blocks import BLOCK, label_in

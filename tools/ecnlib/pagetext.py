@@ -13,12 +13,14 @@ from .plotscale import printable
 STYLE = """
 body { font: 15px/1.45 Helvetica, Arial, sans-serif; color: #1a1a1a; background: white; max-width: 74em; margin: 2em auto; padding: 0 1em }
 h1 { font-size: 1.5em } h2 { font-size: 1.15em; margin: 2.2em 0 .3em; border-top: 1px solid #bbb; padding-top: .8em; overflow-wrap: anywhere }
-.wide { overflow-x: auto } table { border-collapse: collapse; font-size: .82em } th, td { padding: .2em .5em; border-bottom: 1px solid #ddd }
-th, td { text-align: left; vertical-align: top } th { border-bottom: 2px solid #777 } .n { text-align: right; white-space: nowrap }
-.name { min-width: 9em; max-width: 18em; overflow-wrap: anywhere } .bad { color: #8a0020; font-weight: bold } svg { width: 100%; max-width: 900px; height: auto }
+.wide { overflow-x: auto } table { border-collapse: collapse; font-size: .82em }
+th, td { padding: .2em .5em; border-bottom: 1px solid #ddd; text-align: left; vertical-align: top } th { border-bottom: 2px solid #777 } .n { text-align: right; white-space: nowrap }
+.name { min-width: 9em; max-width: 18em; overflow-wrap: anywhere } .bad { color: #8a0020; font-weight: bold }
+svg { width: 100%; max-width: 900px; height: auto }
 .sum { font-family: monospace; font-size: .85em; overflow-wrap: anywhere } .small { font-size: .87em }
 @media print {
-  @page { margin: 14mm } body { max-width: none; margin: 0; padding: 0; font-size: 9.5pt } section { break-inside: avoid } a { color: inherit; text-decoration: none }
+  @page { margin: 14mm } body { max-width: none; margin: 0; padding: 0; font-size: 9.5pt } section { break-inside: avoid }
+  a { color: inherit; text-decoration: none }
   table { font-size: 7pt } th, td { padding: .15em .3em } .name { min-width: 6em } .wide { overflow: visible }
 }
 """
@@ -125,8 +127,8 @@ def head(title: str, rows: Iterable[str], traces: int, whole: int) -> str:
     cells = "".join(f"<th{'' if at < WORDS else ' class=n'}>{name}</th>" for at, name in enumerate(COLUMNS))
     meta = f'<meta charset="utf-8"><meta http-equiv="Content-Security-Policy" content="{POLICY}"><meta name="viewport" content="width=device-width">'
     state = f"{many(traces, 'trace')}, {whole:,} whole" + (f', <span class="bad">{traces - whole:,} not whole</span>' if whole < traces else "")
-    top = f"<!DOCTYPE html>\n<html lang=en><head>{meta}<title>{safe(title)}</title><style>{STYLE}</style></head><body>\n<h1>{safe(title)}</h1>\n<p>{state}.</p>\n"
-    return f'{top}<div class="wide"><table><thead><tr>{cells}</tr></thead><tbody>\n{"".join(rows)}</tbody></table></div>\n{EXPLAINED}\n'
+    top = f"<!DOCTYPE html>\n<html lang=en><head>{meta}<title>{safe(title)}</title><style>{STYLE}</style></head><body>\n"
+    return f'{top}<h1>{safe(title)}</h1>\n<p>{state}.</p>\n<div class="wide"><table><thead><tr>{cells}</tr></thead><tbody>\n{"".join(rows)}</tbody></table></div>\n{EXPLAINED}\n'
 
 
 def foot(command: str, made_by: str, library: Tuple[str, Optional[Sum]]) -> str:
