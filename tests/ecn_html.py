@@ -139,6 +139,17 @@ class Pages(Tried):
         self.assertIn("Blocks are of other sources than the label's (SSRC 100, 500, 900): make the page with --streams", page.text)
         self.assertNotIn("Table, as", page.text)
 
+    def test_salvage(self):
+        """The counts are those of the copy that ecnsalvage makes, and the refused blocks are listed as before."""
+        page = self.page(SAMPLES / "damaged.trace", SAMPLES / "c1.trace", "--salvage", status=1)
+        self.own(page)
+        row = page.rows[1]
+        self.assertEqual((row[2], [row[3], *row[5:]]), ("2 blocks refused, left out", wanted_cells(printed("ecntable", SAMPLES / "salvaged.trace"))[-1]))
+        for said in ("Block 5 is refused with 13", "Block 9 is refused with 1", "They are left out of the counts and the picture: their packets count as lost."):
+            self.assertIn(said, page.text)
+        told = self.ecn("page", SAMPLES / "c1.trace", "--salvage", "--streams", "-o", "-", status=2, library=True).stderr
+        self.assertIn("--salvage is for traces of one source", told)
+
     def test_no_traces(self):
         for path, block, advice, told in (
             (os.devnull, "Block 0 is refused with 1", "The file is empty, or was cut off", False),

@@ -271,6 +271,33 @@ class Traces(Pictures):
         self.assertIn("libflasknib.so is not there", self.ecn("plot", SAMPLES / "c1.trace", "-o", self.out, status=2).stderr)
         self.alone("out.svg", "made.trace")
 
+    def test_salvage(self):
+        """The rows are those of ecntable on what ecnsalvage copies, and each refused block is marked at its place."""
+        found = self.drawn(SAMPLES / "damaged.trace", "--blocks", "--salvage", status=1)
+        self.assertIn("damaged.trace: block 5 is refused with 13: the block's checksum does not fit; 2 blocks left out", self.told)
+        self.assertEqual(found.steps, self.drawn(SAMPLES / "salvaged.csv").steps)
+        self.assertIn("refused block (2)", found.texts)
+        self.assertIn("and 1 more block; they are left out, and their packets count as lost.", " ".join(found.texts))
+        draw = random.Random(8)
+        for _ in range(12):
+            blocks = [label(), *(writer.arrivals([(1000 * at, 9 * at, 2)], 7) for at in range(1, draw.choice((3, 40, 400))))]
+            wrong = sorted(draw.sample(range(1, len(blocks)), min(len(blocks) - 2, draw.choice((1, 2, 9)))))
+            given = self.trace(*(b"\0" * 512 if at in wrong else block for at, block in enumerate(blocks)), b"x" * draw.choice((0, 0, 1, 511)))
+            rows = plotrows.read(str(given), salvage=True)
+            kept = self.folder / "kept.trace"
+            told = subprocess.run([BIN / "ecnsalvage"], stdin=open(given, "rb"), stdout=open(kept, "wb"), stderr=subprocess.PIPE).stderr.decode()
+            same = plotrows.read(str(kept))
+            self.assertEqual((rows.rows, rows.last, rows.bars(240, True)), (same.rows, same.last, same.bars(240, True)))
+            self.assertEqual([tuple(map(str, each.refusal)) for each in rows.left], re.findall(r"refused (\d+) block (\d+)", told))
+            self.assertEqual([each.rows for each in rows.left], [each.refusal.block - 1 - at for at, each in enumerate(rows.left)])
+
+    def test_no_salvage(self):
+        for blocks, told in (([b"\0" * 512, arrivals()], "no rows to draw; block 0 is refused with 13"), ([label(), b"\0" * 512], "no rows to draw; block 1 is")):
+            self.assertIn(told, self.ecn("plot", self.trace(*blocks), "--salvage", "-o", "-", status=1, library=True).stderr)
+        self.assertIn("--salvage is for a trace", self.ecn("plot", SAMPLES / "c1.csv", "--salvage", "-o", "-", status=2).stderr)
+        told = self.ecn("plot", SAMPLES / "c1.trace", "--salvage", "--streams", "-o", "-", status=2, library=True).stderr
+        self.assertIn("--salvage is for traces of one source", told)
+
     def test_several_sources(self):
         scanners = SAMPLES / "streams/scanners.trace"
         wanted = self.ecn("plot", scanners.with_suffix(".csv"), "-o", "-").stdout

@@ -7,6 +7,9 @@ all traces, and how it was made. For each trace it has the picture that `ecn plo
 plain words with what to do. It gives the SHA-256 of the trace and of its table. Rows, verdicts and times are the proved
 library's. The same command on the same traces writes the same page.
 
+The counts and the picture of a trace end before its first refused block. With --salvage each refused block is left out, as
+`ecn salvage` leaves it out, and marked in the picture: its packets count as lost.
+
 With --streams the blocks of a trace may be of several sources: then each source has a row, and a bar in the picture.
 
 A trace `-` is standard input; a trace is read once. OUT `-` is standard output, which gets the page when it is whole
@@ -28,6 +31,7 @@ from .common import FAILED, REFUSED, WELL, Ended, file_name, refused_words, tell
 from .layer import version
 from .library import package
 from .origins import sum_at
+from .plot import NOT_BOTH
 
 
 def add_arguments(parser: argparse.ArgumentParser) -> None:
@@ -35,6 +39,7 @@ def add_arguments(parser: argparse.ArgumentParser) -> None:
     parser.add_argument("-o", "--out", required=True, type=file_name, metavar="OUT.html", help="the page; - is standard output")
     parser.add_argument("--title", default="Link tests", metavar="TEXT", help="its title (Link tests)")
     parser.add_argument("--streams", action="store_true", help="arrivals blocks may differ in SSRC")
+    parser.add_argument("--salvage", action="store_true", help="leave out each refused block, and mark it in the picture")
 
 
 def tell_refused(trace: str, found: pageread.Found) -> None:
@@ -58,11 +63,13 @@ def written(out: files.Output, sections, rows: List[str], statuses: List[int], o
 
 def run(options: argparse.Namespace) -> int:
     package(needed=True)
+    if options.streams and options.salvage:
+        raise Ended(FAILED, NOT_BOTH)
     twice = next((trace for trace in options.traces if options.traces.count(trace) > 1 and trace != "-"), None)
     if twice is not None:
         raise Ended(FAILED, f"{twice} is given twice: give each trace once")
     prefixes = {trace: f"t{at}-" for at, trace in enumerate(options.traces, 1)}
-    ask = functools.partial(pageread.read, streams=options.streams, prefixes=prefixes)
+    ask = functools.partial(pageread.read, streams=options.streams, salvage=options.salvage, prefixes=prefixes)
     rows: List[str] = []
     statuses: List[int] = []
     with files.Output(options.out, files.identities(options.traces)) as out, tempfile.TemporaryFile() as sections:

@@ -35,6 +35,7 @@ class Found(NamedTuple):
     refusals: List[Refused]  # the first of them
     picture: Optional[str]
     several: bool  # the rows are those of ecnstreams
+    salvaged: bool  # refused blocks are left out of the rows
     only: bool  # no block after block 0 was judged
 
 
@@ -97,8 +98,8 @@ def table_of(reader: TraceReader, rows: Rows, printed: Sums) -> Sum:
     return found.sum
 
 
-def read(trace: str, streams: bool, prefixes: dict) -> Found:
-    reader = TraceReader(files.shown(trace), streams)
+def read(trace: str, streams: bool, salvage: bool, prefixes: dict) -> Found:
+    reader = TraceReader(files.shown(trace), streams, salvage)
     judged, trace_sums, printed, label = Judged(reader.flasknib, streams), Sums(), Sums(), None
     printed.add(reader.flasknib.head_line())
     with several.reading(trace) as file:
@@ -106,7 +107,7 @@ def read(trace: str, streams: bool, prefixes: dict) -> Found:
             index = trace_sums.size // BLOCK
             trace_sums.add(stretch)
             printed.add(reader.take(stretch))
-            judged.take(stretch, index, not reader.rows.refusal and len(stretch) % BLOCK == 0)
+            judged.take(stretch, index, not reader.rows.refusal and not reader.rows.left and len(stretch) % BLOCK == 0)
             label = label_in(stretch) if index == 0 and judged.judge.form else label
     rows = reader.finish()
     if not trace_sums.size:
@@ -121,5 +122,5 @@ def found(sums: Sums, judged: Judged, label: Optional[bytes], rows: Rows, reader
     table = table_of(reader, rows, printed) if whole else None
     blocks = -(-sums.size // BLOCK)
     lines = last_rows(reader, rows)
-    more = drawn, rows is not reader.rows, judge.form is None and blocks > 1
+    more = drawn, rows is not reader.rows, bool(rows.left), judge.form is None and blocks > 1
     return Found(label, judge.form, blocks, sums.sum, table, lines, others, judged.refused, judged.runs, *more)

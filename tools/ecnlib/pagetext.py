@@ -14,7 +14,8 @@ STYLE = """
 body { font: 15px/1.45 Helvetica, Arial, sans-serif; color: #1a1a1a; background: white; max-width: 74em; margin: 2em auto; padding: 0 1em }
 h1 { font-size: 1.5em } h2 { font-size: 1.15em; margin: 2.2em 0 .3em; border-top: 1px solid #bbb; padding-top: .8em; overflow-wrap: anywhere }
 .wide { overflow-x: auto } table { border-collapse: collapse; font-size: .82em }
-th, td { padding: .2em .5em; border-bottom: 1px solid #ddd; text-align: left; vertical-align: top } th { border-bottom: 2px solid #777 } .n { text-align: right; white-space: nowrap }
+th, td { padding: .2em .5em; border-bottom: 1px solid #ddd; text-align: left; vertical-align: top }
+th { border-bottom: 2px solid #777 } .n { text-align: right; white-space: nowrap }
 .name { min-width: 9em; max-width: 18em; overflow-wrap: anywhere } .bad { color: #8a0020; font-weight: bold }
 svg { width: 100%; max-width: 900px; height: auto }
 .sum { font-family: monospace; font-size: .85em; overflow-wrap: anywhere } .small { font-size: .87em }
@@ -63,7 +64,7 @@ def verdict(found: Found) -> str:
     if found.form is None:
         return '<span class="bad">block 0 is refused</span>'
     if found.refused:
-        return f'<span class="bad">{many(found.refused, "block")} refused</span>'
+        return f'<span class="bad">{many(found.refused, "block")} refused{", left out" if found.salvaged else ""}</span>'
     return "whole" if found.rows else "whole, with no packets"
 
 
@@ -107,6 +108,7 @@ def refused_part(found: Found) -> str:
     more = found.refused - sum(each.last - each.first + 1 for each in found.refusals)
     lines += [f"<li>And {many(more, 'more block')}: <code>ecn look --refused</code> lists them all.</li>"] if more else []
     rest = "<p>The rest of the file was not judged.</p>\n" if found.only else ""
+    rest = "<p>They are left out of the counts and the picture: their packets count as lost.</p>\n" if found.salvaged else rest
     return f'<p class="bad">Not the whole trace.</p><ul>{"".join(lines)}</ul>\n{rest}<p>What to do: {" ".join(advice_on(found))}</p>\n'
 
 
@@ -128,7 +130,8 @@ def head(title: str, rows: Iterable[str], traces: int, whole: int) -> str:
     meta = f'<meta charset="utf-8"><meta http-equiv="Content-Security-Policy" content="{POLICY}"><meta name="viewport" content="width=device-width">'
     state = f"{many(traces, 'trace')}, {whole:,} whole" + (f', <span class="bad">{traces - whole:,} not whole</span>' if whole < traces else "")
     top = f"<!DOCTYPE html>\n<html lang=en><head>{meta}<title>{safe(title)}</title><style>{STYLE}</style></head><body>\n"
-    return f'{top}<h1>{safe(title)}</h1>\n<p>{state}.</p>\n<div class="wide"><table><thead><tr>{cells}</tr></thead><tbody>\n{"".join(rows)}</tbody></table></div>\n{EXPLAINED}\n'
+    table = f'<div class="wide"><table><thead><tr>{cells}</tr></thead><tbody>\n{"".join(rows)}</tbody></table></div>\n'
+    return f"{top}<h1>{safe(title)}</h1>\n<p>{state}.</p>\n{table}{EXPLAINED}\n"
 
 
 def foot(command: str, made_by: str, library: Tuple[str, Optional[Sum]]) -> str:

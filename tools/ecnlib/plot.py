@@ -13,6 +13,9 @@ at most, each the mean of its stretch. A restart of the sender is marked, and so
 The marks differ in shade and hatching, so the picture can be read in grey print. Text has 7 points at any --width: 85 mm is
 a column of a journal, 180 mm its page. A browser prints the picture as PDF. It shows a step's counts at the pointer.
 
+The picture ends before the first refused block, as a table does. With --salvage each refused block of a trace is left out,
+as `ecn salvage` leaves it out, and marked: its packets count as lost.
+
 If the clock of a trace goes back, or all packets have one time, blocks are on the axis, and the picture says so. --blocks
 asks for them. With --streams the blocks of a trace may be of several sources: if they are, a bar is a source.
 
@@ -31,17 +34,19 @@ import functools
 from typing import NamedTuple, Optional
 
 from . import files, plotrows, runs, several
-from .common import REFUSED, WELL, file_name, refused_words, tell
+from .common import FAILED, REFUSED, WELL, Ended, file_name, many, refused_words, tell
 from .plotdraw import millimetres
 from .plotpicture import Picture
 from .programs import Refusal
 
 PICTURES = runs.Kind("picture", "pictures", lambda name: name.removesuffix(".trace").removesuffix(".csv") + ".svg")
+NOT_BOTH = "--salvage is for traces of one source, as ecn salvage is: split the trace with ecn split, and leave out --streams"
 
 
 class Drawn(NamedTuple):
     picture: bytes
-    refusal: Optional[Refusal]
+    refusal: Optional[Refusal]  # the first
+    left_out: int
 
 
 def add_arguments(parser: argparse.ArgumentParser) -> None:
@@ -52,12 +57,13 @@ def add_arguments(parser: argparse.ArgumentParser) -> None:
     parser.add_argument("--blocks", action="store_true", help="blocks on the axis, also if times are known")
     parser.add_argument("--bare", action="store_true", help="no heading, for a paper that has a caption")
     parser.add_argument("--streams", action="store_true", help="the blocks of a trace may differ in SSRC")
+    parser.add_argument("--salvage", action="store_true", help="leave out each refused block of a trace, and mark it")
 
 
 def drawn(given: str, options: argparse.Namespace) -> Drawn:
-    rows = plotrows.read(given, options.streams)
+    rows = plotrows.read(given, options.streams, options.salvage)
     picture = Picture(rows, options.width, by_blocks=options.blocks, bare=options.bare)
-    return Drawn(picture.svg().encode("utf-8"), rows.refusal)
+    return Drawn(picture.svg().encode("utf-8"), rows.left[0].refusal if rows.left else rows.refusal, rows.left_out)
 
 
 def put(given: str, found: Drawn, place: str, inputs: set) -> int:
@@ -65,14 +71,17 @@ def put(given: str, found: Drawn, place: str, inputs: set) -> int:
         out.write(found.picture)
         out.commit()
     if found.refusal:
-        tell(f"{files.shown(given)}: {refused_words(*found.refusal)}; the rows before it are drawn")
+        drawn_too = f"{many(found.left_out, 'block')} left out" if found.left_out else "the rows before it are drawn"
+        tell(f"{files.shown(given)}: {refused_words(*found.refusal)}; {drawn_too}")
         return REFUSED
     return WELL
 
 
 def run(options: argparse.Namespace) -> int:
+    if options.streams and options.salvage:
+        raise Ended(FAILED, NOT_BOTH)
     places, inputs, statuses = runs.places(options.given, options.out, PICTURES), files.identities(options.given), []
-    asking = argparse.Namespace(**{name: getattr(options, name) for name in ("streams", "width", "blocks", "bare")})
+    asking = argparse.Namespace(**{name: getattr(options, name) for name in ("streams", "salvage", "width", "blocks", "bare")})
     for given, found in several.asked(options.given, options.jobs, functools.partial(drawn, options=asking)):
         action = functools.partial(put, given, found.value, places[given], inputs)
         statuses.append(found.status if found.value is None else runs.status_of(files.shown(given), action))

@@ -48,9 +48,17 @@ class Picture:
         if not self.bare:
             _, y = self.canvas.bold(EDGE, y + 3, label, room, LARGE, 2)
             y = self.canvas.lines(EDGE, y + LINE, wrapped(below, room))
-        if self.rows.refusal:
-            y = self.canvas.lines(EDGE, y, wrapped(f"Not the whole trace: {refused_words(*self.rows.refusal)}.", room), fill=ALARM)
+        y = self.canvas.lines(EDGE, y, wrapped(self.refused(), room), fill=ALARM)
         return self.canvas.lines(EDGE, y, wrapped(self.note, room))
+
+    def refused(self) -> str:
+        if self.rows.refusal:
+            return f"Not the whole trace: {refused_words(*self.rows.refusal)}."
+        if not self.rows.left:
+            return ""
+        out = "it is left out, and its packets count as lost" if self.rows.left_out == 1 else "they are left out, and their packets count as lost"
+        more = "" if self.rows.left_out == 1 else f", and {many(self.rows.left_out - 1, 'more block')}"
+        return f"Not the whole trace: {refused_words(*self.rows.left[0].refusal)}{more}; {out}."
 
     def key(self, x: float, y: float, names: Tuple[str, ...]) -> float:
         """The fills with their names, from a place on, or on the next line if they have no room there. Gives the line."""
@@ -118,7 +126,7 @@ class Picture:
 
     @property
     def marked(self) -> bool:
-        return bool(self.rows.refusal or any(bar.counts["restarts"] for bar in self.bars))
+        return bool(self.rows.refusal or self.rows.left or any(bar.counts["restarts"] for bar in self.bars))
 
     def marks(self) -> None:
         """Restarts: a triangle, and a dashed line where there are few. The refused block: a cross, and a line."""
@@ -127,9 +135,16 @@ class Picture:
             if len(again) <= MOST_LINES and not self.rows.several:
                 self.upright(x, INK, 1, "4 3")
             self.canvas.triangle(x, first - 1)
-        if self.rows.refusal:
-            self.upright(self.across.right, ALARM, 1.8)
-            self.canvas.cross(self.across.right, first - 5)
+        for x in self.refusals():
+            if len(self.rows.left) <= MOST_LINES:
+                self.upright(x, ALARM, 1.3)
+            self.canvas.cross(x, first - 5)
+
+    def refusals(self) -> List[float]:
+        """Where the refused blocks are: between two steps, or at the end."""
+        ended = [self.across.right] if self.rows.refusal else []
+        places = [each.clock - self.rows.blocks.clock.began if self.timed and each.clock else each.rows + Fraction(1, 2) for each in self.rows.left]
+        return [self.across.x(max(self.across.low, Fraction(place))) for place in places] + ended
 
     def upright(self, x: float, stroke: str, width: float, dash: str = "") -> None:
         """A line through all panels, and through no text between them."""
@@ -144,13 +159,14 @@ class Picture:
             words = f"the sender restarted ({restarts:,})"
             self.canvas.text(x + 9, y, words)
             x += width_of(words) + 28
-        if self.rows.refusal:
-            words = f"block {self.rows.refusal.block:,} is refused"
+        if self.refused():
+            one = self.rows.refusal or self.rows.left[0].refusal
+            words = f"refused block ({self.rows.left_out:,})" if self.rows.left_out > 1 else f"block {one.block:,} is refused"
             if x + 9 + width_of(words) > self.canvas.width - EDGE:
                 x, y = EDGE + 4, y + LINE
             self.canvas.cross(x, y - 3.5)
             self.canvas.text(x + 9, y, words)
-        return y + LINE if restarts or self.rows.refusal else y
+        return y + LINE if restarts or self.refused() else y
 
     def step_words(self) -> str:
         if self.timed:
