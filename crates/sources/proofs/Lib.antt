@@ -20,3 +20,15 @@ pub mod Behind
 pub mod Leaves
 pub mod Orders
 pub mod Witnesses
+pub mod Tallying
+pub mod RunFaults
+pub mod HeldHere
+pub mod NextRuns
+pub mod LineLaws
+pub mod RunSteps
+pub mod KnownLoop
+pub mod PieceCalls
+pub mod Streamed
+pub mod EndRoom
+pub mod SingleCalls
+pub mod RunUses

@@ -9,5 +9,13 @@ pub mod Checks
 pub mod Lending
 pub mod Seeing
 pub mod Changes
+pub mod Tallies
+pub mod Runs
+pub mod Known
+pub mod Rows
+pub mod Streams
+pub mod Pieces
+pub mod RunTheorems
 pub mod Theorems
 pub mod Witnesses
+pub mod RunWitnesses

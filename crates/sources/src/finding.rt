@@ -36,7 +36,7 @@ fn both(a: bool, b: bool) -> bool
 }
 
 // Whether a place is held: some mark is counted.
-fn is_held(p: Place) -> bool
+pub fn is_held(p: Place) -> bool
     ensures { λ r. ⌜ r ≡ held p ⌝ }
 {
     let s = p.source;

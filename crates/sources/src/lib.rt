@@ -12,7 +12,13 @@ ghost use Rattle.sources.specs.Checks.{checked, checkedIn};
 mod calls;
 mod compound;
 mod finding;
+mod judging;
+mod known;
 mod lending;
+pub mod pieces;
+mod rows;
+pub mod runs;
+mod stepping;
 mod tables;
 
 use answers::Refusal;
