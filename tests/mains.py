@@ -19,6 +19,15 @@ OTHERS = {
         ("close(s, part, piece", "close(s, piece"),
         ("finish(s, name, kept, piece", "finish(s, name, piece"),
     ),
+    "ecnstreams": (
+        ("ecnstreams", "ecntable"),
+        ("sources::pieces::Progress", "convert::pieces::Progress"),
+        ("close(s: State, label: &[u8], piece", "close(s: State, piece"),
+        ("progress.end(label, transfer", "progress.end(transfer"),
+        ("finish(s: State, name: &[u8], label: &[u8], piece", "finish(s: State, name: &[u8], piece"),
+        ("close(s, label, piece", "close(s, piece"),
+        ("finish(s, name, kept, piece", "finish(s, name, piece"),
+    ),
 }
 
 # The programs that copy blocks where they stand, and the functions that each has in the first one's words.

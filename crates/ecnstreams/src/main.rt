@@ -1,34 +1,30 @@
-// ecnstreams reads a trace of several streams on standard input and prints one row for each (request L1). The crate `mixed` says what each block does, and
-// `shell` what comes next.
-use answers::ROOM;
-use answers::Written;
-use format::Form;
+// ecnstreams reads a trace of several sources on standard input and prints one row for each (document 02, L1). All that is printed is what the crate `sources`
+// gives, and what comes next the crate `shell` says; this program reads, calls, prints what it was given, and goes on or ends. The programs over a trace have
+// this text in common, but for names.
 use format::block::BLOCK;
-use mixed::Begin;
-use mixed::Run;
-use shell::clipped::least;
 use shell::failures::has_arguments;
-use shell::printing::Output;
 use shell::reading::Input;
 use shell::reading::fill;
 use shell::reading::may_wait;
+use shell::transfers::PRINTED;
 use shell::transfers::Transfer;
 use shell::turns::Turn;
 use shell::turns::next_turn;
-use table::write_head;
-use table::write_refused;
-use walk::Ended;
-use walk::number_after;
+use sources::pieces::Progress;
 
-// At most so many blocks are read at a time after block 0.
-const PIECE: usize = 256 * BLOCK;
+// The longest row (table, `row-fits`). The blocks print nothing, and the end at most 16 rows (sources, `end-has-room`).
+const MOST: usize = 1228;
 
-// How far a run has come, with the number of the next block, and whether that was refused.
-struct Progress {
-    run: Run,
-    block: u64,
-    ended: Ended,
-}
+// At most so many blocks are read at a time.
+const BLOCKS: usize = 256;
+
+const PIECE: usize = BLOCKS * BLOCK;
+
+// So much is kept for output: less than a piece that is printed, and the most that the blocks of one read print.
+const KEPT: usize = PRINTED + BLOCKS * MOST;
+
+// More than a line of standard error takes.
+const ERRORS: usize = 64;
 
 // How far the program has come: the run, and what is read and kept.
 struct State {
@@ -36,167 +32,59 @@ struct State {
     transfer: Transfer,
 }
 
-// The run after block 0, or as a refused label leaves it.
-fn started(zeroth: &[u8]) -> Progress {
-    match Run::start(zeroth) {
-        Begin::Started(run) => Progress {
-            run,
-            block: 1,
-            ended: Ended::Going,
-        },
-        Begin::Refused(refusal) => {
-            let run = Run {
-                form: Form::One,
-                length: 0,
-                held: 0,
-            };
-            Progress {
-                run,
-                block: 0,
-                ended: Ended::Refused(refusal),
-            }
-        }
-    }
-}
-
-// Takes block 0, which stays in a buffer of its own, and keeps the head line.
-fn begin(zeroth: Input, prompt: bool, kept: &[u8], rows: &mut [u8]) -> State {
-    let progress = started(zeroth.front(kept));
+// Takes block 0, which stands in a buffer of its own.
+fn begin(zeroth: Input, prompt: bool, kept: &[u8], lines: &mut [u8]) -> State {
+    let begun = Progress::begin(zeroth.front(kept), lines);
+    let progress = begun.progress;
+    let answer = begun.answer;
     let ended = progress.ended;
-    let answer = write_head(rows);
-    let transfer = Transfer::begun(zeroth, ended, prompt).with_kept(answer, rows);
+    let transfer = Transfer::begun(zeroth, ended, prompt).with_kept(answer, lines);
     State { progress, transfer }
 }
 
-// Takes the blocks of a piece in turn, to the last or to one that is refused. Each has 512 bytes, the last one perhaps fewer.
-fn take_blocks(start: Progress, lines: &mut [u64], piece: &[u8]) -> Progress {
-    let mut run = start.run;
-    let mut block = start.block;
-    let mut from = 0;
-    while from < piece.len() {
-        let end = from + least(piece.len() - from, BLOCK);
-        let step = run.block(lines, &piece[from..end]);
-        let answer = step.answer;
-        match answer {
-            Written::Refused(refusal) => {
-                return Progress {
-                    run,
-                    block,
-                    ended: Ended::Refused(refusal),
-                };
-            }
-            _ => {
-                run = step.run;
-            }
-        }
-        from = end;
-        block = number_after(block, 1);
-    }
-    Progress {
-        run,
-        block,
-        ended: Ended::Going,
-    }
-}
-
-// Takes the blocks of a piece, none after a refusal.
-fn take_more(start: Progress, lines: &mut [u64], piece: &[u8]) -> Progress {
-    let ended = start.ended;
-    match ended {
-        Ended::Going => take_blocks(start, lines, piece),
-        Ended::Refused(_) => start,
-    }
-}
-
 // Takes the blocks that are read.
-fn take(s: State, lines: &mut [u64], piece: &[u8]) -> State {
-    let before = s.progress;
-    let transfer = s.transfer;
-    let left = transfer.left(piece);
-    let from = 0;
-    let whole = left.len() - left.len() % BLOCK;
-    let progress = take_more(before, lines, &left[from..whole]);
-    let ended = progress.ended;
-    State {
-        progress,
-        transfer: transfer.with_taken(ended, whole, piece),
-    }
-}
-
-// What is kept with the line `refused N block I`.
-fn with_refused(out: Output, number: u8, block: u64, rows: &mut [u8]) -> Output {
-    let used = out.end(rows.len());
-    let answer = write_refused(number, block, &mut rows[used..]);
-    out.with_written(answer, rows)
-}
-
-// What is kept with the row of line i. A row that is refused is reported in its place. (A row has at most 1,228 bytes, `row-fits` of the crate `table`: the
-// head line and the rows of 16 sources fit.)
-fn with_row(
-    out: Output,
-    run: Run,
-    i: usize,
-    block: u64,
-    lines: &[u64],
-    zeroth: &[u8],
-    rows: &mut [u8],
-) -> Output {
-    let used = out.end(rows.len());
-    match run.row(i, lines, zeroth, &mut rows[used..]) {
-        Written::Length(n) => out.with_kept(n, rows),
-        Written::Room(_) => with_refused(out, ROOM, block, rows),
-        Written::Refused(refusal) => with_refused(out, refusal.number(), block, rows),
-    }
-}
-
-// What is kept with the rows of all lines.
-fn with_rows(
-    head: Output,
-    run: Run,
-    block: u64,
-    lines: &[u64],
-    zeroth: &[u8],
-    rows: &mut [u8],
-) -> Output {
-    let mut out = head;
-    let mut i: usize = 0;
-    while i < run.held {
-        out = with_row(out, run, i, block, lines, zeroth, rows);
-        i += 1;
-    }
-    out
-}
-
-// Takes what is left, and ends the run: what is then kept are the rows, or the line of the refused block.
-fn close(s: State, lines: &mut [u64], zeroth: &[u8], piece: &[u8], rows: &mut [u8]) -> Transfer {
+fn take(s: State, kept: &mut [u8], piece: &[u8], lines: &mut [u8]) -> State {
     let before = s.progress;
     let transfer = s.transfer;
     let out = transfer.out;
-    let last = take_more(before, lines, transfer.rest(piece));
-    let ended = last.ended;
-    let mut closed = transfer;
-    match ended {
-        Ended::Refused(refusal) => {
-            closed.out = with_refused(out, refusal.number(), last.block, rows);
-        }
-        Ended::Going => {
-            closed.out = with_rows(out, last.run, last.block, lines, zeroth, rows);
-        }
+    let used = out.end(lines.len());
+    let taken = before.blocks(kept, transfer.left(piece), &mut lines[used..]);
+    let progress = taken.progress;
+    let answer = taken.answer;
+    let ended = progress.ended;
+    let next = transfer
+        .with_taken(ended, taken.bytes, piece)
+        .with_kept(answer, lines);
+    State {
+        progress,
+        transfer: next,
     }
-    closed
 }
 
-// Ends the run, and prints what is kept. Standard error has nothing.
-fn finish(
-    s: State,
-    name: &[u8],
-    lines: &mut [u64],
-    zeroth: &[u8],
-    piece: &[u8],
-    rows: &mut [u8],
-    errors: &mut [u8],
-) {
-    close(s, lines, zeroth, piece, rows).finished(name, rows, errors);
+// Ends the run.
+fn close(s: State, label: &[u8], piece: &[u8], lines: &mut [u8], errors: &mut [u8]) -> Transfer {
+    let progress = s.progress;
+    let transfer = s.transfer;
+    let out = transfer.out;
+    let err = transfer.err;
+    let used = out.end(lines.len());
+    let told = err.end(errors.len());
+    let closed = progress.end(
+        label,
+        transfer.rest(piece),
+        &mut lines[used..],
+        &mut errors[told..],
+    );
+    let printed = closed.out;
+    let refused = closed.err;
+    transfer
+        .with_kept(printed, lines)
+        .with_reported(refused, errors)
+}
+
+// Ends the run, and prints what is kept.
+fn finish(s: State, name: &[u8], label: &[u8], piece: &[u8], lines: &mut [u8], errors: &mut [u8]) {
+    close(s, label, piece, lines, errors).finished(name, lines, errors);
 }
 
 // Takes, prints or reads.
@@ -204,18 +92,18 @@ fn step(
     s: State,
     turn: Turn,
     name: &[u8],
-    lines: &mut [u64],
+    kept: &mut [u8],
     piece: &mut [u8],
-    rows: &mut [u8],
+    lines: &mut [u8],
     errors: &mut [u8],
 ) -> State {
     let progress = s.progress;
     let transfer = s.transfer;
     match turn {
-        Turn::Take => take(s, lines, piece),
+        Turn::Take => take(s, kept, piece, lines),
         Turn::Print => State {
             progress,
-            transfer: transfer.with_printed(name, rows, errors),
+            transfer: transfer.with_printed(name, lines, errors),
         },
         Turn::Read => State {
             progress,
@@ -229,10 +117,9 @@ fn step(
 fn run(
     start: State,
     name: &[u8],
-    lines: &mut [u64],
-    zeroth: &[u8],
+    kept: &mut [u8],
     piece: &mut [u8],
-    rows: &mut [u8],
+    lines: &mut [u8],
     errors: &mut [u8],
 ) {
     let mut s = start;
@@ -242,35 +129,26 @@ fn run(
         let turn = next_turn(transfer, piece);
         match turn {
             Turn::Finish => {
-                finish(s, name, lines, zeroth, piece, rows, errors);
+                finish(s, name, kept, piece, lines, errors);
                 return;
             }
             Turn::Stop => {
                 return;
             }
             _ => {
-                s = step(s, turn, name, lines, piece, rows, errors);
+                s = step(s, turn, name, kept, piece, lines, errors);
             }
         }
         turns -= 1;
     }
 }
 
-// Counts the streams of the trace.
-fn count(name: &[u8], kept: &mut [u8], piece: &mut [u8], rows: &mut [u8], errors: &mut [u8]) {
-    let mut words = [0u64; Run::WORDS];
-    let lines: &mut [u64] = &mut words;
+// Converts the trace.
+fn convert(name: &[u8], kept: &mut [u8], piece: &mut [u8], lines: &mut [u8], errors: &mut [u8]) {
     let prompt = may_wait();
     let zeroth = fill(kept);
-    run(
-        begin(zeroth, prompt, kept, rows),
-        name,
-        lines,
-        kept,
-        piece,
-        rows,
-        errors,
-    );
+    let start = begin(zeroth, prompt, kept, lines);
+    run(start, name, kept, piece, lines, errors);
 }
 
 fn main() {
@@ -279,7 +157,13 @@ fn main() {
     }
     let mut kept = [0u8; BLOCK];
     let mut piece = [0u8; PIECE];
-    let mut rows = io::large_buffer();
-    let mut errors = [0u8; 1];
-    count(b"ecnstreams", &mut kept, &mut piece, &mut rows, &mut errors);
+    let mut lines = [0u8; KEPT];
+    let mut errors = [0u8; ERRORS];
+    convert(
+        b"ecnstreams",
+        &mut kept,
+        &mut piece,
+        &mut lines,
+        &mut errors,
+    );
 }

@@ -6,11 +6,11 @@ use Rattle.ecnstreams.proofs.run.Statement.{statement}
 use Rattle.ecnstreams.proofs.run.Tie as tie
 
 abbrev Inv-loop : tie.InvT-loop
-Inv-loop name lines₀ zeroth piece₀ rows₀ errors₀ s₀ turns₀ lines piece rows errors s turns =
-    (length lines ≡ length lines₀) × (length piece ≡ length piece₀) × (length rows ≡ length rows₀) × (length errors ≡ length errors₀)
+Inv-loop name kept₀ piece₀ lines₀ errors₀ s₀ turns₀ kept piece lines errors s turns =
+    (length kept ≡ length kept₀) × (length piece ≡ length piece₀) × (length lines ≡ length lines₀) × (length errors ≡ length errors₀)
 
 abbrev μ-loop : tie.MeasureT-loop
-μ-loop name lines₀ zeroth piece₀ rows₀ errors₀ s₀ turns₀ lines piece rows errors s turns = turns
+μ-loop name kept₀ piece₀ lines₀ errors₀ s₀ turns₀ kept piece lines errors s turns = turns
 
 pub run-spec : {M : Type 1} → statement M
 run-spec =
