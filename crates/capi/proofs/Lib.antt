@@ -8,6 +8,8 @@ pub mod SourceChains
 pub mod BreakerChains
 pub mod SomeChains
 pub mod TableCalls
+pub mod Walked
+pub mod Placed
 pub mod StepLaws
 pub mod RunSteps
 pub mod FeedSteps

@@ -8,6 +8,7 @@ pub mod Blocks
 pub mod Chains
 pub mod Tables
 pub mod TableSteps
+pub mod TableWalks
 pub mod StepCalls
 pub mod RunCalls
 pub mod Feeds

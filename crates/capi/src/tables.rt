@@ -3,6 +3,10 @@ use crate::codes;
 use crate::codes::JUMP;
 use crate::codes::RESTARTED;
 use crate::codes::RESTARTS;
+use crate::place_calls::arrive_at;
+use crate::place_calls::count_at;
+use crate::table_walk::UNTOLD;
+use crate::table_walk::place_of;
 use answers::ROOM;
 use format::Wire;
 use lent::table_words::Answer;
@@ -49,9 +53,8 @@ fn put_arrived(given: TableArrived, words: &mut [u64]) -> u8
     }
 }
 
-// Counts one arrival of an SSRC. Gives 0 or 128, for a restart, and the next table; or refusal 16, 9, 10, 15, 8 or 7. A jump (7) leaves its table too.
-#[no_mangle]
-pub extern "C" fn flasknib_sources_arrive(words: &mut [u64], ssrc: u32, wire: u16, mark: u8) -> u8
+// Counts one arrival by the table taken from its words.
+fn arrive_in(words: &mut [u64], ssrc: u32, wire: u16, mark: u8) -> u8
     ensures { λ r. ⌜ CountsTableArrival (now (words .entry)) ssrc wire mark r (now (words .exit)) ⌝ }
 {
     let loaded = load(words);
@@ -64,6 +67,18 @@ pub extern "C" fn flasknib_sources_arrive(words: &mut [u64], ssrc: u32, wire: u1
             put_arrived(given, words)
         }
     }
+}
+
+// Counts one arrival of an SSRC. Gives 0 or 128, for a restart, and the next table; or refusal 16, 9, 10, 15, 8 or 7. A jump (7) leaves its table too.
+#[no_mangle]
+pub extern "C" fn flasknib_sources_arrive(words: &mut [u64], ssrc: u32, wire: u16, mark: u8) -> u8
+    ensures { λ r. ⌜ CountsTableArrival (now (words .entry)) ssrc wire mark r (now (words .exit)) ⌝ }
+{
+    let at = place_of(words, ssrc);
+    if at < UNTOLD {
+        return arrive_at(words, at, ssrc, wire, mark);
+    }
+    arrive_in(words, ssrc, wire, mark)
 }
 
 // Stores the table that a block left, unless it was refused. Gives the answer's number.
@@ -82,14 +97,8 @@ fn put_counted(given: TableCounted, words: &mut [u64]) -> i64
     }
 }
 
-// Counts the records of one arrivals block of an SSRC. Gives 256 * restarts + jumps and the next table, or minus refusal 16, 9, 10 or 15.
-#[no_mangle]
-pub extern "C" fn flasknib_sources_count_block(
-    words: &mut [u64],
-    ssrc: u32,
-    records: &[u8],
-    width: usize,
-) -> i64
+// Counts the records of one arrivals block by the table taken from its words.
+fn count_in(words: &mut [u64], ssrc: u32, records: &[u8], width: usize) -> i64
     ensures { λ r. ⌜ CountsTableBlock (now (words .entry)) ssrc width (now (records .entry)) r (now (words .exit)) ⌝ }
 {
     let loaded = load(words);
@@ -102,6 +111,23 @@ pub extern "C" fn flasknib_sources_count_block(
             put_counted(given, words)
         }
     }
+}
+
+// Counts the records of one arrivals block of an SSRC. Gives 256 * restarts + jumps and the next table, or minus refusal 16, 9, 10 or 15.
+#[no_mangle]
+pub extern "C" fn flasknib_sources_count_block(
+    words: &mut [u64],
+    ssrc: u32,
+    records: &[u8],
+    width: usize,
+) -> i64
+    ensures { λ r. ⌜ CountsTableBlock (now (words .entry)) ssrc width (now (records .entry)) r (now (words .exit)) ⌝ }
+{
+    let at = place_of(words, ssrc);
+    if at < UNTOLD {
+        return count_at(words, at, ssrc, records, width);
+    }
+    count_in(words, ssrc, records, width)
 }
 
 // Writes the compound: an RR and the feedback of the held places. Gives its length, or minus refusal 16, 9 or 12.
