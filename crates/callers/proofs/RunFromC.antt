@@ -1,13 +1,13 @@
 -- A run of ecntable from C prints what ecntable prints. Assumes nothing.
-use mathlib.Core.Path.{_≡_, refl, sym, ap, _∙_, subst, subst⁻¹}
-use mathlib.Core.List.{List, _++_, append-nil}
+use mathlib.Core.Path.{_≡_, refl, sym, _∙_, subst, subst⁻¹}
+use mathlib.Core.List.{List}
 use mathlib.Core.Bool.{Bool, true, false, cond}
 use mathlib.Core.Option.{none}
 use Prim.Native.Nat.{ℕ, _<_}
 use native.Mathlib.Omega.{arith}
-use borrow.Author.Tests.{le-ltb}
+use borrow.Author.Tests.{eq-eqb}
 use lib.IntN.{ℤ}
-use lib.ListN.{length, drop-of-length-le}
+use lib.ListN.{length}
 use Rattle.answers.specs.Writers.{written, stored}
 use Rattle.answers.specs.declared.Written.{Written}
 use Rattle.answers.specs.declared.Written.the-variants.{Length, Room, Refused}
@@ -24,10 +24,10 @@ use Rattle.convert.proofs.Kept.{Good, sound-good, next-good, start-good}
 use Rattle.convert.proofs.Steps.{call-sound}
 use Rattle.convert.proofs.Whole.{calls-print}
 use Rattle.lent.specs.RunWords.{runOf, isRun, runWords}
-use Rattle.lent.proofs.RunLaws.{held, run-back, length-run}
-use Rattle.capi.specs.Codes.{lengthCode, refusalCode, Gives}
+use Rattle.lent.proofs.RunLaws.{held, run-back}
+use Rattle.capi.specs.Codes.{lengthCode}
 use Rattle.capi.specs.StepCalls.{wordsAfter, Takes}
-use Rattle.capi.specs.RunCalls.{startFault, startWords, runNext}
+use Rattle.capi.specs.RunCalls.{starts, startCode, startWords, runNext}
 use Rattle.capi.proofs.FeedChains.{Typed, step-typed, start-typed, sound-fits}
 use Rattle.callers.specs.Sessions.{BothBring, ReadsAs, CallIs}
 use Rattle.callers.specs.RunFromC.{RunKept, startedIn, broughtIn, runCalls, BeganAs, RunStartIs, RunBlockIs, RunFromCPrints}
@@ -39,11 +39,11 @@ use Rattle.callers.proofs.Sessions.{session-reads}
 abbrev Reads : RunKept → Kept → Type 0
 Reads k s = (k .words ≡ runWords (s .run)) × (k .zeroth ≡ s .zeroth) × Good (s .run) (s .zeroth) × Typed (s .run)
 
-starts : (b : List ℕ) → Octets b → (r : Begin) → startOf b ≡ r → BothBring Reads (startedIn b r) (startedOn b r)
-starts b o (begin.Started run) e =
+starting : (b : List ℕ) → Octets b → (r : Begin) → startOf b ≡ r → BothBring Reads (startedIn b r) (startedOn b r)
+starting b o (begin.Started run) e =
     let none : Kept = record { run = noRun; zeroth = b } in
     (refl, refl, start-good b run e, subst (λ (r : Begin). Typed (labelled none b r .state .run)) e (start-typed none b o (omega arith, refl)))
-starts b o (begin.Refused refusal) e = refl
+starting b o (begin.Refused refusal) e = refl
 
 module _ (s : Kept) (b : List ℕ) (g : Good (s .run) (s .zeroth)) (t : Typed (s .run)) where
   next-is : runNext (runWords (s .run)) (s .zeroth) b ≡ callNext (s .run) (s .zeroth) b
@@ -62,7 +62,7 @@ module _ (s : Kept) (b : List ℕ) (g : Good (s .run) (s .zeroth)) (t : Typed (s
 pub reads-as : ReadsAs runCalls blockCalls
 reads-as = record {
   Reads = Reads;
-  starts = λ b o. (starts b o (startOf b) refl, refl);
+  starts = λ b o. (starting b o (startOf b) refl, refl);
   turns = λ k s b r o.
       let its : _≡_ {A = RunKept} (record { words = runWords (s .run); zeroth = s .zeroth }) k = λ i. record { words = sym (r .0) i; zeroth = sym (r .1) i } in
       subst (λ (k : RunKept). BothBring Reads (runCalls .next k b) (blockCalls .next s b) × (runCalls .bytes k b ≡ blockCalls .bytes s b)) its
@@ -78,15 +78,14 @@ run-from-c-prints trace q o few session = calls-print trace q o few (session-rea
 -- ---- the calls are the C functions
 
 pub run-start-is : RunStartIs
-unfolding written stored
-run-start-is zeroth old out r long w = go (startOf zeroth) w
+unfolding starts
+run-start-is zeroth old out r long w =
+    let is = eq-eqb (length old) 15 long in
+    go (startOf zeroth) (w .answers ∙ rw is) (w .stores ∙ rw is)
   where
-    go : (s : Begin) → Gives refusalCode (startFault s) (startWords s) old r out → BeganAs (startedIn zeroth s) old r out
-    go (begin.Started run) w =
-        let size = length-run run in
-        let room = le-ltb (length old) (length (runWords run)) (omega (arith, size)) in
-        (w .answers ∙ rw room, w .stores ∙ rw room (ap (λ (l : List ℕ). runWords run ++ l) (drop-of-length-le old {i = length (runWords run)} (omega (arith, size))) ∙ append-nil (runWords run)))
-    go (begin.Refused refusal) w = (w .answers, w .stores)
+    go : (s : Begin) → r ≡ startCode s → out ≡ startWords old s → BeganAs (startedIn zeroth s) old r out
+    go (begin.Started run) answers stores = (answers, stores)
+    go (begin.Refused refusal) answers stores = (answers, stores)
 
 pub run-block-is : RunBlockIs
 unfolding written stored
