@@ -282,7 +282,8 @@ class Traces(Pictures):
         for _ in range(12):
             blocks = [label(), *(writer.arrivals([(1000 * at, 9 * at, 2)], 7) for at in range(1, draw.choice((3, 40, 400))))]
             wrong = sorted(draw.sample(range(1, len(blocks)), min(len(blocks) - 2, draw.choice((1, 2, 9)))))
-            given = self.trace(*(b"\0" * 512 if at in wrong else block for at, block in enumerate(blocks)), b"x" * draw.choice((0, 0, 1, 511)))
+            bad = [b"\0" * 512, arrivals(ssrc=8), arrivals(form=2), label()]
+            given = self.trace(*(draw.choice(bad) if at in wrong else block for at, block in enumerate(blocks)), b"x" * draw.choice((0, 0, 1, 511)))
             rows = plotrows.read(str(given), salvage=True)
             kept = self.folder / "kept.trace"
             told = subprocess.run([BIN / "ecnsalvage"], stdin=open(given, "rb"), stdout=open(kept, "wb"), stderr=subprocess.PIPE).stderr.decode()
