@@ -125,7 +125,7 @@ class Pages(Tried):
         for said in (
             "Block 5 is refused with 13: the block's checksum does not fit.",
             "Block 9 is refused with 1: the input is empty, or ends in the middle of a block or a header.",
-            "What to do: The file was cut off, or its writer was stopped. Copy it again.",
+            "What to do:For 1: The file was cut off, or its writer was stopped. Copy it again.",
             "ecn salvage saves the other blocks.",
         ):
             self.assertIn(said, page.text)

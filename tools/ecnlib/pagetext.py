@@ -99,7 +99,8 @@ def advice_on(found: Found) -> Iterator[str]:
     if found.others:
         some = ", ".join(map(str, found.others[:16]))
         yield f"Blocks are of other sources than the label's (SSRC {some}): make the page with <code>--streams</code>, or <code>ecn split</code> the trace."
-    yield from (ADVICE[number] for number in sorted({each.number for each in found.refusals}) if number != 14 or not found.others)
+    numbers = sorted({each.number for each in found.refusals})
+    yield from (f"For {number}: {ADVICE[number]}" for number in numbers if number != 14 or not found.others)
 
 
 def refused_part(found: Found) -> str:
@@ -108,8 +109,9 @@ def refused_part(found: Found) -> str:
     more = found.refused - sum(each.last - each.first + 1 for each in found.refusals)
     lines += [f"<li>And {many(more, 'more block')}: <code>ecn look --refused</code> lists them all.</li>"] if more else []
     rest = "<p>The rest of the file was not judged.</p>\n" if found.only else ""
+    advice = "".join(f"<li>{each}</li>" for each in advice_on(found))
     rest = "<p>They are left out of the counts and the picture: their packets count as lost.</p>\n" if found.salvaged else rest
-    return f'<p class="bad">Not the whole trace.</p><ul>{"".join(lines)}</ul>\n{rest}<p>What to do: {" ".join(advice_on(found))}</p>\n'
+    return f'<p class="bad">Not the whole trace.</p><ul>{"".join(lines)}</ul>\n{rest}<p>What to do:</p><ul>{advice}</ul>\n'
 
 
 def section(name: str, at: int, found: Found) -> str:
