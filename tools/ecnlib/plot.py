@@ -4,30 +4,35 @@
     ecn plot night1.csv -o night1.svg --width 85
     ecn plot traces/*.trace -o pictures/ -j 4
 
-Of a trace the picture has time on its axis, from the first packet on. The rows are those that the proved library makes of
-it. Of a table, which has no times, it has blocks. What is drawn is what each stretch brought, a row less the row before,
-and no running total: packets per second (or minute, hour, day; of a table per block), CE in percent of the packets
-received, losses, which fall below 0 where late packets come in, duplicates, and jumps. A long trace is drawn in 240 steps
-at most, each the mean of its stretch. A restart of the sender is marked, and so is the block that is refused.
+Of a trace the picture has time on its axis, from the first packet on. The rows are those that the proved library
+makes of it. Of a table, which has no times, it has blocks. What is drawn is what each stretch brought, a row less the
+row before, and no running total: packets per second (or minute, hour, day; of a table per block), CE in percent of
+the packets received, losses, which fall below 0 if late packets come in, duplicates, and jumps. A long trace is
+drawn in 240 steps at most, each the mean of its stretch. A restart of the sender is marked, and so is the block that
+is refused.
 
-The marks differ in shade and hatching, so the picture can be read in grey print. Text has 7 points at any --width: 85 mm is
-a column of a journal, 180 mm its page. A browser prints the picture as PDF. It shows a step's counts at the pointer.
+The marks differ in shade and hatching, so the picture can be read in grey print. Text has 7 points at any --width: 85
+mm is a column of a journal, 180 mm its page. A browser prints the picture as PDF. It shows a step's counts at the
+pointer.
 
-The picture ends before the first refused block, as a table does. With --salvage each refused block of a trace is left out,
-as `ecn salvage` leaves it out, and marked: its packets count as lost.
+The picture ends before the first refused block, as a table does. With --salvage each refused block of a trace is left
+out, as `ecn salvage` leaves it out, and marked: its packets count as lost.
 
-If the clock of a trace goes back, or all packets have one time, blocks are on the axis, and the picture says so. --blocks
-asks for them. With --streams the blocks of a trace may be of several sources: if they are, a bar is a source.
+If the clock of a trace goes back, or all packets have one time, blocks are on the axis, and the picture says so.
+--blocks asks for them. With --streams the blocks of a trace may be of several sources: if they are, a bar is a
+source.
 
-With one GIVEN, OUT is the picture's file; where OUT is a folder, ends with a slash, or there are several, it is a folder (made where it is
-missing) and each picture is OUT/NAME.svg, NAME being the file's name without `.trace` or `.csv`.
+With one GIVEN, OUT is the picture's file; if OUT is a folder, ends with a slash, or there are several, it is a
+folder (made if it is missing) and each picture is OUT/NAME.svg, NAME being the file's name without `.trace` or
+`.csv`.
 
-GIVEN `-` is standard input, and OUT `-` standard output, for one picture. Standard output, /dev/stdout, /dev/fd/N, a device or a pipe is written to where
-it stands and never replaced: it gets the picture when that is whole, and no byte before.
+GIVEN `-` is standard input, and OUT `-` standard output, for one picture. Standard output, /dev/stdout, /dev/fd/N, a
+device or a pipe is written to where it stands and never replaced: it gets the picture when that is whole, and no byte
+before.
 
-Exit status: 0 drawn; 1 a block is refused (the rows before it are drawn, and the picture says so), there are no rows, or it is neither a table
-nor a trace; 2 a read or a write failed, the library is not there (for a trace), or the arguments are wrong. With several the others go on, and the
-highest status counts.
+Exit status: 0 drawn; 1 a block is refused (the rows before it are drawn, and the picture says so), there are no rows,
+or it is neither a table nor a trace; 2 a read or a write failed, the library is not there (for a trace), or the
+arguments are wrong. With several the others go on, and the highest status counts.
 """
 import argparse
 import functools
