@@ -221,7 +221,7 @@ class Plots(Pictures, Breakers):
         path.write_text(reports(5, 6, 7))
         for out, told in ((path, "given as input and as output"), ("-", "give --plot a file for the picture"), ("/dev/full", "No space left")):
             self.assertIn(told, self.ecn("breaker", path, "--plot", out, status=2, library=True).stderr)
-        self.assertIn("say where it goes, as: ecn breaker", self.ecn("breaker", path, "--width", "85", status=2, library=True).stderr)
+        self.assertIn("name its file, as: ecn breaker", self.ecn("breaker", path, "--width", "85", status=2, library=True).stderr)
         out = self.folder / "o.svg"
         for text, told in ((HEAD, "the breaker took no line"), (HEAD + "tick,5\nstop,9\n", "kind 'stop' is none of")):
             path.write_text(text)

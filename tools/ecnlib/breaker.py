@@ -181,7 +181,7 @@ def drawn(flasknib: Any, options: argparse.Namespace) -> int:
 def run(options: argparse.Namespace) -> int:
     flasknib = package(needed=True)
     if options.width and not options.plot:
-        raise Ended(FAILED, "--width is that of a picture: say where it goes, as: ecn breaker link.csv --plot link.svg --width 85")
+        raise Ended(FAILED, "--width is that of a picture: name its file, as: ecn breaker link.csv --plot link.svg --width 85")
     if options.plot and files.descriptor(options.plot, True) == 1:
         raise Ended(FAILED, "the answers are printed on standard output: give --plot a file for the picture")
     refused = drawn(flasknib, options) if options.plot else replayed(flasknib, options, lambda found: found)

@@ -7,8 +7,8 @@ all traces, and how it was made. For each trace it has the picture that `ecn plo
 plain words with what to do. It gives the SHA-256 of the trace and of its table. Rows, verdicts and times are the proved
 library's. The same command on the same traces writes the same page.
 
-The counts and the picture of a trace end before its first refused block. With --salvage each refused block is left out, as
-`ecn salvage` leaves it out, and marked in the picture: its packets count as lost.
+The counts and the picture of a trace end before its first refused block. With --salvage each refused block is left
+out, as `ecn salvage` leaves it out, and marked in the picture: its packets count as lost.
 
 With --streams the blocks of a trace may be of several sources: then each source has a row, and a bar in the picture.
 

@@ -9,7 +9,7 @@ commas, as from tshark, it is the first one. If the first line names the columns
 column udp.payload. Lines without it are passed over. FILE `-` is standard input.
 
 Of each compound the first report block, the first ECN feedback packet and the first ECN summary entry about the source
-are shown; the block with its reporter, the SSRC of who sent the SR or RR in which it stands. All is read by the proved
+are shown. With the block stands its reporter, the SSRC of who sent the SR or RR around it. All is read by the proved
 library. Packets that do not begin with an SR or RR (reduced size, RFC 5506) are taken; with --strict they are refused
 with 3.
 
