@@ -16,6 +16,7 @@ pub mod OneStream
 pub mod AsPlaces
 pub mod LinesAreTable
 pub mod EachRow
+pub mod SameRun
 pub mod ReadBack
 pub mod OneCall
 pub mod EachSource

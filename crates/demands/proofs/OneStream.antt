@@ -38,6 +38,7 @@ use Rattle.demands.specs.BothForms.{labelIn, recordsTotals}
 use Rattle.demands.specs.OneStream.{OneStream}
 use Rattle.demands.specs.Witnesses.{text, whole}
 use Rattle.demands.proofs.Traces.{records-counted}
+use Rattle.demands.proofs.SameRun.{same-run}
 use Rattle.demands.proofs.LastRow.{totals-parts, last-row}
 use Rattle.demands.proofs.OneRow.{one-last-row}
 use Rattle.demands.proofs.Witnesses.{met}
@@ -93,7 +94,7 @@ module _ (form : Form) (ssrc : ℕ) where
 pub one-stream : OneStream
 one-stream trace form n ssrc o label a some =
     let behind = octets-drop blockBytes trace o in
-    (go (blocksOf trace .others) refl some (octets-blocks trace behind) a, last-row trace form n ssrc behind label some a)
+    (same-run trace o ∙ go (blocksOf trace .others) refl some (octets-blocks trace behind) a, last-row trace form n ssrc behind label some a)
   where
     zeroth : List ℕ
     zeroth = blocksOf trace .zeroth

@@ -9,6 +9,7 @@ pub mod BothForms
 pub mod OneStream
 pub mod LinesAreTable
 pub mod EachRow
+pub mod SameRun
 pub mod Examples
 pub mod BetweenReports
 pub mod OwnReports

@@ -10,7 +10,7 @@ use Rattle.trace.specs.declared.Block.the-variants.{Label}
 use Rattle.table.specs.Lines.{headBytes, rowBytes}
 use Rattle.walk.specs.Blocks.{blocksOf}
 use Rattle.walk.specs.Programs.{toOutput}
-use Rattle.mixed.specs.Tables.{printed}
+use Rattle.sources.specs.Streams.{printed}
 use Rattle.demands.specs.PrintedTable.{together, AllArrivals, EndsIn}
 use Rattle.demands.specs.BothForms.{labelIn, recordsTotals}
 
