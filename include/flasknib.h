@@ -90,7 +90,7 @@ extern "C" {
  *    4,096 bytes: flasknib_breaker_tick, flasknib_breaker_heard, flasknib_feed
  *    8,192 bytes: flasknib_breaker_report, flasknib_breaker_report_ecn
  *   16,384 bytes: flasknib_sources_arrive, flasknib_sources_count_block,
- *                 flasknib_sources_write_compound, flasknib_sources_place
+ *                 flasknib_sources_write_compound, flasknib_sources_place, flasknib_sources_held
  */
 
 /* What a compiler that can (GCC, Clang) warns of: an answer that nobody looks at, and a null
@@ -375,6 +375,12 @@ int64_t flasknib_sources_write_compound(const uint64_t *sources, size_t words, u
  * Changes the front of `found`. */
 uint8_t flasknib_sources_place(const uint64_t *sources, size_t words, size_t place, uint64_t *found,
                                size_t found_words) FLASKNIB_MUST_USE_NONNULL;
+
+/* The number of held places, which are the first ones.
+ * Gives 0 to 16.
+ * Refusals, as minus the number: 16; 9.
+ * Changes nothing. */
+int64_t flasknib_sources_held(const uint64_t *sources, size_t words) FLASKNIB_MUST_USE_NONNULL;
 
 /* ---- compound RTCP ------------------------------------------------------------------------------
  * 25 words, the first of each kind of report about `media`, and two more:

@@ -564,6 +564,7 @@ static void tables(void)
     CHECK(flasknib_sources_arrive(table, words, SSRC + FLASKNIB_SOURCES_MOST_PLACES, 1, 0) == FLASKNIB_REFUSAL_PLACES);
     CHECK(second[FLASKNIB_PLACE_SSRC] == SSRC + 1);
     CHECK(second[FLASKNIB_PLACE_SOURCE + FLASKNIB_SOURCE_CE] == 1);
+    CHECK(flasknib_sources_held(table, words) == FLASKNIB_SOURCES_MOST_PLACES);
     CHECK(flasknib_sources_place(table, words, 1, found, FLASKNIB_PLACE_WORDS - 1) == FLASKNIB_REFUSAL_ROOM);
     CHECK(flasknib_sources_place(table, words, 1, found, FLASKNIB_PLACE_WORDS) == 0);
     CHECK(memcmp(found, second, sizeof found) == 0);

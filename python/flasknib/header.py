@@ -382,6 +382,15 @@ def sources_place(sources: Words, place: int, found: Words) -> int:
     return _sources_place(sources, len(sources), place, found, len(found))
 
 
+_sources_held = bind("flasknib_sources_held", i64, pointer(u64), usize)
+
+
+def sources_held(sources: Words) -> int:
+    """The number of held places, which are the first ones. Gives 0 to 16. Refusals, as minus the number: 16;
+    9. Changes nothing."""
+    return _sources_held(sources, len(sources))
+
+
 _read_compound = bind("flasknib_read_compound", u8, memory, usize, u32, u8, pointer(u64), usize)
 
 

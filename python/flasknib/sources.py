@@ -4,7 +4,7 @@ from typing import Iterator, Optional, Tuple
 from . import header
 from ._lend import Buffer, u64
 from ._state import State
-from .refusals import Refused, Written, accepted, given
+from .refusals import Refused, Written, accepted, counted, given
 from .source import Arrival, Counted, Source, arrival, block_counted
 
 
@@ -17,8 +17,8 @@ class Sources(State):
     (<Arrival.COUNTED: 0>, <Arrival.COUNTED: 0>, <Arrival.COUNTED: 0>)
     >>> [(ssrc, source.highest, source.lost) for ssrc, source in sources]
     [(100, 5, 0), (900, 19, 1)]
-    >>> len(sources.compound(sender=9))
-    72
+    >>> sources.held(), len(sources.compound(sender=9))
+    (2, 72)
 
     A third source has no place:
 
@@ -48,6 +48,10 @@ class Sources(State):
         found = (u64 * header.PLACE_WORDS)()
         accepted(header.sources_place(self._words, place, found))
         return found[header.PLACE_SSRC], Source.of(found[header.PLACE_SOURCE :])
+
+    def held(self) -> int:
+        """How many sources there are. Refused with 16 or 9."""
+        return counted(header.sources_held(self._words))
 
     def __iter__(self) -> Iterator[Tuple[int, Source]]:
         """Each source with its SSRC, in rising order."""

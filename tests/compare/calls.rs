@@ -8,6 +8,7 @@ pub trait Calls {
     fn table_count_block(&self, table: &mut [u64], ssrc: u32, records: &[u8], width: usize) -> i64;
     fn table_write_compound(&self, table: &[u64], sender: u32, out: &mut [u8]) -> i64;
     fn table_place(&self, table: &[u64], place: usize, found: &mut [u64]) -> u8;
+    fn table_held(&self, table: &[u64]) -> i64;
     fn write_feedback(&self, source: &[u64], sender: u32, media: u32, out: &mut [u8]) -> i64;
     fn write_summary(&self, source: &[u64], media: u32, out: &mut [u8]) -> i64;
     fn read_compound(&self, bytes: &[u8], media: u32, profile: u8, found: &mut [u64]) -> u8;
@@ -72,7 +73,7 @@ pub const REFUSED: u16 = 0x200;
 
 /// Every function with every answer it can give; a length counts as 0, a writer's 12 with any size as -12, a fed block's refusal with any length as minus its
 /// number, of a difference its sign, and of a block's jumps and restarts and of a label's retired bytes whether there are any.
-pub const FUNCTIONS: [(&str, &[i64]); 46] = [
+pub const FUNCTIONS: [(&str, &[i64]); 47] = [
     ("flasknib_arrive", &[0, 7, 8, 9, 10, 128]),
     ("flasknib_count_block", &[0, 1, 256, 257, -9, -10]),
     ("flasknib_lost", &[0, 9, 12]),
@@ -80,6 +81,7 @@ pub const FUNCTIONS: [(&str, &[i64]); 46] = [
     ("flasknib_sources_count_block", &[0, 1, 256, 257, -9, -10, -15, -16]),
     ("flasknib_sources_write_compound", &[0, -9, -12, -16]),
     ("flasknib_sources_place", &[0, 9, 10, 12, 16]),
+    ("flasknib_sources_held", &[0, -9, -16]),
     ("flasknib_write_feedback", &[0, -9, -12]),
     ("flasknib_write_summary", &[0, -9, -12]),
     ("flasknib_read_compound", &[0, 1, 2, 3, 4, 5, 6, 10, 12]),

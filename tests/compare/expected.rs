@@ -136,6 +136,10 @@ impl Calls for Expected {
         put_words(Table::from_words(words).and_then(|table| table.place(place)), found)
     }
 
+    fn table_held(&self, words: &[u64]) -> i64 {
+        Table::from_words(words).map_or_else(minus, |table| table.held() as i64)
+    }
+
     fn write_feedback(&self, words: &[u64], sender: u32, media: u32, out: &mut [u8]) -> i64 {
         length(put(Source::from_words(words).map(|source| report::feedback(&source, sender, media)), out))
     }

@@ -36,6 +36,10 @@ impl Calls for Library {
         header::sources_place(table, place, found)
     }
 
+    fn table_held(&self, table: &[u64]) -> i64 {
+        header::sources_held(table)
+    }
+
     fn write_feedback(&self, source: &[u64], sender: u32, media: u32, out: &mut [u8]) -> i64 {
         header::write_feedback(source, sender, media, out)
     }

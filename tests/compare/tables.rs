@@ -94,6 +94,7 @@ fn read_place(compare: &Compare, draw: &Draw, table: &Lent<u64>) {
     compare.call("flasknib_sources_place", &mut lent, |calls, (table, found)| {
         i64::from(calls.table_place(table.part(), place, found.part_mut()))
     });
+    compare.call("flasknib_sources_held", &mut table.clone(), |calls, table| calls.table_held(table.part()));
 }
 
 /// Calls of every kind in turn on one table, from an empty one or a sound one on, for a few sources and now and then one too many.

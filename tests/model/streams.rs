@@ -65,6 +65,11 @@ impl Table {
         compound
     }
 
+    /// How many places are held.
+    pub fn held(&self) -> usize {
+        self.sources.len()
+    }
+
     /// The words of a held place.
     pub fn place(&self, index: usize) -> Result<Vec<u64>, Refusal> {
         self.sources.iter().nth(index).map(|(&ssrc, source)| place(ssrc, source)).ok_or(LIMITS)

@@ -44,8 +44,8 @@ use Rattle.lent.specs.TableWords.{placeWords, tableWords, placesIn, arePlaces, 
 use Rattle.lent.proofs.PlaceRuns.{length-table}
 use Rattle.lent.proofs.Taking.{Fit, taken, not-taken}
 use Rattle.capi.specs.Codes.{refusalCode}
-use Rattle.capi.specs.Tables.{arrivedUnless, tableArrived, arrivedCode, arrivedWords, CountsTableArrival, countedUnless, tableCounted, countedCode, countedWords, CountsTableBlock, unheld, GivesPlace}
-use Rattle.capi.specs.TableSteps.{storedOver, LeavesArrived, LeavesCounted, jumpsIn, restartsIn, GivesHeld}
+use Rattle.capi.specs.Tables.{arrivedUnless, tableArrived, arrivedCode, arrivedWords, CountsTableArrival, countedUnless, tableCounted, countedCode, countedWords, CountsTableBlock, unheld, GivesPlace, heldCode, TellsHeld}
+use Rattle.capi.specs.TableSteps.{storedOver, LeavesArrived, LeavesCounted, jumpsIn, restartsIn, GivesHeld, HeldIn}
 use Rattle.capi.proofs.Answers.{gives}
 use Rattle.capi.proofs.Fronts.{sets-whole}
 
@@ -177,3 +177,17 @@ module _ (words : List ℕ) (place : ℕ) (old : List ℕ) where
         answers = g .answers ∙ (λ i. refusalCode (written (orElse (faults i) (unheld (places i) place)) (placeWords (getD (places i) place emptyPlace)) old));
         stores = g .stores ∙ (λ i. stored (orElse (faults i) (unheld (places i) place)) (placeWords (getD (places i) place emptyPlace)) old);
       }
+
+-- ---- how many are held
+
+module _ (words : List ℕ) where
+  pub held-refused : {r : Refusal} → loaded words .answer ≡ Refused r → TellsHeld words (negℤ (pos (numberOf r)))
+  held-refused e = rw (not-taken words e)
+
+  pub held-taken : {t : Table} {r : ℤ} → loaded words .answer ≡ Taken → t ≡ loaded words .table → HeldIn t r → TellsHeld words r
+  held-taken {t} e et g =
+      let f = taken words e in
+      let from = et ∙ f .table in
+      let faults : table.faultIn t ≡ wordsFault words = ap (λ (x : Table). table.faultIn x) from ∙ few-fault (placesIn words) (f .short) ∙ sym (f .faults) in
+      let places : table.lent t ≡ placesIn words = ap (λ (x : Table). table.lent x) from ∙ few-lent (placesIn words) (f .short) in
+      g ∙ (λ i. heldCode (faults i) (length (heldOf (places i))))

@@ -1,20 +1,21 @@
 -- What is left to do for a call on a table once the table is taken from its words and asked.
+use mathlib.Core.Path.{_≡_}
 use Prim.Native.Nat.{ℕ}
 use mathlib.Core.List.{List}
 use lib.IntN.{ℤ}
-use lib.ListN.{getD}
+use lib.ListN.{length, getD}
 use lib.Seq.{sets}
 use Rattle.sources.specs.declared.Table.{Table}
 use Rattle.sources.specs.declared.TableArrived.{TableArrived}
 use Rattle.sources.specs.declared.Counted.{Counted}
 use Rattle.sources.specs.declared.Counted.the-variants.{Block, Refused}
 use Rattle.sources.specs.declared.TableCounted.{TableCounted}
-use Rattle.sources.specs.Places.{emptyPlace}
+use Rattle.sources.specs.Places.{emptyPlace, heldOf}
 use Rattle.sources.specs.Answers.{orElse}
 use Rattle.sources.specs.Tables.{lent, faultIn}
 use Rattle.lent.specs.TableWords.{placeWords, tableWords}
 use Rattle.capi.specs.Codes.{refusalCode, Gives, Leaves}
-use Rattle.capi.specs.Tables.{arrivedCode, arrivedWords, countedCode, countedWords, unheld}
+use Rattle.capi.specs.Tables.{arrivedCode, arrivedWords, countedCode, countedWords, unheld, heldCode}
 
 -- the next table's words stored over the old ones
 abbrev pub storedOver : List ℕ → Table → List ℕ
@@ -38,3 +39,6 @@ restartsIn (Refused refusal) = 0
 abbrev pub GivesHeld : Table → ℕ → List ℕ → ℕ → List ℕ → Type 0
 GivesHeld t place old r found =
     Gives refusalCode (orElse (faultIn t) (unheld (lent t) place)) (placeWords (getD (lent t) place emptyPlace)) old r found
+
+abbrev pub HeldIn : Table → ℤ → Type 0
+HeldIn t r = r ≡ heldCode (faultIn t) (length (heldOf (lent t)))

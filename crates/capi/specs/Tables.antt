@@ -1,4 +1,5 @@
 -- What the calls on a table of several sources answer, and what they leave in the lent words (include/flasknib.h, "several RTP sources in one table").
+use mathlib.Core.Path.{_≡_}
 use Prim.Native.Nat.{ℕ, _+_, _*_}
 use mathlib.Core.Bool.{cond}
 use mathlib.Core.List.{List}
@@ -100,3 +101,14 @@ GivesPlace words place old r found =
     (orElse (wordsFault words) (unheld (placesIn words) place))
     (placeWords (getD (placesIn words) place emptyPlace))
     old r found
+
+-- ---- flasknib_sources_held
+
+-- how many, or minus the refusal
+abbrev pub heldCode : Option Refusal → ℕ → ℤ
+heldCode (some refusal) n = negℤ (pos (numberOf refusal))
+heldCode none n = pos n
+
+-- 16, 9; or how many places are held, all in front
+abbrev pub TellsHeld : List ℕ → ℤ → Type 0
+TellsHeld words r = r ≡ heldCode (wordsFault words) (length (heldOf (placesIn words)))

@@ -21,8 +21,8 @@ use sources::Table;
 use sources::TableArrived;
 use sources::TableCounted;
 ghost use Prim.Native.Nat.{_≤_};
-ghost use Rattle.capi.specs.Tables.{CountsTableArrival, CountsTableBlock, WritesTableCompound, GivesPlace};
-ghost use Rattle.capi.specs.TableSteps.{LeavesArrived, LeavesCounted, jumpsIn, restartsIn, GivesHeld};
+ghost use Rattle.capi.specs.Tables.{CountsTableArrival, CountsTableBlock, WritesTableCompound, GivesPlace, TellsHeld};
+ghost use Rattle.capi.specs.TableSteps.{LeavesArrived, LeavesCounted, jumpsIn, restartsIn, GivesHeld, HeldIn};
 
 // The refusal of a place that is not held.
 const LIMITS: u8 = 10;
@@ -178,6 +178,32 @@ pub extern "C" fn flasknib_sources_place(words: &[u64], place: usize, found: &mu
         Answer::Taken => {
             let t = loaded.table;
             put_held(t, place, found)
+        }
+    }
+}
+
+// How many places of a table are held.
+fn held_in(t: Table) -> i64
+    ensures { λ r. ⌜ HeldIn t r ⌝ }
+{
+    match t.check() {
+        Checked::Refused(refusal) => codes::minus(refusal),
+        Checked::Held(n) => n as i64,
+    }
+}
+
+// How many places are held, all in front. Gives their number, or minus refusal 16 or 9.
+#[no_mangle]
+pub extern "C" fn flasknib_sources_held(words: &[u64]) -> i64
+    ensures { λ r. ⌜ TellsHeld (now (words .entry)) r ⌝ }
+{
+    let loaded = load(words);
+    let answer = loaded.answer;
+    match answer {
+        Answer::Refused(refusal) => codes::minus(refusal),
+        Answer::Taken => {
+            let t = loaded.table;
+            held_in(t)
         }
     }
 }

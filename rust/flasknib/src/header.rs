@@ -294,6 +294,7 @@ pub mod raw {
         pub fn flasknib_sources_count_block(sources: *mut u64, words: usize, ssrc: u32, records: *const u8, length: usize, width: usize) -> i64;
         pub fn flasknib_sources_write_compound(sources: *const u64, words: usize, sender: u32, out: *mut u8, room: usize) -> i64;
         pub fn flasknib_sources_place(sources: *const u64, words: usize, place: usize, found: *mut u64, found_words: usize) -> u8;
+        pub fn flasknib_sources_held(sources: *const u64, words: usize) -> i64;
         pub fn flasknib_read_compound(bytes: *const u8, length: usize, media: u32, profile: u8, found: *mut u64, words: usize) -> u8;
         pub fn flasknib_ecn_between(later_highest: u32, later_ce: u16, later_lost: u16, earlier_highest: u32, earlier_ce: u16, earlier_lost: u16, counts: *mut u64, words: usize) -> u8;
         pub fn flasknib_since16(later: u16, earlier: u16) -> u16;
@@ -409,6 +410,12 @@ pub fn sources_write_compound(sources: &[u64], sender: u32, out: &mut [u8]) -> i
 /// is not held; 12 if `found` has fewer words. Changes the front of `found`.
 pub fn sources_place(sources: &[u64], place: usize, found: &mut [u64]) -> u8 {
     unsafe { raw::flasknib_sources_place(sources.as_ptr(), sources.len(), place, found.as_mut_ptr(), found.len()) }
+}
+
+/// The number of held places, which are the first ones. Gives 0 to 16. Refusals, as minus the number: 16; 9.
+/// Changes nothing.
+pub fn sources_held(sources: &[u64]) -> i64 {
+    unsafe { raw::flasknib_sources_held(sources.as_ptr(), sources.len()) }
 }
 
 /// Reads a compound, the payload of one UDP packet, for what it reports about the SSRC `media`. A fault

@@ -1,6 +1,6 @@
 //! Several RTP sources in one table, and the compound with the feedback of all of them.
 use crate::header::{self, Refusal, PLACE_SOURCE, PLACE_SSRC, PLACE_WORDS, SOURCES_COMPOUND_MOST_BYTES, SOURCES_MOST_PLACES, SOURCE_WORDS};
-use crate::refusals::{accepted, written, Result};
+use crate::refusals::{accepted, counted, written, Result};
 use crate::source::{arrival, block_counted, Arrival, Counted, Source};
 
 /// A table of 0 to 16 sources, by SSRC.
@@ -51,6 +51,11 @@ impl Sources {
         let mut words = [0; SOURCE_WORDS];
         words.copy_from_slice(&found[PLACE_SOURCE..]);
         Ok((found[PLACE_SSRC] as u32, Source(words)))
+    }
+
+    /// How many sources there are. Refused with 16 or 9.
+    pub fn held(&self) -> Result<usize> {
+        counted(header::sources_held(&self.0))
     }
 
     /// All sources, in rising order of SSRC. Refused with 16 or 9.

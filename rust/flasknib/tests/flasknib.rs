@@ -149,6 +149,7 @@ fn which_call_a_packet_is_for() {
         numbers.iter().for_each(|&number| assert_eq!(sources.arrive(1, number, Mark::Ce), Ok(Arrival::Counted)));
         packets.push(sources.compound(9).unwrap());
     }
+    assert_eq!(sources.held(), Ok(1));
     packets.push(receiver_report(Some([0x4000_0003, 70000, 0, 0, 0])));
     packets.push(receiver_report(None));
     let counts = |lost, marked, expected| Between { lost, marked, expected };
