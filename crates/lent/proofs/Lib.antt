@@ -8,6 +8,10 @@ pub mod Restored
 pub mod Parts
 pub mod Witnesses
 pub mod PlaceRuns
+pub mod StreamRuns
+pub mod StreamTaking
+pub mod StreamLaws
+pub mod StreamWitnesses
 pub mod Alike
 pub mod Taking
 pub mod TableLaws

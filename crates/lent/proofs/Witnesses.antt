@@ -31,7 +31,7 @@ use Rattle.lent.proofs.RunLaws.{run-back, run-words-back}
 use Rattle.lent.proofs.ConversionLaws.{conversion-back, conversion-words-back}
 use Rattle.lent.proofs.Restored.{breaker-restored, read-typed, words-restored}
 
-fit-words : (s : List ℕ) → all (map (λ (w : ℕ). ltb w (2 ^ 64)) s) ≡ true → (i : ℕ) → getD s i 0 < 2 ^ 64
+pub fit-words : (s : List ℕ) → all (map (λ (w : ℕ). ltb w (2 ^ 64)) s) ≡ true → (i : ℕ) → getD s i 0 < 2 ^ 64
 fit-words [] e i = omega arith
 fit-words (w ∷ s) e zero = ltb-true w (2 ^ 64) (and-left (ltb w (2 ^ 64)) (all (map (λ (w : ℕ). ltb w (2 ^ 64)) s)) e)
 fit-words (w ∷ s) e (suc i) = fit-words s (and-right (ltb w (2 ^ 64)) (all (map (λ (w : ℕ). ltb w (2 ^ 64)) s)) e) i

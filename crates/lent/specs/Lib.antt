@@ -14,3 +14,4 @@ pub mod KeptWords
 pub mod CallWords
 pub mod Widths
 pub mod AttributeWords
+pub mod StreamWords

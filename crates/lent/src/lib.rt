@@ -14,5 +14,7 @@ pub mod lost_words;
 mod run_parts;
 pub mod run_words;
 pub mod source_words;
+mod stream_lines;
+pub mod stream_words;
 pub mod table_words;
 mod widths;
