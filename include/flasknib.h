@@ -11,9 +11,9 @@
  * remembered number of the record; and flasknib_feed and flasknib_feed_close keep the first refusal
  * 1, 13 or 14 of a trace, the rows before it written. A record in another number of words than its
  * layout has is refused with 9, as malformed, and so is a table with 16; so is one that a breaker,
- * a run of ecntable or a conversion is to start in. What any other call only fills may be longer:
- * it fills the front, and leaves the rest as it was. A function that writes bytes says with refusal
- * 12 how many it needs.
+ * a run of ecntable or of ecnstreams or a conversion is to start in. What any other call only fills
+ * may be longer: it fills the front, and leaves the rest as it was. A function that writes bytes
+ * says with refusal 12 how many it needs.
  *
  * The comment above a function says what it does; what it gives if it is not refused; its refusals,
  * in the order in which they are looked for, so that of several the first is given; and what it
@@ -1230,9 +1230,13 @@ int64_t flasknib_forms_close(const uint64_t *forms, size_t words, const uint8_t 
  * 3 words: the form of the trace; the label's length; how many lines are held, at most 16. A line
  * has 13 words: the SSRC, the 10 words of the source's record, jumped and restarts. The lines, one
  * for each SSRC, in rising order, stand in FLASKNIB_STREAMS_MOST_LINES * FLASKNIB_LINE_WORDS words
- * (208) or more that are lent with each call; they need not be set before the first call. Another
- * form than the two, more lines and fewer words are malformed (9), and so is a line whose record is
- * malformed or whose jumped or restarts are above 2^48, in a call that needs that line.
+ * (208) or more that are lent with each call; they need not be set before the first call.
+ *
+ * Held lines against the rules of a table, SSRCs that do not rise and a line with no arrival, are
+ * refused with 16; then another form than the two, a label's length above 502, and a held line with
+ * an SSRC of 2^32 or more, a malformed record, or jumped or restarts above 2^48, are malformed (9).
+ * Another number of words, fewer words of lines and more lines held are 9 before all that: no line
+ * can be read. Lines behind the held ones are not judged, and keep their words.
  */
 #define FLASKNIB_STREAMS_WORDS 3
 #define FLASKNIB_LINE_WORDS 13
@@ -1249,15 +1253,15 @@ enum { FLASKNIB_STREAMS_FORM = 0, FLASKNIB_STREAMS_LABEL_LENGTH = 1, FLASKNIB_ST
 
 /* Takes block 0, which must be a label block of either form; its SSRC binds nothing.
  * Gives 0, and 3 words, of a run that holds no line.
- * Refusals: 1, 13 or 14 for the block (14 for arrivals too); 12 if `run` has fewer words.
- * Changes the front of `run`. */
+ * Refusals: 9 for another number of words than 3; 1, 13 or 14 for the block (14 for arrivals too).
+ * Changes `run`. */
 uint8_t flasknib_streams_start(const uint8_t *zeroth, size_t length, uint64_t *run, size_t words)
     FLASKNIB_MUST_USE_NONNULL;
 
 /* Takes a later block, which must hold arrivals of the label's form, and counts them in the line of
  * their SSRC; a new SSRC gets a line.
  * Gives 0.
- * Refusals: 9; 1, 13 or 14 for the block; 9 for the line of its SSRC; 15 for a seventeenth SSRC.
+ * Refusals: 16; 9; 1, 13 or 14 for the block; 15 for a seventeenth SSRC.
  * Changes `run` to the next run, and `lines`. */
 uint8_t flasknib_streams_block(uint64_t *run, size_t words, uint64_t *lines, size_t line_words,
                                const uint8_t *block, size_t length) FLASKNIB_MUST_USE_NONNULL;
@@ -1265,9 +1269,9 @@ uint8_t flasknib_streams_block(uint64_t *run, size_t words, uint64_t *lines, siz
 /* Writes the row of line i, counted from 0, at most FLASKNIB_ROW_MOST_BYTES. `zeroth` is block 0,
  * from which the row has its label.
  * Gives the row's length.
- * Refusals, as minus the number: 9, also for a block 0 that is not 512 bytes, has another form or
- * length of the label than the run, or a label against the rules (nothing else of it is compared);
- * 10 for no such line; 9 for that line, also for an SSRC of 2^32 or more; 12 with the row's size.
+ * Refusals, as minus the number: 16; 9, also for a block 0 that is not 512 bytes, has another form
+ * or length of the label than the run, or a label against the rules (nothing else of it is
+ * compared); 10 for no such line; 12 with the row's size.
  * Changes the front of `out`. */
 int64_t flasknib_streams_row(const uint64_t *run, size_t words, size_t i, const uint64_t *lines,
                              size_t line_words, const uint8_t *zeroth, size_t zeroth_length,

@@ -689,7 +689,7 @@ static void streams_words(void)
     size_t words = FLASKNIB_STREAMS_WORDS, line_words = FLASKNIB_STREAMS_MOST_LINES * FLASKNIB_LINE_WORDS;
 
     CHECK(label_of(FLASKNIB_FORM_TWO, 3, block, sizeof block) == FLASKNIB_BLOCK_BYTES);
-    CHECK(flasknib_streams_start(block, sizeof block, run, words - 1) == FLASKNIB_REFUSAL_ROOM);
+    CHECK(flasknib_streams_start(block, sizeof block, run, words - 1) == FLASKNIB_REFUSAL_MALFORMED);
     CHECK(flasknib_streams_start(block, sizeof block, run, words) == 0);
     restarting(FLASKNIB_FORM_TWO, SSRC, 0, block);
     CHECK(flasknib_streams_block(run, words, lines, line_words - 1, block, sizeof block) == FLASKNIB_REFUSAL_MALFORMED);
@@ -707,6 +707,8 @@ static void streams_words(void)
     CHECK(second[FLASKNIB_LINE_RESTARTS] == 1);
     restarting(FLASKNIB_FORM_TWO, SSRC + FLASKNIB_STREAMS_MOST_LINES, 0, block);
     CHECK(flasknib_streams_block(run, words, lines, line_words, block, sizeof block) == FLASKNIB_REFUSAL_PLACES);
+    lines[FLASKNIB_LINE_WORDS + FLASKNIB_LINE_SSRC] = SSRC;
+    CHECK(flasknib_streams_block(run, words, lines, line_words, block, sizeof block) == FLASKNIB_REFUSAL_RULES);
 }
 
 static uint8_t read_line(const char *line, uint64_t *found, size_t words)

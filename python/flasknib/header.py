@@ -856,8 +856,8 @@ _streams_start = bind("flasknib_streams_start", u8, memory, usize, pointer(u64),
 
 def streams_start(zeroth: Buffer, run: Words) -> int:
     """Takes block 0, which must be a label block of either form; its SSRC binds nothing. Gives 0, and 3
-    words, of a run that holds no line. Refusals: 1, 13 or 14 for the block (14 for arrivals too); 12 if `run`
-    has fewer words. Changes the front of `run`."""
+    words, of a run that holds no line. Refusals: 9 for another number of words than 3; 1, 13 or 14 for the
+    block (14 for arrivals too). Changes `run`."""
     lent_zeroth = read(zeroth)
     apart(run, lent_zeroth)
     return _streams_start(lent_zeroth, len(lent_zeroth), run, len(run))
@@ -868,8 +868,8 @@ _streams_block = bind("flasknib_streams_block", u8, pointer(u64), usize, pointer
 
 def streams_block(run: Words, lines: Words, block: Buffer) -> int:
     """Takes a later block, which must hold arrivals of the label's form, and counts them in the line of their
-    SSRC; a new SSRC gets a line. Gives 0. Refusals: 9; 1, 13 or 14 for the block; 9 for the line of its SSRC;
-    15 for a seventeenth SSRC. Changes `run` to the next run, and `lines`."""
+    SSRC; a new SSRC gets a line. Gives 0. Refusals: 16; 9; 1, 13 or 14 for the block; 15 for a seventeenth
+    SSRC. Changes `run` to the next run, and `lines`."""
     lent_block = read(block)
     apart(run, lines, lent_block)
     apart(lines, lent_block)
@@ -881,10 +881,10 @@ _streams_row = bind("flasknib_streams_row", i64, pointer(u64), usize, usize, poi
 
 def streams_row(run: Words, i: int, lines: Words, zeroth: Buffer, out: Buffer) -> int:
     """Writes the row of line i, counted from 0, at most FLASKNIB_ROW_MOST_BYTES. `zeroth` is block 0, from
-    which the row has its label. Gives the row's length. Refusals, as minus the number: 9, also for a block 0
-    that is not 512 bytes, has another form or length of the label than the run, or a label against the rules
-    (nothing else of it is compared); 10 for no such line; 9 for that line, also for an SSRC of 2^32 or more;
-    12 with the row's size. Changes the front of `out`."""
+    which the row has its label. Gives the row's length. Refusals, as minus the number: 16; 9, also for a
+    block 0 that is not 512 bytes, has another form or length of the label than the run, or a label against
+    the rules (nothing else of it is compared); 10 for no such line; 12 with the row's size. Changes the front
+    of `out`."""
     i = fits(i, usize)
     lent_zeroth = read(zeroth)
     lent_out = written(out)

@@ -116,9 +116,9 @@ pub const FUNCTIONS: [(&str, &[i64]); 47] = [
     ("flasknib_forms_start", &[0, -1, -9, -12, -13, -14]),
     ("flasknib_forms_block", &[0, -1, -9, -12, -13, -14, -17]),
     ("flasknib_forms_close", &[0, -9, -12]),
-    ("flasknib_streams_start", &[0, 1, 12, 13, 14]),
-    ("flasknib_streams_block", &[0, 1, 9, 13, 14, 15]),
-    ("flasknib_streams_row", &[0, -9, -10, -12]),
+    ("flasknib_streams_start", &[0, 1, 9, 13, 14]),
+    ("flasknib_streams_block", &[0, 1, 9, 13, 14, 15, 16]),
+    ("flasknib_streams_row", &[0, -9, -10, -12, -16]),
     ("flasknib_feed", &[0, -1, -9, -10, -12, -13, -14]),
     ("flasknib_feed_close", &[0, 1, 9, 13, 14]),
 ];

@@ -323,7 +323,13 @@ impl Calls for Expected {
     }
 
     fn streams_start(&self, zeroth: &[u8], words: &mut [u64]) -> u8 {
-        put_words(streams::Run::start(zeroth).map(|run| run.to_words()), words)
+        match require(words.len() == streams::RUN_WORDS, MALFORMED).and_then(|()| streams::Run::start(zeroth)) {
+            Ok(run) => {
+                words.copy_from_slice(&run.to_words());
+                0
+            }
+            Err(refusal) => refusal.number(),
+        }
     }
 
     fn streams_block(&self, words: &mut [u64], lines: &mut [u64], block: &[u8]) -> u8 {

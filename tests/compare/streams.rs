@@ -2,11 +2,12 @@
 //! table of several sources.
 use crate::compare::Compare;
 use crate::lent::Lent;
-use draw::{blocks, sources, tables, traces, Draw};
+use draw::{blocks, tables, traces, Draw};
 use model::source::MOST_ARRIVALS;
 use model::streams::{table, Run, LINE, LINE_WORDS, MOST_PLACES, RUN_WORDS};
 use model::table::HEAD;
 use model::trace::{arrivals_block, label_block, refused_line, FORMS};
+use std::collections::BTreeSet;
 
 /// No row is longer.
 const MOST: usize = 1_228;
@@ -48,20 +49,32 @@ fn row(compare: &Compare, run: &[u64], i: usize, lines: &[u64], zeroth: &[u8], o
     (answer, lent.3.part().to_vec())
 }
 
-/// The words of some lines, mostly in rising order, and any behind them.
+/// The words of held lines, and any behind them.
 fn lines(draw: &Draw, held: usize) -> Vec<u64> {
-    let mut ssrcs: Vec<u32> = (0..held).map(|_| tables::ssrc(draw)).collect();
-    if !draw.one_in(8) {
-        ssrcs.sort_unstable();
+    let mut ssrcs = BTreeSet::new();
+    while ssrcs.len() < held {
+        ssrcs.insert(tables::ssrc(draw));
     }
-    let mut words = Vec::new();
-    for ssrc in ssrcs {
-        words.push(u64::from(ssrc));
-        words.extend(sources::sound(draw));
-        words.extend([draw.astray(0, MOST_ARRIVALS), draw.astray(0, MOST_ARRIVALS)]);
-    }
-    words.resize(LINE_WORDS + draw.index(3), draw.u64());
+    let tally = || vec![draw.edge(0, MOST_ARRIVALS), draw.edge(0, MOST_ARRIVALS)];
+    let mut words: Vec<u64> = ssrcs.into_iter().flat_map(|ssrc| [vec![u64::from(ssrc)], tables::held_record(draw), tally()].concat()).collect();
+    words.resize_with(LINE_WORDS + draw.index(3), || draw.any_size());
     words
+}
+
+/// A fault of a held line or of the one behind: an SSRC twice, falling or too large, no arrival, a malformed record, jumped or restarts past the limit.
+fn damage(draw: &Draw, lines: &mut [u64], held: usize) {
+    let at = LINE * draw.index((held + 1).min(MOST_PLACES));
+    let other = LINE * draw.index(held.max(1));
+    match draw.below(8) {
+        0 => lines[at] = lines[other],
+        1 => lines[at] = lines[at].wrapping_add(draw.of(&[1, 1 << 32, u64::MAX])),
+        2 => lines.swap(at, other),
+        3 => lines[at + 3..at + 7].fill(0),
+        4 => lines[at + 10] = draw.of(&[65_536, 65_537, u64::MAX]),
+        5 => lines[at + 11 + draw.index(2)] = draw.of(&[MOST_ARRIVALS, MOST_ARRIVALS + 1, u64::MAX]),
+        6 => (0..LINE).for_each(|word| lines.swap(at + word, other + word)),
+        _ => lines[at + draw.index(LINE)] = draw.any_size(),
+    }
 }
 
 /// A later block and a row of a run; now and then its words, its lines or block 0 are damaged, or the block is of another trace.
@@ -75,6 +88,7 @@ fn single(compare: &Compare, draw: &Draw) {
     let mut zeroth = label_block(form, &label, tables::ssrc(draw)).unwrap();
     let mut later = arrivals_block(form, &blocks::records(draw, form, traces::times(draw, form)), ssrc).unwrap();
     let mut i = at;
+    (0..draw.of(&[0, 0, 0, 0, 1, 2])).for_each(|_| damage(draw, &mut lines, held));
     match draw.below(18) {
         0 => words[draw.index(RUN_WORDS)] = draw.any_size(),
         1 => words[0] = draw.below(4),
@@ -82,15 +96,12 @@ fn single(compare: &Compare, draw: &Draw) {
         3 => words[2] = draw.edge(0, 18),
         4 => words.resize(draw.index(6), 0),
         5 => lines.truncate(draw.edge(0, LINE_WORDS as u64) as usize),
-        6 => drop(lines.splice(LINE * at + 1..LINE * at + 11, sources::any(draw))),
-        7 => lines[LINE * at + draw.index(LINE)] = draw.any_size(),
-        8 => lines[LINE * at] = lines[LINE * at].wrapping_add(draw.of(&[1, 1 << 32, u64::MAX])),
-        9 => blocks::flip(draw, &mut zeroth),
-        10 => blocks::damage_contents(draw, &mut zeroth),
-        11 => zeroth.resize(draw.of(&[0, 511, 513]), 0),
-        12 => later = blocks::any(draw),
-        13 => later = traces::damaged(draw, later),
-        14 => i = draw.of(&[held, held + 1, usize::MAX]),
+        6 => blocks::flip(draw, &mut zeroth),
+        7 => blocks::damage_contents(draw, &mut zeroth),
+        8 => zeroth.resize(draw.of(&[0, 511, 513]), 0),
+        9 => later = blocks::any(draw),
+        10 => later = traces::damaged(draw, later),
+        11 => i = draw.of(&[held, held + 1, usize::MAX]),
         _ => {}
     }
     let size = Run::from_words(&words, &lines).and_then(|run| run.row(i, &zeroth)).map_or(80, |row| row.len());

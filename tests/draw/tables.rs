@@ -34,7 +34,8 @@ pub fn sound(draw: &Draw) -> Vec<u64> {
     words
 }
 
-fn held_record(draw: &Draw) -> Vec<u64> {
+/// The record of a held place.
+pub fn held_record(draw: &Draw) -> Vec<u64> {
     loop {
         let words = sources::sound(draw);
         if words[2..6].iter().any(|&count| count > 0) {

@@ -115,25 +115,28 @@ pub const RUN_WORDS: usize = 3;
 pub const LINE: usize = 3 + WORDS;
 pub const LINE_WORDS: usize = MOST_PLACES * LINE;
 
-/// A trace's form, the length of its label, and the lines as they stand in the lent words.
+/// A trace's form, the length of its label, and the totals by SSRC.
 pub struct Run {
     form: Form,
     length: u64,
-    lines: Vec<Vec<u64>>,
+    lines: BTreeMap<u32, Totals>,
 }
 
 impl Run {
     pub fn start(block: &[u8]) -> Result<Run, Refusal> {
         let Label { form, text, .. } = zeroth(block)?;
-        Ok(Run { form, length: text.len() as u64, lines: Vec::new() })
+        Ok(Run { form, length: text.len() as u64, lines: BTreeMap::new() })
     }
 
-    /// 9 for another number of words, another form, too few words of lines, or more than 16 of these.
+    /// 9 for another number of words, too few words of lines or over 16 held; 16 for held lines against the table's rules; then 9 for the rest.
     pub fn from_words(words: &[u64], lines: &[u64]) -> Result<Run, Refusal> {
         let &[number, length, held] = words else { return Err(MALFORMED) };
-        let form = u8::try_from(number).ok().and_then(|number| Form::from_number(number).ok()).ok_or(MALFORMED)?;
         require(lines.len() >= LINE_WORDS && held <= MOST_PLACES as u64, MALFORMED)?;
-        Ok(Run { form, length, lines: lines.chunks(LINE).take(held as usize).map(<[u64]>::to_vec).collect() })
+        let held = &lines[..LINE * held as usize];
+        require(held.chunks(LINE).is_sorted_by(|one, next| one[0] < next[0]) && held.chunks(LINE).all(is_held), RULES)?;
+        let form = u8::try_from(number).ok().and_then(|number| Form::from_number(number).ok()).ok_or(MALFORMED)?;
+        require(length <= BODY as u64, MALFORMED)?;
+        Ok(Run { form, length, lines: held.chunks(LINE).map(line).collect::<Result<_, Refusal>>()? })
     }
 
     pub fn to_words(&self) -> [u64; RUN_WORDS] {
@@ -142,42 +145,31 @@ impl Run {
 
     /// Puts the lines at the front of the lent words.
     pub fn keep(&self, lines: &mut [u64]) {
-        lines.chunks_mut(LINE).zip(&self.lines).for_each(|(place, line)| place.copy_from_slice(line));
+        lines.chunks_mut(LINE).zip(&self.lines).for_each(|(place, (&ssrc, totals))| place.copy_from_slice(&in_words(ssrc, totals)));
     }
 
-    /// The block's refusal, then 9 for the line of its SSRC, then 15.
+    /// The block's refusal, then 15.
     pub fn take(&mut self, block: &[u8]) -> Result<(), Refusal> {
         let (ssrc, records) = of_form(self.form, block)?;
-        if let Some(line) = self.lines.iter_mut().find(|line| line[0] == u64::from(ssrc)) {
-            let mut totals = totals(line)?;
-            totals.take(&records);
-            *line = in_words(ssrc, &totals);
-            return Ok(());
-        }
-        require(self.lines.len() < MOST_PLACES, PLACES)?;
-        let mut totals = Totals::default();
-        totals.take(&records);
-        let at = self.lines.iter().take_while(|line| line[0] < u64::from(ssrc)).count();
-        self.lines.insert(at, in_words(ssrc, &totals));
+        require(self.lines.contains_key(&ssrc) || self.lines.len() < MOST_PLACES, PLACES)?;
+        self.lines.entry(ssrc).or_default().take(&records);
         Ok(())
     }
 
-    /// 9 for a block 0 that is not the run's own, then 10 for no such line, then 9 for a malformed one.
+    /// 9 for a block 0 that is not the run's own, then 10 for no such line.
     pub fn row(&self, index: usize, zeroth: &[u8]) -> Result<Vec<u8>, Refusal> {
-        require(zeroth.len() == BLOCK && u16_at(zeroth, 0) == self.form.kinds().0, MALFORMED)?;
-        require(u64::from(u16_at(zeroth, 2)) == self.length && self.length <= BODY as u64, MALFORMED)?;
+        require(zeroth.len() == BLOCK && u16_at(zeroth, 0) == self.form.kinds().0 && u64::from(u16_at(zeroth, 2)) == self.length, MALFORMED)?;
         let text = &zeroth[8..8 + self.length as usize];
         require(is_label(text), MALFORMED)?;
-        let line = self.lines.get(index).ok_or(LIMITS)?;
-        let ssrc = u32::try_from(line[0]).map_err(|_| MALFORMED)?;
-        Ok(totals(line)?.row(text, ssrc))
+        let (&ssrc, totals) = self.lines.iter().nth(index).ok_or(LIMITS)?;
+        Ok(totals.row(text, ssrc))
     }
 }
 
-fn totals(line: &[u64]) -> Result<Totals, Refusal> {
-    let (jumped, restarts) = (line[11], line[12]);
-    require(jumped.max(restarts) <= MOST_ARRIVALS, MALFORMED)?;
-    Ok(Totals { source: Source::from_words(&line[1..11])?, jumped, restarts })
+fn line(words: &[u64]) -> Result<(u32, Totals), Refusal> {
+    let (jumped, restarts) = (words[11], words[12]);
+    require(words[0] < 1 << 32 && jumped.max(restarts) <= MOST_ARRIVALS, MALFORMED)?;
+    Ok((words[0] as u32, Totals { source: Source::from_words(&words[1..11])?, jumped, restarts }))
 }
 
 fn in_words(ssrc: u32, totals: &Totals) -> Vec<u64> {

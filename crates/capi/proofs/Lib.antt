@@ -15,7 +15,6 @@ pub mod RunSteps
 pub mod FeedSteps
 pub mod FeedChains
 pub mod FormsSteps
-pub mod StreamsLaws
 pub mod StreamsSteps
 pub mod PacketSteps
 pub mod AttributeSteps

@@ -14,6 +14,5 @@ pub mod RunCalls
 pub mod Feeds
 pub mod FeedChains
 pub mod FormsCalls
-pub mod StreamsWords
 pub mod StreamsCalls
 pub mod AttributeCalls

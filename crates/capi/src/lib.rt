@@ -18,6 +18,5 @@ mod place_calls;
 pub mod rows;
 pub mod runs;
 pub mod streams_runs;
-mod streams_words;
 mod table_walk;
 pub mod tables;

@@ -673,24 +673,23 @@ pub fn forms_close(forms: &[u64], part: &[u8], out: &mut [u8]) -> i64 {
 }
 
 /// Takes block 0, which must be a label block of either form; its SSRC binds nothing. Gives 0, and 3 words,
-/// of a run that holds no line. Refusals: 1, 13 or 14 for the block (14 for arrivals too); 12 if `run` has
-/// fewer words. Changes the front of `run`.
+/// of a run that holds no line. Refusals: 9 for another number of words than 3; 1, 13 or 14 for the block (14
+/// for arrivals too). Changes `run`.
 pub fn streams_start(zeroth: &[u8], run: &mut [u64]) -> u8 {
     unsafe { raw::flasknib_streams_start(zeroth.as_ptr(), zeroth.len(), run.as_mut_ptr(), run.len()) }
 }
 
 /// Takes a later block, which must hold arrivals of the label's form, and counts them in the line of their
-/// SSRC; a new SSRC gets a line. Gives 0. Refusals: 9; 1, 13 or 14 for the block; 9 for the line of its SSRC;
-/// 15 for a seventeenth SSRC. Changes `run` to the next run, and `lines`.
+/// SSRC; a new SSRC gets a line. Gives 0. Refusals: 16; 9; 1, 13 or 14 for the block; 15 for a seventeenth
+/// SSRC. Changes `run` to the next run, and `lines`.
 pub fn streams_block(run: &mut [u64], lines: &mut [u64], block: &[u8]) -> u8 {
     unsafe { raw::flasknib_streams_block(run.as_mut_ptr(), run.len(), lines.as_mut_ptr(), lines.len(), block.as_ptr(), block.len()) }
 }
 
 /// Writes the row of line i, counted from 0, at most FLASKNIB_ROW_MOST_BYTES. `zeroth` is block 0, from which
-/// the row has its label. Gives the row's length. Refusals, as minus the number: 9, also for a block 0 that
-/// is not 512 bytes, has another form or length of the label than the run, or a label against the rules
-/// (nothing else of it is compared); 10 for no such line; 9 for that line, also for an SSRC of 2^32 or more;
-/// 12 with the row's size. Changes the front of `out`.
+/// the row has its label. Gives the row's length. Refusals, as minus the number: 16; 9, also for a block 0
+/// that is not 512 bytes, has another form or length of the label than the run, or a label against the rules
+/// (nothing else of it is compared); 10 for no such line; 12 with the row's size. Changes the front of `out`.
 pub fn streams_row(run: &[u64], i: usize, lines: &[u64], zeroth: &[u8], out: &mut [u8]) -> i64 {
     unsafe { raw::flasknib_streams_row(run.as_ptr(), run.len(), i, lines.as_ptr(), lines.len(), zeroth.as_ptr(), zeroth.len(), out.as_mut_ptr(), out.len()) }
 }

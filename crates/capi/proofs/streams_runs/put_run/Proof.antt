@@ -1,13 +1,13 @@
--- `capi::streams_runs::put_back` meets its contract. Assumes nothing.
+-- `capi::streams_runs::put_run` meets its contract. Assumes nothing.
 use borrow.Author.Needs.{needs}
 use mathlib.Core.Path.{sym, ap, _∙_}
 use denote.Ref.{now}
+use Rattle.lent.specs.StreamWords.{runWords}
 use Rattle.capi.specs.Codes.{refusalCode}
 use Rattle.capi.specs.StepCalls.{wordsAfter}
-use Rattle.capi.specs.StreamsWords.{runWords}
 use Rattle.capi.proofs.StepLaws.{words-stored}
-use Rattle.capi.proofs.streams_runs.put_back.Statement.{statement}
-use Rattle.capi.proofs.streams_runs.put_back.Tie as tie
+use Rattle.capi.proofs.streams_runs.put_run.Statement.{statement}
+use Rattle.capi.proofs.streams_runs.put_run.Tie as tie
 
 returns : tie.Need-returns
 returns c =
@@ -21,8 +21,8 @@ returns-3 c =
     let is = c .before .before .answer .given .1 in
     record { answers = c .number .ensures ∙ sym (ap refusalCode is); stores = sym (ap (wordsAfter (now (a .run)) (runWords (a .step .run))) is) }
 
-pub put-back-spec : {M : Type 1} → statement M
-put-back-spec =
+pub put-run-spec : {M : Type 1} → statement M
+put-run-spec =
     tie.close
     (tie.spec
     (λ c. search needs)
