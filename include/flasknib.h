@@ -84,13 +84,13 @@ extern "C" {
  *                 flasknib_forms_start, flasknib_forms_close, flasknib_streams_start
  *      512 bytes: flasknib_write_feedback, flasknib_write_row, flasknib_forms_block
  *    1,024 bytes: flasknib_refusal_text, flasknib_count_block, flasknib_write_attribute,
- *                 flasknib_feed_close, flasknib_streams_row
- *    2,048 bytes: flasknib_breaker_start, flasknib_breaker_start_preset, flasknib_run_block,
- *                 flasknib_streams_block
+ *                 flasknib_feed_close
+ *    2,048 bytes: flasknib_breaker_start, flasknib_breaker_start_preset, flasknib_run_block
  *    4,096 bytes: flasknib_breaker_tick, flasknib_breaker_heard, flasknib_feed
  *    8,192 bytes: flasknib_breaker_report, flasknib_breaker_report_ecn
  *   16,384 bytes: flasknib_sources_arrive, flasknib_sources_count_block,
- *                 flasknib_sources_write_compound, flasknib_sources_place, flasknib_sources_held
+ *                 flasknib_sources_write_compound, flasknib_sources_place,
+ *                 flasknib_sources_held, flasknib_streams_block, flasknib_streams_row
  */
 
 /* What a compiler that can (GCC, Clang) warns of: an answer that nobody looks at, and a null

@@ -6,14 +6,13 @@ use Prim.Native.Nat.{ℕ, zero, suc, _+_, _-_, _*_, _/_, _%_, _^_, _≤_, _<_}
 use native.Mathlib.Omega.{arith}
 use borrow.Author.Tests.{eqb-true, eq-eqb, le-leb, lt-ltb}
 use lib.Dec.{eqb}
-use lib.Count.{ones-le}
 use lib.ListN.{length, getD, drop, drop-of-length-le}
 use lib.Seq.{getD-drop, drop-drop}
 use Rattle.answers.specs.Conditions.{all}
 use Rattle.numbers.specs.Since.{signed}
 use Rattle.numbers.proofs.Differences.{signed-low}
 use Rattle.source.specs.declared.Source.{Source}
-use Rattle.source.specs.Places.{place, marks, places}
+use Rattle.source.specs.Places.{place, marks}
 use Rattle.source.specs.Record.{fresh, hasCounted, sound}
 use Rattle.source.proofs.Facts.{facts, facts-count}
 use Rattle.sources.specs.declared.Place.{Place}
@@ -26,11 +25,6 @@ use Rattle.lent.proofs.PlaceRuns.{length-placesBy}
 use Rattle.capi.specs.TableWalks.{countedIn, FewMarked, Fine, AllZero, Told}
 
 -- ---- the words of one place
-
--- a history has 100 places
-pub few-all : (recent older most : ℕ) → recent < 2 ^ 64 → older < 2 ^ 36 → 100 ≤ most → FewMarked recent older most
-unfolding places
-few-all recent older most r o h = omega (arith, ones-le 64 recent r, ones-le 36 older o)
 
 -- what the tests of a record have shown
 pub record Tests (words : List ℕ) (n : ℕ) : Type 0 where

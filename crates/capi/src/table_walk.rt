@@ -21,8 +21,6 @@ const MOST: u64 = 0x1_0000_0000_0000;
 
 const MOST_AHEAD: u64 = 2999;
 
-const PLACES: u64 = 100;
-
 const OLDER: u64 = 0x10_0000_0000;
 
 // The arrivals counted in the words of a place, and MOST + 1 where there are more.
@@ -53,14 +51,10 @@ fn arrivals(words: &[u64]) -> u64
     n
 }
 
-// Whether at most so many places of a history are marked. (There are 100.)
+// Whether at most so many places of a history are marked.
 fn few_marked(recent: u64, older: u64, most: u64) -> bool
-    requires { ⌜ older < 2 ^ 36 ⌝ }
     ensures { λ r. ⌜ (r ≡ true → FewMarked recent older most) ⌝ }
 {
-    if PLACES <= most {
-        return true;
-    }
     let near = u64::count_ones(recent) as u64;
     let far = u64::count_ones(older) as u64;
     near + far <= most

@@ -12,14 +12,14 @@ use Rattle.sources.proofs.known.renewed.Tie as tie
 counted-requires : tie.Need-counted-requires
 counted-requires c κs =
     let a = c .before .before .before .before .before .before .before .before .before .before .before .args in
-    sym (c .before .before .before .before .before .before .before .before .before .read-block .ensures) ∙ c .before .before .before .before .before .before .before .read .given .1 ∙ of-trace (a .form) _ _ _ (was-true (c .before .before .before .before .before .is-of-trace .ensures) (c .before .before .before .before .if1 .left))
+    sym (c .before .before .before .before .before .before .before .before .before .read-block .ensures .0) ∙ c .before .before .before .before .before .before .before .read .given .1 ∙ of-trace (a .form) _ _ _ (was-true (c .before .before .before .before .before .is-of-trace .ensures) (c .before .before .before .before .if1 .left))
     ∙ ap (λ (s : ℕ). Arrivals (a .form) (c .before .before .before .before .before .before .before .read .given .0 .1 .0) s) (c .before .before .if2 .left)
 
 returns-5 : tie.Need-returns-5
 returns-5 c =
     let a = c .before .before .before .before .before .before .before .before .before .before .before .before .args in
     renews (a .form) (a .p) (a .t) (c .before .before .before .before .before .before .before .before .read .given .0 .1 .0) (now (a .block)) (c .counted .result)
-    (sym (c .before .before .before .before .before .before .before .before .before .before .read-block .ensures) ∙ c .before .before .before .before .before .before .before .before .read .given .1 ∙ of-trace (a .form) _ _ _ (was-true (c .before .before .before .before .before .before .is-of-trace .ensures) (c .before .before .before .before .before .if1 .left))
+    (sym (c .before .before .before .before .before .before .before .before .before .before .read-block .ensures .0) ∙ c .before .before .before .before .before .before .before .before .read .given .1 ∙ of-trace (a .form) _ _ _ (was-true (c .before .before .before .before .before .before .is-of-trace .ensures) (c .before .before .before .before .before .if1 .left))
     ∙ ap (λ (s : ℕ). Arrivals (a .form) (c .before .before .before .before .before .before .before .before .read .given .0 .1 .0) s) (c .before .before .before .if2 .left))
     (was-true (c .before .before .is-held .ensures) (c .before .if3 .left)) (c .counted .ensures)
 
