@@ -1,6 +1,6 @@
 -- A run of ecnstreams and its words: taking out and putting back are inverse. Assumes nothing.
 use mathlib.Core.Path.{_≡_, refl, sym, ap, ap₂, _∙_}
-use mathlib.Core.Bool.{Bool, true, false, cond, _&&_, false≢true}
+use mathlib.Core.Bool.{Bool, true, false, cond, not, _&&_, false≢true}
 use mathlib.Core.List.{List, [], _∷_, _++_, map, append-assoc}
 use mathlib.Core.Option.{Option, none, some}
 use Prim.Native.Nat.{ℕ, zero, suc, _+_, _-_, _*_, _^_, _≤_, _<_}
@@ -13,7 +13,7 @@ use lib.ListN.{length, getD, take, drop, replicate, length-append, length-take, 
 use lib.Seq.{sets, sets-eq, length-sets, take-all, drop-drop, getD-drop}
 use Rattle.numbers.proofs.Integers.{eqZ-eq}
 use Rattle.answers.specs.Conditions.{all}
-use Rattle.answers.specs.declared.Refusal.the-variants.{Rules}
+use Rattle.answers.specs.declared.Refusal.the-variants.{Malformed, Rules}
 use Rattle.answers.proofs.Conditions.{and-left, and-right, all-true, true-is}
 use Rattle.answers.proofs.Stores.{sets-front}
 use Rattle.source.specs.declared.Remembered.{Remembered}
@@ -35,7 +35,7 @@ use Rattle.sources.proofs.RunFaults.{GoodRun, good-run}
 use Rattle.sources.proofs.LineLaws.{lines-long}
 use Rattle.lent.specs.FormWords.{isForm}
 use Rattle.lent.specs.SourceWords.{rememberedWord, sourceWith, sourceWords}
-use Rattle.lent.specs.StreamWords.{runWords, lineWords, linesWords, storedLines, placeIn, tallyIn, eachLine, heldIn, runOf, isHeld, lineFits, areRuled, areFit, wordsFault, loaded, typed, Lendable, StreamBack, StreamWordsBack}
+use Rattle.lent.specs.StreamWords.{runWords, lineWords, linesWords, storedLines, placeIn, tallyIn, eachLine, heldIn, runOf, isHeld, lineFits, areRuled, areFit, wordsFault, loaded, typed, Lendable, StreamBack, StreamWordsBack, TakenRules}
 use Rattle.lent.specs.declared.stream_words.Answer.the-variants.{Taken}
 use Rattle.lent.proofs.SourceLaws.{remembered-back, held as held-source, elements, elements-are, words-front, sound-back}
 use Rattle.lent.proofs.RunLaws.{form-fits, form-back, form-word}
@@ -275,6 +275,21 @@ unfolding heldOf
 none-held zero = refl
 none-held (suc n) = refl
 
+rest-behind : (ps more : List Place) → all (map held ps) ≡ true → restOf more ≡ more → restOf (ps ++ more) ≡ more
+unfolding restOf
+rest-behind [] more e n = n
+rest-behind (p ∷ ps) more e n = rw (and-left (held p) (all (map held ps)) e) (rest-behind ps more (and-right (held p) (all (map held ps)) e) n)
+
+none-rest : (n : ℕ) → restOf (replicate n emptyPlace) ≡ replicate n emptyPlace
+unfolding restOf
+none-rest zero = refl
+none-rest (suc n) = refl
+
+none-full : (n : ℕ) → all (map empty (replicate n emptyPlace)) ≡ true
+unfolding fresh
+none-full zero = refl
+none-full (suc n) = none-full n
+
 module _ (words ws : List ℕ) (s : Sound words ws) where
   abbrev n : ℕ
   n = heldIn words
@@ -294,12 +309,37 @@ module _ (words ws : List ℕ) (s : Sound words ws) where
       sets-eq (eachLine tallyIn n ws) (replicate 16 noTally) 0 (omega (arith, m, few words ws (s .whole)))
       ∙ ap (λ (k : ℕ). eachLine tallyIn n ws ++ drop k (replicate 16 noTally)) (zero-add (length (eachLine tallyIn n ws)) ∙ m)
 
-  its-held : heldOf (lent (runOf words ws .table)) ≡ qs
+  helds : all (map held qs) ≡ true
+  helds = sym (ap all (each-map held placeIn n ws)) ∙ all-true (areRuled n ws) 1 (s .ruled)
+
+  its-lent : lent (runOf words ws .table) ≡ qs ++ replicate (16 - n) emptyPlace
   unfolding runOf
-  its-held =
+  its-lent =
       let all-of : take 16 (sets (replicate 16 emptyPlace) 0 qs) ≡ sets (replicate 16 emptyPlace) 0 qs = take-all 16 _ (omega (arith, length-sets (replicate 16 emptyPlace) 0 qs)) in
-      let helds = sym (ap all (each-map held placeIn n ws)) ∙ all-true (areRuled n ws) 1 (s .ruled) in
-      ap heldOf (all-of ∙ its-places) ∙ held-front qs (replicate (16 - n) emptyPlace) helds (none-held (16 - n))
+      all-of ∙ its-places
+
+  its-held : heldOf (lent (runOf words ws .table)) ≡ qs
+  its-held = ap heldOf its-lent ∙ held-front qs (replicate (16 - n) emptyPlace) helds (none-held (16 - n))
+
+  its-rest : all (map empty (restOf (lent (runOf words ws .table)))) ≡ true
+  its-rest =
+      ap (λ (ps : List Place). all (map empty (restOf ps))) its-lent
+      ∙ ap (λ (ps : List Place). all (map empty ps)) (rest-behind qs (replicate (16 - n) emptyPlace) helds (none-rest (16 - n))) ∙ none-full (16 - n)
+
+  its-length : length (lent (runOf words ws .table)) ≤ 16
+  unfolding runOf
+  its-length = omega (arith, length-take 16 (runOf words ws .table .places))
+
+  few-over : over (runOf words ws .table) ≡ false
+  unfolding runOf
+  few-over = refl
+
+  only-9 : faultIn (runOf words ws .table) ≡ cond (not (all (map soundPlace qs))) (some Malformed) none
+  unfolding faultIn fault
+  only-9 =
+      let ps = lent (runOf words ws .table) in
+      let rise = ap (rising 0) its-held ∙ all-true (areRuled n ws) 0 (s .ruled) in
+      rw (few-over, le-leb (length ps) mostPlaces its-length, rise, its-rest) (λ i. cond (not (all (map soundPlace (its-held i)))) (some Malformed) none)
 
   tallies-are : runOf words ws .tallies ≡ sets (replicate 16 noTally) 0 (eachLine tallyIn n ws)
   unfolding runOf
@@ -332,6 +372,9 @@ stream-words-back words ws bits e =
     let f = taken words ws e in
     let s = none-sound words ws (f .0) in
     (ap runWords (f .1) ∙ run-words words ws s, ap (storedLines ws) (f .1) ∙ line-words words ws s bits)
+
+pub taken-rules : TakenRules
+taken-rules words ws e = only-9 words ws (none-sound words ws e)
 
 -- ---- an SSRC that is taken has 32 bits
 

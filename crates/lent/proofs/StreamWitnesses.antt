@@ -15,7 +15,7 @@ use Rattle.sources.specs.Runs.{runFault}
 use Rattle.lent.specs.SourceWords.{sourceWith}
 use Rattle.lent.specs.StreamWords.{eachLine, runOf, wordsFault, loaded}
 use Rattle.lent.proofs.Witnesses.{fit-words}
-use Rattle.lent.proofs.StreamLaws.{stream-back, stream-words-back}
+use Rattle.lent.proofs.StreamLaws.{stream-back, stream-words-back, taken-rules}
 
 -- form 2, a label of 13 bytes, 2 lines held
 abbrev someWords : List ℕ
@@ -33,4 +33,5 @@ unfolding sourceWith signed eachLine runOf wordsFault loaded runFault faultIn fa
 used =
     let back = stream-back (runOf someWords someLines) someLines (omega arith) refl (record { places = refl; fits = refl; tallies = refl; rest = refl }) in
     let words = stream-words-back someWords someLines (fit-words someLines refl) refl in
+    let rules = taken-rules someWords someLines refl in
     tt

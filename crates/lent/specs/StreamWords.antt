@@ -16,9 +16,9 @@ use Rattle.sources.specs.declared.Place.{Place}
 use Rattle.sources.specs.declared.Table.{Table}
 use Rattle.sources.specs.declared.runs.Tally.{Tally}
 use Rattle.sources.specs.declared.runs.Run.{Run}
-use Rattle.sources.specs.Places.{held, emptyPlace, heldOf}
+use Rattle.sources.specs.Places.{held, emptyPlace, soundPlace, heldOf}
 use Rattle.sources.specs.Rules.{mostPlaces, rising}
-use Rattle.sources.specs.Tables.{lent}
+use Rattle.sources.specs.Tables.{lent, faultIn}
 use Rattle.sources.specs.Tallies.{noTally}
 use Rattle.sources.specs.Runs.{noRun, runFault}
 use Rattle.sources.specs.Rows.{Line, linesOf}
@@ -130,3 +130,11 @@ abbrev pub StreamWordsBack : Type 0
 StreamWordsBack =
     (words ws : List ℕ) → ((i : ℕ) → getD ws i 0 < 2 ^ 64) → loaded words ws .answer ≡ Taken
     → (runWords (loaded words ws .run) ≡ words) × (storedLines ws (loaded words ws .run) ≡ ws)
+
+-- ---- 16 comes before 9
+
+-- of the table in words that are taken only a malformed held record is left to refuse, with 9
+abbrev pub TakenRules : Type 0
+TakenRules =
+    (words ws : List ℕ) → wordsFault words ws ≡ none
+    → faultIn (runOf words ws .table) ≡ cond (not (all (map soundPlace (eachLine placeIn (heldIn words) ws)))) (some Malformed) none
