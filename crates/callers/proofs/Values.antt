@@ -35,13 +35,12 @@ use Rattle.convert.specs.Runs.{startOf, soundRun, nextOf, callNext, arrived, ro
 use Rattle.convert.specs.Theorems.{blockCalls}
 use Rattle.lent.specs.RunWords.{runWith, runWords}
 use Rattle.lent.specs.SourceWords.{sourceWith, sourceWords}
-use Rattle.capi.specs.Codes.{lengthCode, refusalCode}
+use Rattle.capi.specs.Codes.{lengthCode}
 use Rattle.capi.specs.StepCalls.{wordsAfter, Takes}
 use Rattle.capi.specs.RunCalls.{runNext}
 use Rattle.demands.specs.Witnesses.{label, c1Block, whole}
 use Rattle.demands.proofs.WitnessesPieces.{met-pieces}
 use Rattle.callers.specs.RunFromC.{runCalls}
-use Rattle.callers.proofs.FromC.{gave}
 use Rattle.callers.proofs.Sessions.{session-reads}
 use Rattle.callers.proofs.RunFromC.{reads-as, run-from-c-prints, run-start-is, run-block-is}
 
@@ -60,6 +59,6 @@ used =
     let m = met-pieces in
     let prints = run-from-c-prints whole (run-session .0) (m .whole-bytes) (m .whole-few) (run-session .1) in
     let reads = session-reads _ _ runCalls blockCalls whole (run-session .0) reads-as (m .whole-bytes) (run-session .1) in
-    let starts = run-start-is label (replicate 15 0) _ _ refl (gave refusalCode _ _ (replicate 15 0)) in
+    let starts = run-start-is label (replicate 15 0) _ _ refl (record { answers = refl; stores = refl }) in
     let block = run-block-is (record { words = []; zeroth = label }) c1Block [] _ _ _ (took lengthCode runWords [] _ _ _ []) in
     tt
