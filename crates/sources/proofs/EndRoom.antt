@@ -1,8 +1,8 @@
 -- What the end of a run prints is no longer than 16 of the longest rows. Assumes nothing.
-use mathlib.Core.Path.{_≡_, refl, sym, ap, _∙_}
-use mathlib.Core.List.{List, [], _∷_, _++_, map}
+use mathlib.Core.Path.{_≡_, refl, ap}
+use mathlib.Core.List.{List, [], _∷_}
 use mathlib.Core.Option.{Option, none, some}
-use Prim.Native.Nat.{ℕ, zero, suc, _+_, _-_, _*_, _^_, _≤_, _<_}
+use Prim.Native.Nat.{ℕ, zero, suc, _+_, _*_, _^_, _≤_, _<_}
 use native.Mathlib.Omega.{arith}
 use lib.ListN.{length, getD, drop, length-append}
 use Rattle.answers.specs.Refusals.{numberOf}
@@ -15,13 +15,12 @@ use Rattle.walk.specs.Machines.{endingBy}
 use Rattle.walk.specs.Endings.{refusalIn}
 use Rattle.sources.specs.declared.Place.{Place}
 use Rattle.sources.specs.declared.runs.Run.{Run}
-use Rattle.sources.specs.declared.pieces.Progress.{Progress}
 use Rattle.sources.specs.Places.{emptyPlace, heldOf}
 use Rattle.sources.specs.Tables.{lent}
-use Rattle.sources.specs.Rows.{linesOf, labelOf, rowsOf, rowOf, Judged, rowsFault}
+use Rattle.sources.specs.Rows.{linesOf, labelOf, rowsOf, rowOf, Judged}
 use Rattle.sources.specs.Streams.{closing}
 use Rattle.sources.specs.Pieces.{endOf, endFault, Narrow, EndHasRoom}
-use Rattle.sources.proofs.LineLaws.{most, many, rows-next, rows-over, row-long}
+use Rattle.sources.proofs.LineLaws.{most, rows-next, rows-over, row-long}
 
 narrow-at : (ps : List Place) (i : ℕ) → Narrow ps → getD ps i emptyPlace .ssrc < 2 ^ 32
 narrow-at [] i h = omega arith

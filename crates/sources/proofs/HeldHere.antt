@@ -1,9 +1,9 @@
 -- A block of a source that has a place is counted where that stands. Assumes nothing.
 use mathlib.Core.Path.{_≡_, refl, sym, ap, _∙_}
-use mathlib.Core.Bool.{Bool, true, false, cond, not, false≢true}
+use mathlib.Core.Bool.{Bool, true, false, cond, false≢true}
 use mathlib.Core.List.{List, [], _∷_, _++_, map}
 use mathlib.Core.Option.{none, some}
-use Prim.Native.Nat.{ℕ, zero, suc, _+_, _*_, _/_, _≤_, _<_}
+use Prim.Native.Nat.{ℕ, zero, suc, _+_, _/_, _≤_, _<_}
 use native.Mathlib.Omega.{arith}
 use borrow.Author.Tests.{lt-ltb, le-ltb, eq-eqb, ne-eqb}
 use lib.Dec.{ltb, eqb}
@@ -18,10 +18,9 @@ use Rattle.format.specs.declared.Form.the-variants.{One, Two}
 use Rattle.source.specs.declared.Source.{Source}
 use Rattle.source.specs.declared.BlockCount.the-variants.{Counted, Refused}
 use Rattle.source.specs.Record.{sound}
-use Rattle.source.specs.Blocks.{packets, inLimits, countAll, blockCount}
-use Rattle.trace.specs.Reading.{blockOf}
+use Rattle.source.specs.Blocks.{packets, countAll, blockCount}
 use Rattle.trace.specs.declared.Block.{Block}
-use Rattle.walk.specs.Steps.{Next, goes, refuses}
+use Rattle.walk.specs.Steps.{goes, refuses}
 use Rattle.sources.specs.declared.Place.{Place}
 use Rattle.sources.specs.declared.Table.{Table}
 use Rattle.sources.specs.declared.Counted.the-variants as counted
@@ -33,13 +32,13 @@ use Rattle.sources.specs.Rules.{mostPlaces, rising, fault}
 use Rattle.sources.specs.Stands.{standsAt, found, isNew, recordIn, put, recordOf, newTo, withPlace}
 use Rattle.sources.specs.Answers.{refusal, outside, countAnswer, countPlaces}
 use Rattle.sources.specs.Tables.{lent, over, countedIn}
-use Rattle.sources.specs.Tallies.{noTally, raised, tallied}
+use Rattle.sources.specs.Tallies.{noTally, tallied}
 use Rattle.sources.specs.Runs.{recordsIn, countedBy, countedRun, nextBy, nextOf}
 use Rattle.sources.specs.Known.{IsRenewed}
 use Rattle.sources.proofs.Held.{fresh-unheld}
 use Rattle.sources.proofs.Fronts.{front-rest}
 use Rattle.sources.proofs.Found.{rising-first, rising-rest}
-use Rattle.sources.proofs.Checking.{Kept, kept, kept-rises, kept-empties, Passed, passed}
+use Rattle.sources.proofs.Checking.{Kept, kept, kept-rises, kept-empties, passed}
 use Rattle.sources.proofs.Putting.{put-is}
 use Rattle.sources.proofs.Behind.{record-sound}
 use Rattle.sources.proofs.RunFaults.{GoodRun}

@@ -1,5 +1,5 @@
 -- The loop over the blocks of known sources, and what it gives to the loop over all blocks of a piece. Assumes nothing.
-use mathlib.Core.Path.{_≡_, refl, sym, ap, _∙_, subst}
+use mathlib.Core.Path.{_≡_, refl, sym, ap, _∙_}
 use mathlib.Core.List.{List, []}
 use mathlib.Core.Option.{none, some}
 use Prim.Native.Nat.{ℕ, _+_, _-_, _≤_, _<_}
@@ -10,8 +10,8 @@ use Rattle.answers.specs.declared.Refusal.{Refusal}
 use Rattle.numbers.proofs.BigEndian.{Octets}
 use Rattle.numbers.proofs.Octets.{octets-take, octets-drop}
 use Rattle.format.specs.Blocks.{blockBytes}
-use Rattle.walk.specs.Programs.{nothing, Turn}
-use Rattle.walk.specs.Steps.{Next, goes, refuses}
+use Rattle.walk.specs.Programs.{nothing}
+use Rattle.walk.specs.Steps.{goes, refuses}
 use Rattle.walk.specs.declared.Ended.the-variants as ended
 use Rattle.walk.proofs.Loops.{Going, going-first, going-last, going-taken, going-refused}
 use Rattle.sources.specs.declared.Place.{Place}
@@ -19,11 +19,10 @@ use Rattle.sources.specs.declared.runs.Tally.{Tally}
 use Rattle.sources.specs.declared.runs.Run.{Run}
 use Rattle.sources.specs.Places.{emptyPlace}
 use Rattle.sources.specs.Tallies.{noTally}
-use Rattle.sources.specs.Runs.{nextOf, runFault}
+use Rattle.sources.specs.Runs.{nextOf}
 use Rattle.sources.specs.Known.{IsRenewed, Onward, here, then}
 use Rattle.sources.specs.Streams.{Kept, taken, ecnstreams}
 use Rattle.sources.specs.Pieces.{TakesWhole}
-use Rattle.sources.proofs.RunFaults.{run-good}
 use Rattle.sources.proofs.HeldHere.{renewed-here}
 use Rattle.sources.proofs.NextRuns.{Whole, next-whole}
 

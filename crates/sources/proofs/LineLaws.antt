@@ -1,21 +1,20 @@
 -- Laws of the lines of a run and of their rows. Assumes nothing.
 use mathlib.Core.Path.{_≡_, refl, sym, ap, _∙_}
-use mathlib.Core.Bool.{Bool, true}
+use mathlib.Core.Bool.{true}
 use mathlib.Core.List.{List, [], _∷_, _++_, map}
 use mathlib.Core.Option.{none}
-use Prim.Native.Nat.{ℕ, zero, suc, _+_, _*_, _^_, _≤_, _<_}
+use Prim.Native.Nat.{ℕ, zero, suc, _+_, _^_, _≤_, _<_}
 use native.Mathlib.Numerals.{add-one}
 use native.Mathlib.Omega.{arith}
 use borrow.Author.Tests.{leb-true}
 use lib.Dec.{leb}
-use lib.ListN.{length, getD, take, drop, length-take, drop-of-length-le, length-append}
+use lib.ListN.{length, getD, take, drop, drop-of-length-le}
 use lib.Seq.{drop-cons, getD-take}
 use Rattle.answers.specs.Conditions.{all}
 use Rattle.answers.proofs.Conditions.{and-left, and-right}
 use Rattle.source.specs.Record.{sound}
 use Rattle.source.specs.Totals.{mostTold}
 use Rattle.source.specs.declared.Totals.{Totals}
-use Rattle.trace.specs.Contents.{labelOk}
 use Rattle.table.specs.Lines as table
 use Rattle.table.specs.Theorems.{rowMost}
 use Rattle.table.proofs.Faults.{fault-none}
@@ -26,7 +25,7 @@ use Rattle.sources.specs.declared.runs.Run.{Run}
 use Rattle.sources.specs.Places.{emptyPlace, soundPlace, heldOf}
 use Rattle.sources.specs.Tables.{lent}
 use Rattle.sources.specs.Tallies.{noTally, soundTally}
-use Rattle.sources.specs.Rows.{Line, lineOf, linesFrom, linesOf, labelOf, rowIn, rowsOf, noLine, rowOf, rowsFault, Judged}
+use Rattle.sources.specs.Rows.{Line, lineOf, linesFrom, linesOf, labelOf, rowIn, rowsOf, noLine, rowOf, Judged}
 use Rattle.sources.proofs.Checking.{Passed, passed}
 use Rattle.sources.proofs.Tallying.{get-sound}
 use Rattle.sources.proofs.RunFaults.{GoodRun, good-run, Own, rows-good}

@@ -1,12 +1,12 @@
 -- A run that a block brings is good where the run before it is; and so is the one that block 0 starts. Assumes nothing.
 use mathlib.Core.Path.{_≡_, refl, sym, ap, _∙_, subst}
 use mathlib.Core.Bool.{Bool, true, false, cond}
-use mathlib.Core.List.{List, [], _∷_, _++_, map}
+use mathlib.Core.List.{List, _++_}
 use mathlib.Core.Option.{none}
-use Prim.Native.Nat.{ℕ, _+_, _*_, _≤_, _<_}
+use Prim.Native.Nat.{ℕ, _+_, _*_, _≤_}
 use native.Mathlib.Omega.{arith}
 use borrow.Author.Tests.{eq-eqb}
-use lib.ListN.{length, take, drop, length-append, length-drop}
+use lib.ListN.{length, drop, length-append, length-drop}
 use lib.Seq.{take-at, length-take-le}
 use Rattle.answers.specs.Conditions.{all}
 use Rattle.answers.specs.declared.Refusal.{Refusal}
@@ -18,7 +18,6 @@ use Rattle.numbers.specs.BigEndian.{word}
 use Rattle.format.specs.Blocks.{blockBytes, bodyAt, bodyBytes}
 use Rattle.format.specs.Forms.{shapeOf, width, sameForm}
 use Rattle.format.specs.declared.Form.{Form}
-use Rattle.format.specs.declared.Form.the-variants.{One}
 use Rattle.source.specs.Record.{fresh}
 use Rattle.trace.specs.Contents.{labelOk}
 use Rattle.trace.specs.Reading.{blockOf}
@@ -31,18 +30,17 @@ use Rattle.sources.specs.declared.Table.{Table}
 use Rattle.sources.specs.declared.Counted.{Counted}
 use Rattle.sources.specs.declared.Counted.the-variants as counted
 use Rattle.sources.specs.declared.runs.Run.{Run}
-use Rattle.sources.specs.declared.runs.Step.{Step}
-use Rattle.sources.specs.Places.{heldOf, restOf, emptyPlace}
+use Rattle.sources.specs.Places.{heldOf, restOf}
 use Rattle.sources.specs.Rules.{rising, fault}
 use Rattle.sources.specs.Answers.{countPlaces}
-use Rattle.sources.specs.Tables.{emptyTable, lent, over, faultIn, countedIn}
+use Rattle.sources.specs.Tables.{lent, faultIn, countedIn}
 use Rattle.sources.specs.Tallies.{tallied}
-use Rattle.sources.specs.Runs.{emptyRun, startBy, startOf, recordsIn, countedBy, countedRun, nextBy, nextOf, runFault}
-use Rattle.sources.specs.Rows.{labelOf, ownConditions, rowsFault}
+use Rattle.sources.specs.Runs.{emptyRun, recordsIn, countedBy, countedRun, nextBy, nextOf}
+use Rattle.sources.specs.Rows.{ownConditions, rowsFault}
 use Rattle.sources.proofs.Loaded.{count-long}
 use Rattle.sources.proofs.Behind.{block-keeps-rules}
 use Rattle.sources.proofs.Tallying.{tallied-sound}
-use Rattle.sources.proofs.RunFaults.{GoodRun, good-run, run-good, good-rows, rows-own}
+use Rattle.sources.proofs.RunFaults.{GoodRun, run-good, good-rows, rows-own}
 use Rattle.sources.proofs.HeldHere.{not-over, table-good}
 
 -- good, and of 16 places

@@ -3,7 +3,7 @@ use mathlib.Core.Path.{_≡_, refl, sym, ap, _∙_}
 use mathlib.Core.Logic.{⊎-elim}
 use mathlib.Core.List.{List, [], _∷_}
 use mathlib.Core.Option.{Option, none, some}
-use Prim.Native.Nat.{ℕ, _+_, _*_, _/_, _^_, _≤_, _<_}
+use Prim.Native.Nat.{ℕ, _/_, _^_, _≤_, _<_}
 use native.Mathlib.Omega.{arith}
 use denote.Enum.Declared.{tagOf}
 use lib.ListN.{length}
@@ -18,7 +18,7 @@ use Rattle.answers.proofs.Stores.{wrote-all, wrote-refused}
 use Rattle.answers.proofs.Written.{the-type}
 use Rattle.format.specs.Blocks.{blockBytes}
 use Rattle.table.specs.Lines.{refusedLine}
-use Rattle.walk.specs.Programs.{nothing, toOutput}
+use Rattle.walk.specs.Programs.{nothing}
 use Rattle.walk.specs.Pieces.{wholeIn}
 use Rattle.walk.specs.Fitting.{Took, fitting}
 use Rattle.walk.specs.Machines.{fittingBy, endingBy}
@@ -34,7 +34,7 @@ use Rattle.sources.specs.declared.pieces.Taken.{Taken}
 use Rattle.sources.specs.Runs.{startOf}
 use Rattle.sources.specs.Rows.{linesOf, labelOf, rowsOf, rowsFault}
 use Rattle.sources.specs.Streams.{Kept, begun, closing, ecnstreams}
-use Rattle.sources.specs.Pieces.{beginBy, beginOf, notBegun, begunIn, standing, tookOf, afterTaking, pieceFault, takenBy, Takes, TakesWhole, endOf, endFault, Ends}
+use Rattle.sources.specs.Pieces.{beginBy, beginOf, notBegun, begunIn, standing, tookOf, pieceFault, takenBy, Takes, TakesWhole, endOf, endFault, Ends}
 
 -- ---- block 0
 

@@ -1,11 +1,11 @@
 -- The hypotheses on a run are met, and each theorem is used where they are. Assumes nothing.
 use mathlib.Core.Path.{_≡_, refl}
-use mathlib.Core.List.{List, [], _∷_}
+use mathlib.Core.List.{List, []}
 use mathlib.Core.Option.{none}
 use Prim.Native.Nat.{ℕ}
 use native.Mathlib.Omega.{arith}
 use lib.Count.{ones, onesIn}
-use lib.ListN.{take, drop}
+use lib.ListN.{drop}
 use Rattle.answers.specs.Writers.{written}
 use Rattle.numbers.specs.BigEndian.{word, bytes}
 use Rattle.numbers.specs.Since.{signed as signedWord}
@@ -14,7 +14,7 @@ use Rattle.source.specs.Arrivals.{arrival, first, counted, distance, ahead, beh
 use Rattle.source.specs.Blocks.{packets, countAll, blockCount}
 use Rattle.source.specs.Distances.{reachOf}
 use Rattle.source.specs.Places.{pack, marks, place, places, moved, added}
-use Rattle.source.specs.Record.{sound, fresh, hasCounted, lost}
+use Rattle.source.specs.Record.{sound, fresh, hasCounted}
 use Rattle.trace.specs.Checksum.{words, onesAdd, onesSum}
 use Rattle.trace.specs.Contents.{every, labelByte, labelBody, countOk, goodRecords, arrivalsBody, labelOk}
 use Rattle.trace.specs.Layout.{recordBytes, recordsBytes, header, filled, checked, labelBlock, arrivalsBlock}

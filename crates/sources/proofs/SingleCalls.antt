@@ -1,9 +1,9 @@
 -- The calls for one block each, and then for the rows, give what the whole run prints; the order of its lines. Assumes nothing.
 use mathlib.Core.Path.{_≡_, refl, sym, ap, ap₂, _∙_, subst, subst⁻¹}
-use mathlib.Core.Bool.{Bool, true, false}
+use mathlib.Core.Bool.{true}
 use mathlib.Core.List.{List, [], _∷_, _++_, map, append-nil}
 use mathlib.Core.Option.{Option, none, some}
-use Prim.Native.Nat.{ℕ, zero, suc, _+_, _*_, _≤_, _<_}
+use Prim.Native.Nat.{ℕ, zero, suc, _+_, _≤_, _<_}
 use native.Mathlib.Numerals.{add-one}
 use native.Mathlib.Omega.{arith}
 use lib.ListN.{length, drop, length-take}
@@ -12,9 +12,9 @@ use Rattle.trace.specs.Reading.{blockOf}
 use Rattle.trace.specs.declared.Block.{Block}
 use Rattle.trace.specs.declared.Block.the-variants as read
 use Rattle.table.specs.Lines.{headBytes}
-use Rattle.numbers.proofs.Octets.{octets-take, octets-drop}
+use Rattle.numbers.proofs.Octets.{octets-drop}
 use Rattle.format.specs.Blocks.{blockBytes}
-use Rattle.walk.specs.Blocks.{Blocks, blocksOf}
+use Rattle.walk.specs.Blocks.{blocksOf}
 use Rattle.walk.specs.Programs.{Printed, nothing, both, toOutput, Ending, Run as Runs, turned, onward, walk, walked, closed, printedBy}
 use Rattle.walk.specs.Pieces.{Octets}
 use Rattle.walk.specs.Steps.{Next, goes, refuses}
@@ -25,21 +25,20 @@ use Rattle.walk.proofs.Singles.{singles-print}
 use Rattle.sources.specs.declared.Place.{Place}
 use Rattle.sources.specs.declared.runs.Tally.{Tally}
 use Rattle.sources.specs.declared.runs.Run.{Run}
-use Rattle.sources.specs.declared.runs.Step.{Step}
 use Rattle.sources.specs.Places.{heldOf}
 use Rattle.sources.specs.Rules.{mostPlaces, rising}
 use Rattle.sources.specs.Tables.{lent}
-use Rattle.sources.specs.Runs.{noRun, startBy, startOf, nextOf, callNext}
-use Rattle.sources.specs.Rows.{Line, lineOf, linesFrom, linesOf, labelOf, rowsOf, rowOf, rowFault, rowsFault, Judged}
+use Rattle.sources.specs.Runs.{noRun, startBy, startOf, nextOf}
+use Rattle.sources.specs.Rows.{linesFrom, linesOf, labelOf, rowsOf, rowOf, Judged}
 use Rattle.sources.specs.Streams.{Kept, begun, taken, closing, ecnstreams, printed}
-use Rattle.sources.specs.RunTheorems.{startedOn, nextOn, rowBy, rowAt, rowsFrom, endOn, blockCalls, CallsPrint, Rising, InOrder, LinesRise, HeadThenRows}
+use Rattle.sources.specs.RunTheorems.{startedOn, nextOn, rowBy, rowsFrom, endOn, blockCalls, CallsPrint, Rising, InOrder, LinesRise, HeadThenRows}
 use Rattle.sources.proofs.Found.{rising-first, rising-rest}
 use Rattle.sources.proofs.Checking.{kept, kept-rises}
 use Rattle.sources.proofs.RunFaults.{rows-good, row-goes}
 use Rattle.sources.proofs.RunSteps.{call-goes}
 use Rattle.sources.proofs.HeldHere.{table-good}
 use Rattle.sources.proofs.NextRuns.{Whole, empty-whole, start-whole, start-rows, next-whole}
-use Rattle.sources.proofs.LineLaws.{lines-long, many, most, rows-next, rows-over}
+use Rattle.sources.proofs.LineLaws.{lines-long, rows-next, rows-over}
 use Rattle.sources.proofs.Fronts.{front-le}
 use Rattle.sources.proofs.Streamed.{short-turn, Sound, turn-keeps}
 

@@ -1,9 +1,9 @@
 -- The calls over a trace follow the program ecnstreams, and their end has room. Assumes nothing.
 use mathlib.Core.Path.{_≡_, refl, sym, ap, _∙_, subst}
-use mathlib.Core.Bool.{Bool, true, false, cond}
+use mathlib.Core.Bool.{Bool, cond}
 use mathlib.Core.List.{List, [], _∷_}
 use mathlib.Core.Option.{Option, none, some}
-use Prim.Native.Nat.{ℕ, suc, _+_, _-_, _*_, _^_, _≤_, _<_}
+use Prim.Native.Nat.{ℕ, suc, _+_, _-_, _^_, _<_}
 use native.Mathlib.Omega.{arith}
 use borrow.Author.Tests.{le-ltb}
 use lib.Dec.{ltb}
@@ -20,8 +20,8 @@ use Rattle.walk.specs.Programs.{Printed, nothing, both, toOutput, Turn}
 use Rattle.walk.specs.Steps.{Next, goes, refuses}
 use Rattle.walk.specs.Pieces.{Octets, wholes, wholeIn}
 use Rattle.walk.specs.Fitting.{Took, noneTaken, oneMore, fitting}
-use Rattle.walk.specs.Endings.{refusalIn, endedBy, isGoing, numberAfter}
-use Rattle.walk.specs.Machines.{Standing, begunBy, fittingBy, stoodBy, endingBy, goesOn, Gives, Follows}
+use Rattle.walk.specs.Endings.{refusalIn, isGoing}
+use Rattle.walk.specs.Machines.{Standing, begunBy, fittingBy, endingBy, goesOn, Gives, Follows}
 use Rattle.walk.specs.declared.Ended.{Ended}
 use Rattle.walk.specs.declared.Ended.the-variants as ended
 use Rattle.walk.proofs.Pieces.{whole-many, octets-wholes}
@@ -31,11 +31,10 @@ use Rattle.walk.proofs.Sessions.{fitting-gives, session-prints}
 use Rattle.table.specs.Lines.{headBytes}
 use Rattle.sources.specs.declared.runs.Run.{Run}
 use Rattle.sources.specs.declared.runs.Step.{Step}
-use Rattle.sources.specs.declared.pieces.Progress.{Progress}
-use Rattle.sources.specs.Runs.{emptyRun, startBy, startOf, nextBy, nextOf}
+use Rattle.sources.specs.Runs.{startBy, startOf, nextBy, nextOf}
 use Rattle.sources.specs.Rows.{rowsFault}
 use Rattle.sources.specs.Streams.{Kept, begun, taken, closing, ecnstreams, printed}
-use Rattle.sources.specs.Pieces.{beginBy, beginOf, standing, tookOf, afterTaking, pieceFault, endOf, endFault, endBy, Held, gaveBy, calls, TracePrints}
+use Rattle.sources.specs.Pieces.{beginBy, beginOf, standing, tookOf, pieceFault, endOf, endFault, endBy, Held, gaveBy, calls, TracePrints}
 use Rattle.sources.proofs.NextRuns.{Whole, next-whole, rows-stay, start-whole, start-rows}
 
 -- ---- a block's turn

@@ -17,7 +17,6 @@ use Rattle.walk.specs.Steps.{Next, goes, refuses}
 use Rattle.walk.specs.Machines.{Session}
 use Rattle.walk.specs.Singles.{Singles, singly}
 use Rattle.sources.specs.declared.runs.Run.{Run}
-use Rattle.sources.specs.declared.runs.Step.{Step}
 use Rattle.sources.specs.Places.{heldOf}
 use Rattle.sources.specs.Rules.{mostPlaces}
 use Rattle.sources.specs.Tables.{lent}

@@ -14,7 +14,6 @@ use Rattle.walk.specs.Pieces.{Octets}
 use Rattle.walk.specs.Endings.{refusalIn}
 use Rattle.walk.specs.Machines.{Machine, Session}
 use Rattle.walk.specs.Singles.{Held as Handed, singly}
-use Rattle.sources.specs.declared.pieces.Progress.{Progress}
 use Rattle.sources.specs.Streams.{Kept}
 use Rattle.sources.specs.Pieces.{endFault, Narrow, Held, calls}
 use Rattle.sources.specs.RunTheorems.{blockCalls}

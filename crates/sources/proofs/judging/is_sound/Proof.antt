@@ -1,5 +1,4 @@
 -- `sources::judging::is_sound` meets its contract. Assumes nothing.
-use borrow.Author.Needs.{needs}
 use borrow.Author.Tests.{le-leb, lt-leb}
 use Rattle.source.specs.Totals.{mostTold}
 use Rattle.sources.proofs.judging.is_sound.Statement.{statement}

@@ -1,8 +1,6 @@
 -- `sources::known::place_of` meets its contract. Assumes nothing.
 use borrow.Author.Needs.{needs}
-use mathlib.Core.Path.{_≡_}
 use Prim.Native.Nat.{_-_, _≤_}
-use native.Mathlib.Omega.{arith}
 use Rattle.sources.proofs.known.place_of.Statement.{statement}
 use Rattle.sources.proofs.known.place_of.Tie as tie
 

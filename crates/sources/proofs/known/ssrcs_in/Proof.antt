@@ -1,8 +1,7 @@
 -- `sources::known::ssrcs_in` meets its contract. Assumes nothing.
 use borrow.Author.Needs.{needs}
 use mathlib.Core.Path.{_≡_}
-use Prim.Native.Nat.{_-_, _≤_}
-use native.Mathlib.Omega.{arith}
+use Prim.Native.Nat.{_-_}
 use lib.ListN.{length}
 use Rattle.sources.proofs.known.ssrcs_in.Statement.{statement}
 use Rattle.sources.proofs.known.ssrcs_in.Tie as tie

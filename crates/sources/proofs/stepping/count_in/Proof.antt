@@ -8,14 +8,12 @@ use lib.ListN.{take, drop}
 use Rattle.format.specs.Blocks.{bodyBytes}
 use Rattle.trace.proofs.Accepted.{accepted}
 use mathlib.Core.List.{List}
-use Rattle.format.specs.Forms.{shapeOf, width}
+use Rattle.format.specs.Forms.{width}
 use Rattle.walk.specs.Steps.{goes}
 use Rattle.answers.specs.declared.Written.the-variants as written
-use Rattle.sources.specs.declared.TableCounted.{TableCounted}
 use Rattle.sources.specs.declared.runs.Tally.{Tally}
-use Rattle.sources.specs.declared.runs.Run.{Run}
 use Rattle.sources.specs.Tables.{countedIn}
-use Rattle.sources.specs.Runs.{recordsIn, countedRun, TakesBlock}
+use Rattle.sources.specs.Runs.{countedRun, TakesBlock}
 use Rattle.sources.proofs.RunSteps.{count-refuses, count-goes, takes-refuses, takes-goes}
 use Rattle.sources.proofs.stepping.count_in.Statement.{statement}
 use Rattle.sources.proofs.stepping.count_in.Tie as tie

@@ -1,6 +1,6 @@
 -- `sources::stepping::step` meets its contract. Assumes nothing.
 use borrow.Author.Needs.{needs}
-use mathlib.Core.Path.{_≡_, sym, ap, subst, _∙_}
+use mathlib.Core.Path.{sym, ap, subst, _∙_}
 use denote.Ref.{now}
 use Rattle.answers.proofs.Conditions.{was-true, was-false}
 use Rattle.walk.specs.Steps.{refuses}

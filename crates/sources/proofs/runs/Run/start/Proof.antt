@@ -1,10 +1,9 @@
 -- `sources::runs::Run::start` meets its contract. Assumes nothing.
 use borrow.Author.Needs.{needs}
-use mathlib.Core.Path.{sym, ap, _∙_}
+use mathlib.Core.Path.{sym, _∙_}
 use denote.Ref.{now}
 use Rattle.answers.specs.declared.Written.the-variants.{Length, Refused}
 use Rattle.sources.specs.declared.runs.Run.{Run}
-use Rattle.sources.specs.declared.runs.Step.{Step}
 use Rattle.sources.proofs.RunSteps.{start-other, start-by}
 use Rattle.sources.proofs.runs.Run.start.Statement.{statement}
 use Rattle.sources.proofs.runs.Run.start.Tie as tie
