@@ -1236,7 +1236,7 @@ int64_t flasknib_forms_close(const uint64_t *forms, size_t words, const uint8_t 
  * refused with 16; then another form than the two, a label's length above 502, and a held line with
  * an SSRC of 2^32 or more, a malformed record, or jumped or restarts above 2^48, are malformed (9).
  * Another number of words, fewer words of lines and more lines held are 9 before all that: no line
- * can be read. Lines behind the held ones are not judged, and keep their words.
+ * can be read. Lines after the held ones are not judged, and keep their words.
  */
 #define FLASKNIB_STREAMS_WORDS 3
 #define FLASKNIB_LINE_WORDS 13
