@@ -117,7 +117,7 @@ def turned(text, table):
 
 def turned_rust(text, table):
     """Clauses and comments; a string keeps its text."""
-    words = {name: new for name, new in table.items() if "-" not in name}
+    words = {name: new for name, new in table.items() if "-" not in name and not name.islower()}
     out = []
     for line in text.split("\n"):
         if line.lstrip().startswith("//"):

@@ -7,7 +7,7 @@ ghost use Rattle.breaker.specs.Soundness.{run_ok, number_ok, sound};
 use crate::{Breaker, Interval, State, Window, intervals, limits};
 
 // Whether the media run is below m while the breaker runs.
-fn run_ok_lem(state: State, run: u64, m: u64) -> bool
+fn run_ok(state: State, run: u64, m: u64) -> bool
     ensures { result ≡ run_ok state run m }
 {
     match state {

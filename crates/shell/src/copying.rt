@@ -6,7 +6,7 @@ use crate::clipped::least;
 use crate::transfers::Transfer;
 
 // The first bytes of what is left, at most so many.
-fn front_of_lem(t: Transfer, bytes: usize, piece: &[u8]) -> &[u8]
+fn front_of(t: Transfer, bytes: usize, piece: &[u8]) -> &[u8]
     ensures { result.now ≡ front_of bytes t piece.now }
 {
     let left = t.left(piece);
@@ -21,7 +21,7 @@ pub fn copied(t: Transfer, bytes: usize, program: &[u8], piece: &[u8], lines: &m
 {
     let mut next = t;
     let out = t.out;
-    let front = front_of_lem(t, bytes, piece);
+    let front = front_of(t, bytes, piece);
     next.out = out
         .with_printed(out.used, program, lines)
         .printed_now(program, front);

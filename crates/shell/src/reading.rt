@@ -44,7 +44,7 @@ impl Reading {
     }
 
     // Whether it is read again: while fewer bytes are there than are enough, and neither the end nor a failure was met.
-    fn goes_on_lem(self, enough: usize) -> bool
+    fn goes_on(self, enough: usize) -> bool
         ensures { result ≡ goes_on self enough }
     {
         let input = self.input;
@@ -99,7 +99,7 @@ fn read_until(buffer: &mut [u8], first: usize, enough: usize) -> Input
 {
     let end = buffer.len();
     let mut reading = Reading::begun(first);
-    while reading.goes_on_lem(enough) {
+    while reading.goes_on(enough) {
         let input = reading.input;
         let at = input.bytes;
         let answer = libc::read(STDIN_FILENO, &mut buffer[at..end]);

@@ -32,7 +32,7 @@ pub struct Transfer {
 }
 
 // Whether no block was refused.
-fn goes_on_lem(ended: Ended) -> bool
+fn goes_on(ended: Ended) -> bool
     ensures { result ≡ is_going ended }
 {
     match ended {
@@ -51,7 +51,7 @@ impl Transfer {
         Transfer {
             input,
             from: 0,
-            going: goes_on_lem(ended),
+            going: goes_on(ended),
             prompt,
             out: Output::new(STDOUT_FILENO),
             err: Output::new(STDERR_FILENO),
@@ -107,7 +107,7 @@ impl Transfer {
         let mut next = self;
         let left = self.left(piece);
         next.from = self.from + least(bytes, left.len());
-        next.going = goes_on_lem(ended);
+        next.going = goes_on(ended);
         if bytes == 0 {
             next.going = false;
         }

@@ -28,7 +28,7 @@ impl Writing {
     }
 
     // Whether more of so many bytes is written: if some are left and no write has failed.
-    fn goes_on_lem(self, length: usize) -> bool
+    fn goes_on(self, length: usize) -> bool
         ensures { result ≡ is_unwritten self length }
     {
         if self.left == 0 {
@@ -63,7 +63,7 @@ pub fn write_all(fd: i32, bytes: &[u8]) -> Writing
     ensures { Ended (length bytes.now) result }
 {
     let mut writing = Writing::begun();
-    while writing.goes_on_lem(bytes.len()) {
+    while writing.goes_on(bytes.len()) {
         let at = writing.at;
         let answer = libc::write(fd, &bytes[at..]);
         writing = writing.after(judged(answer, os::errno(), writing.left, bytes.len() - at));
