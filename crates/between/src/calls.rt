@@ -9,35 +9,35 @@ use format::Counts;
 use rtcp::{Compound, MaybeFeedback, MaybeReport, MaybeSummary};
 
 // What is kept of a receiver's last ECN report: its highest number, packets marked with CE and packets lost, as it carried them.
-#[derive(Drop)]
+#[derive(Clone, Copy)]
 pub struct Kept {
     pub highest: u32,
     pub ce: u16,
     pub lost: u16,
 }
 
-#[derive(Drop)]
+#[derive(Clone, Copy)]
 pub enum MaybeKept {
     Present(Kept),
     Absent,
 }
 
 // Which of the breaker's calls a packet is for: a report of the highest number, with its losses, or a heard packet.
-#[derive(Drop)]
+#[derive(Clone, Copy)]
 pub enum Call {
     Report(u32, Loss),
     Heard,
 }
 
 // The call, and what is kept of the receiver after it.
-#[derive(Drop)]
+#[derive(Clone, Copy)]
 pub struct PacketCall {
     pub call: Call,
     pub kept: MaybeKept,
 }
 
 // L, C and E between two reports, where both are there and the highest number did not go back.
-#[derive(Drop)]
+#[derive(Clone, Copy)]
 enum MaybeCounts {
     Present(EcnCounts),
     Absent,

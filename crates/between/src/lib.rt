@@ -2,6 +2,8 @@
 // request L2): L packets lost, C marked with CE, of E expected. A report carries totals from the source's first packet on, modulo their width;
 // their differences are the true ones where these are in range and the receiver did not begin to count anew in between. The later report stands
 // first, as in "the later counter minus the earlier one".
+#![tactic(auto)]
+
 ghost use Rattle.std.specs.Prelude.{◌≡◌};
 ghost use Rattle.between.specs.Differences.{signals_of, expecting_of, between_as, between_of};
 
@@ -16,14 +18,14 @@ mod calls;
 pub use calls::{Call, Kept, MaybeKept, PacketCall, call_for, counters_of};
 
 // The signs of congestion between two reports: L and C. There is no E here, since a summary has no highest number.
-#[derive(Drop)]
+#[derive(Clone, Copy)]
 pub struct Signals {
     pub lost: i64,
     pub marked: u64,
 }
 
 // L, C and E, or refusal 10 where the highest number went back.
-#[derive(Drop)]
+#[derive(Clone, Copy)]
 pub enum Between {
     Counts(EcnCounts),
     Refused(Refusal),

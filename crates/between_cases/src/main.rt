@@ -9,6 +9,8 @@
 //   o time rtt size rate    our own compound about the source, an RR without blocks and its feedback, written and read back; the call for it, the breaker's
 //                           answer, and what is kept then, which is what was kept before where the breaker refuses
 // Any other line is a heading.
+#![tactic(auto)]
+
 use answers::Written;
 use between::{Call, Kept, MaybeKept, call_for};
 use breaker::{Answer, Breaker, EcnCounts, Loss, Report, Step};
@@ -25,7 +27,7 @@ const SENDER: u32 = 9;
 const MEDIA: u32 = 1;
 
 // A sender's breaker, the source as its receiver counts it, and what the sender keeps of that receiver.
-#[derive(Drop)]
+#[derive(Clone, Copy)]
 struct Path {
     breaker: Breaker,
     source: Source,

@@ -8,7 +8,7 @@ ghost use Rattle.breaker.specs.Private.{between, interval_ok, sums_of};
 use crate::{Interval, Window};
 
 // W, the sum of the lengths, and P, the sum of each fraction times its length.
-#[derive(Drop)]
+#[derive(Clone, Copy)]
 pub struct Sums {
     pub w: u64,
     pub p: u64,

@@ -1,4 +1,6 @@
 // The sender's circuit breaker (document 01, "The breaker"; 02, requests L2, L4 and L9; RFC 8083, sections 4.1 to 4.3 and 5).
+#![tactic(auto)]
+
 ghost use Rattle.std.specs.Prelude.{◌≡◌};
 ghost use Rattle.breaker.specs.Answers.{reason_number, answers, stops};
 ghost use Rattle.breaker.specs.Numbered.{step_as};
@@ -17,7 +19,7 @@ mod soundness;
 
 // The number of intervals k, the media run m that stops, the timeout in ms, whether reductions are allowed, and whether the full throughput
 // equation is taken in place of the simplified one.
-#[derive(Drop)]
+#[derive(Clone, Copy)]
 pub struct Settings {
     pub k: usize,
     pub m: u64,
@@ -27,7 +29,7 @@ pub struct Settings {
 }
 
 // Why the breaker stops.
-#[derive(Drop)]
+#[derive(Clone, Copy)]
 pub enum Reason {
     // 1: no report and no heard packet for the timeout.
     Timeout,
@@ -51,21 +53,21 @@ impl Reason {
 }
 
 // Whether the breaker has stopped, and by which rule.
-#[derive(Drop)]
+#[derive(Clone, Copy)]
 pub enum State {
     Running,
     Stopped(Reason),
 }
 
 // The time between two reports in ms, and the fraction lost in it in 256ths.
-#[derive(Drop)]
+#[derive(Clone, Copy)]
 pub struct Interval {
     pub length: u64,
     pub fraction: u64,
 }
 
 // The last intervals, the newest first. The places from `used` on are zero.
-#[derive(Drop)]
+#[derive(Clone, Copy)]
 pub struct Window {
     pub used: usize,
     pub intervals: [Interval; 32],
@@ -74,7 +76,7 @@ pub struct Window {
 // The breaker's record: `last` is the time of the last report or of the start, where the current interval begins; `heard` is the time from which
 // the timeout is measured, that of the last report, heard packet or start; `reported` is whether there was a report, `highest` its number, `run`
 // the media run, `trial` whether a reduction is under trial.
-#[derive(Drop)]
+#[derive(Clone, Copy)]
 pub struct Breaker {
     pub settings: Settings,
     pub state: State,
@@ -89,7 +91,7 @@ pub struct Breaker {
 
 // What came of the packets of a report's interval: L lost (negative where some came that were counted as lost before), C marked with CE, of E
 // expected.
-#[derive(Drop)]
+#[derive(Clone, Copy)]
 pub struct EcnCounts {
     pub lost: i64,
     pub marked: u64,
@@ -97,7 +99,7 @@ pub struct EcnCounts {
 }
 
 // What a report says of its interval's losses: the fraction lost in 256ths, or the ECN counts that give it.
-#[derive(Drop)]
+#[derive(Clone, Copy)]
 pub enum Loss {
     Fraction(u64),
     Counts(EcnCounts),
@@ -105,7 +107,7 @@ pub enum Loss {
 
 // What a report says: its time in ms, the highest sequence number, the losses, the round trip in ms, the packet size in bytes, and the
 // sending rate in bytes per second.
-#[derive(Drop)]
+#[derive(Clone, Copy)]
 pub struct Report {
     pub time: u64,
     pub highest: u32,
@@ -116,7 +118,7 @@ pub struct Report {
 }
 
 // What a call answers.
-#[derive(Drop)]
+#[derive(Clone, Copy)]
 pub enum Answer {
     Go,
     Reduce,
@@ -125,14 +127,14 @@ pub enum Answer {
 }
 
 // The answer, and the next breaker. (An enum cannot hold the window's array.)
-#[derive(Drop)]
+#[derive(Clone, Copy)]
 pub struct Step {
     pub answer: Answer,
     pub breaker: Breaker,
 }
 
 // Whether a call is answered before its arguments are looked at.
-#[derive(Drop)]
+#[derive(Clone, Copy)]
 enum Opening {
     Answered(Answer),
     Open,

@@ -9,6 +9,8 @@
 //   f field value                                       a change of one field by hand
 //   p place length fraction                             a change of one place of the window by hand
 // Any other line is a heading.
+#![tactic(auto)]
+
 use breaker::{Answer, Breaker, EcnCounts, Interval, Loss, Report, Settings, State, Step, Window};
 use cases::{number, number32, signed};
 use libc::STDIN_FILENO;

@@ -1,5 +1,7 @@
 // What the test programs read their cases with: lines of standard input, and the numbers and bytes of a line. The nth word of a line is
 // what stands behind its nth space. No call has a condition: a word that is not there is 0 or empty, and what is too large is cut.
+#![tactic(auto)]
+
 mod hex;
 mod numbers;
 pub mod record;

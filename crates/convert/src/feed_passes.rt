@@ -15,14 +15,14 @@ use format::block::BLOCK;
 use walk::Ended;
 
 // A block that was taken: the next run and the row's length, or why the block is refused.
-#[derive(Drop)]
+#[derive(Clone, Copy)]
 enum Moved {
     Row { run: Run, length: usize },
     Refused(Refusal),
 }
 
 // How far a pass came: the run, the bytes that it took, the place in out after the rows, and whether the next block was refused.
-#[derive(Drop)]
+#[derive(Clone, Copy)]
 pub struct Passed {
     pub run: Run,
     pub bytes: usize,

@@ -15,7 +15,7 @@ use walk::Ended;
 
 // How far a trace has come: the run, the whole blocks taken, how many bytes of the next are kept, 0 to 511, and whether a refusal is kept: 1, 13 or 14, its
 // block the number of blocks taken.
-#[derive(Drop)]
+#[derive(Clone, Copy)]
 pub struct Upload {
     pub run: Run,
     pub blocks: u64,
@@ -25,7 +25,7 @@ pub struct Upload {
 
 // The answer to a call: the length of the rows; 12, with the length that the rows have; 9 or 10; or the refusal of a block, with the block's number and the
 // length of the rows before it.
-#[derive(Drop)]
+#[derive(Clone, Copy)]
 pub enum FeedAnswer {
     Length(usize),
     Room(usize),
@@ -38,7 +38,7 @@ pub enum FeedAnswer {
 }
 
 // The answer, and the upload after the call.
-#[derive(Drop)]
+#[derive(Clone, Copy)]
 pub struct Fed {
     pub answer: FeedAnswer,
     pub upload: Upload,

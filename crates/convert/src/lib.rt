@@ -1,5 +1,7 @@
 // One run of the program ecntable (document 01, "Trace file" and "Table"; 02, requests L5 and L10): block by block here, and over pieces of a trace in
 // `pieces`. Block 0 holds the label; the caller keeps it, and lends it again with the later blocks.
+#![tactic(auto)]
+
 ghost use Rattle.std.specs.Prelude.{◌≡◌};
 ghost use Rattle.walk.specs.Steps.{Stepped};
 ghost use Rattle.convert.specs.Numbered.{begin_as};
@@ -22,7 +24,7 @@ mod rows;
 mod soundness;
 
 // What is kept between blocks: the form, the length of the label in block 0, the SSRC, and the totals so far.
-#[derive(Drop)]
+#[derive(Clone, Copy)]
 pub struct Run {
     pub form: Form,
     pub length: usize,
@@ -31,14 +33,14 @@ pub struct Run {
 }
 
 // The answer to block 0: the run, or why it is refused.
-#[derive(Drop)]
+#[derive(Clone, Copy)]
 pub enum Begin {
     Started(Run),
     Refused(Refusal),
 }
 
 // The answer to a later block: what the row's writer says, and the next run where the row was written, else the run that was given.
-#[derive(Drop)]
+#[derive(Clone, Copy)]
 pub struct Step {
     pub answer: Written,
     pub run: Run,

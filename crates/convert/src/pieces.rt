@@ -18,7 +18,7 @@ use table::{write_head, write_refused};
 use walk::{Closed, Ended, number_after};
 
 // How far a run has come: what is kept between blocks, the number of the next block, and whether that was refused.
-#[derive(Drop)]
+#[derive(Clone, Copy)]
 pub struct Progress {
     pub run: Run,
     pub block: u64,
@@ -26,14 +26,14 @@ pub struct Progress {
 }
 
 // The answer to block 0: what the writer of the head line says, and the progress.
-#[derive(Drop)]
+#[derive(Clone, Copy)]
 pub struct Begun {
     pub answer: Written,
     pub progress: Progress,
 }
 
 // The answer to a piece: what was written, how many bytes of the piece were taken, and the progress.
-#[derive(Drop)]
+#[derive(Clone, Copy)]
 pub struct Taken {
     pub answer: Written,
     pub bytes: usize,
@@ -41,7 +41,7 @@ pub struct Taken {
 }
 
 // How far the loop over a piece came: the run, the bytes that it took and those that it wrote, and whether the block behind them was refused.
-#[derive(Drop)]
+#[derive(Clone, Copy)]
 struct Reach {
     run: Run,
     bytes: usize,

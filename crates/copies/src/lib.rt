@@ -1,4 +1,6 @@
 // The blocks that a copying program prints as they stand (02, requests L11 and L14): the sound blocks at the front of a piece of a trace.
+#![tactic(auto)]
+
 ghost use Rattle.std.specs.Prelude.{◌≡◌};
 ghost use Rattle.copies.specs.Fronts.{front_of};
 
@@ -9,7 +11,7 @@ use trace::places::read_own;
 use walk::Ended;
 
 // How many bytes at the front of a piece are sound blocks, and whether the next whole block was refused.
-#[derive(Drop)]
+#[derive(Clone, Copy)]
 pub struct Front {
     pub bytes: usize,
     pub ended: Ended,

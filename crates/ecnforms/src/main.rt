@@ -1,6 +1,8 @@
 // ecnforms reads a trace on standard input and prints it in the other form (request L10). All that is printed is what the crate `forms` gives, and what comes
 // next the crate `shell` says; this program reads, calls, prints what it was given, and goes on or ends. The programs over a trace have this text in common,
 // but for names.
+#![tactic(auto)]
+
 use format::block::BLOCK;
 use forms::pieces::Progress;
 use shell::failures::has_arguments;
@@ -23,7 +25,7 @@ const KEPT: usize = PRINTED + BLOCKS * MOST;
 const ERRORS: usize = 64;
 
 // How far the program has come: the run, and what is read and kept.
-#[derive(Drop)]
+#[derive(Clone, Copy)]
 struct State {
     progress: Progress,
     transfer: Transfer,

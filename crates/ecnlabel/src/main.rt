@@ -1,6 +1,8 @@
 // ecnlabel reads a trace on standard input and prints it with a space in the place of each retired byte of its label (request L14); on standard error it prints
 // the number of bytes replaced, or the line of a refused block. What is printed is what the crate `labels` gives, and what comes next the crate `shell` says; this
 // program reads, calls, prints what it was given, and goes on or ends. The programs that copy a trace have this text in common, but for names.
+#![tactic(auto)]
+
 use format::block::BLOCK;
 use labels::Progress;
 use shell::copying::copied;
@@ -19,7 +21,7 @@ const PIECE: usize = BLOCKS * BLOCK;
 const ERRORS: usize = 64;
 
 // How far the program has come: the run, and what is read and kept.
-#[derive(Drop)]
+#[derive(Clone, Copy)]
 struct State {
     progress: Progress,
     transfer: Transfer,

@@ -1,6 +1,8 @@
 // ecnsalvage reads a trace on standard input, prints its label and its sound blocks, and lists the blocks that it leaves out on standard error (request L11).
 // What is copied and listed is what the crate `salvage` gives, and what comes next the crate `shell` says; this program reads, calls, prints what it was given,
 // and goes on or ends. The programs that copy a trace have this text in common, but for names.
+#![tactic(auto)]
+
 use format::block::BLOCK;
 use salvage::Progress;
 use shell::copying::copied;
@@ -22,7 +24,7 @@ const PIECE: usize = BLOCKS * BLOCK;
 const ERRORS: usize = PRINTED + BLOCKS * MOST + MOST;
 
 // How far the program has come: the run, and what is read and kept.
-#[derive(Drop)]
+#[derive(Clone, Copy)]
 struct State {
     progress: Progress,
     transfer: Transfer,

@@ -9,7 +9,7 @@ use source::{Extended, History, Remembered, Source};
 
 // The first and the highest number, the history, the number that is remembered (65,536 for none), and the part's counts, a byte each: jumps, duplicates,
 // arrivals with the marks 0 to 3, restarts. A restart leaves of these the jumps and the restarts.
-#[derive(Drop)]
+#[derive(Clone, Copy)]
 pub struct Lean {
     pub base: u64,
     pub highest: u64,

@@ -1,4 +1,6 @@
 // The arrivals of a block counted many at once (document 02, L8), with the answer that `Source::count_block` gives record by record.
+#![tactic(auto)]
+
 ghost use Rattle.std.specs.Prelude.{◌≡◌};
 ghost use Rattle.source.specs.Blocks.{block_count};
 ghost use Rattle.source.specs.Numbered.{count_as};

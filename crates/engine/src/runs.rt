@@ -13,7 +13,7 @@ use crate::steps::take;
 use source::Source;
 
 // The record behind a part, how many arrivals were jumps, and how many restarts there were.
-#[derive(Drop)]
+#[derive(Clone, Copy)]
 pub struct Run {
     pub source: Source,
     pub jumps: u64,

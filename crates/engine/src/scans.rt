@@ -11,7 +11,7 @@ use crate::records::ending;
 
 // Of each mark t: t, t / 2, (t + 1) / 4 and t / 4, added up. Of marks to 3 the second counts 2 and 3, the third 3, and the fourth is 0. And how many packets
 // have another number than the first and those that follow it.
-#[derive(Drop)]
+#[derive(Clone, Copy)]
 pub struct Sums {
     pub whole: u32,
     pub halves: u32,
@@ -21,7 +21,7 @@ pub struct Sums {
 }
 
 // How many packets have each mark, and how many are not in the row.
-#[derive(Drop)]
+#[derive(Clone, Copy)]
 pub struct Scan {
     pub notect: u64,
     pub ect1: u64,
@@ -31,7 +31,7 @@ pub struct Scan {
 }
 
 // The scan, or that some mark is above 3.
-#[derive(Drop)]
+#[derive(Clone, Copy)]
 pub enum Scanned {
     Fits(Scan),
     Misfit,

@@ -13,7 +13,7 @@ const HIGHEST: u64 = 0x100_0000_0000;
 const OLDER: u64 = 0x10_0000_0000;
 
 // How far the highest number grows, the history behind it, and how many places more it marks.
-#[derive(Drop)]
+#[derive(Clone, Copy)]
 pub struct Shifted {
     pub up: u64,
     pub history: History,

@@ -15,7 +15,7 @@ use numbers::sign::magnitude;
 use source::{Extended, Remembered, Source};
 
 // The record behind the part; that a mark is above 3; or that a number lies outside the record's window, and whether most numbers follow the first.
-#[derive(Drop)]
+#[derive(Clone, Copy)]
 pub enum Part {
     Counted(Source),
     Misfit,

@@ -8,7 +8,7 @@ use crate::limits::{LONG, USUAL, WHOLE, WHOLE_LONG};
 use crate::records::number;
 
 // The places, or that some packet lies outside.
-#[derive(Drop)]
+#[derive(Clone, Copy)]
 pub enum Found {
     At(u64),
     Outside,
@@ -18,7 +18,7 @@ pub enum Found {
 pub const WIDE: u64 = 64;
 
 // The bits of the places, each modulo 64; and the places joined, which are below 64 where every place is.
-#[derive(Drop)]
+#[derive(Clone, Copy)]
 pub struct Seen {
     pub bits: u64,
     pub joined: u64,

@@ -1,15 +1,17 @@
 // What packets and traces carry, and the one place of a trace block's numbers (document 01, "Trace file"; 02, request L10).
+#![tactic(auto)]
+
 ghost use Rattle.std.specs.Prelude.{◌≡◌};
 ghost use Rattle.format.specs.Forms.{shape_of, width, time_limit, other_form, kind_of};
 
 pub mod block;
 
 // A sequence number as a packet carries it.
-#[derive(Drop)]
+#[derive(Clone, Copy)]
 pub struct Wire(pub u16);
 
 // The counters of an ECN report (RFC 6679, section 5) as the packet carries them.
-#[derive(Drop)]
+#[derive(Clone, Copy)]
 pub struct Counts {
     pub ect0: u32,
     pub ect1: u32,
@@ -20,14 +22,14 @@ pub struct Counts {
 }
 
 // The forms of a trace: times of 32 bits, or of 48.
-#[derive(Drop)]
+#[derive(Clone, Copy)]
 pub enum Form {
     One,
     Two,
 }
 
 // What the kind of a block says: that it holds the label or arrivals of a trace of some form, or nothing that is known.
-#[derive(Drop)]
+#[derive(Clone, Copy)]
 pub enum Kind {
     Label(Form),
     Arrivals(Form),

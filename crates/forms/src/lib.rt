@@ -1,5 +1,7 @@
 // A trace converted to the other form (request L10): block by block here, and over pieces of a trace in `pieces`. The records of a block that is not full yet
 // stand in a part that the caller lends to each call.
+#![tactic(auto)]
+
 ghost use Rattle.std.specs.Prelude.{◌≡◌, ℕ};
 ghost use Rattle.answers.specs.Writers.{Wrote};
 ghost use Rattle.trace.specs.Reading.{block_of};
@@ -21,7 +23,7 @@ use trace::rewrite::write_label_as;
 use trace::write::write_records;
 
 // What is kept between blocks beside the lent part: the trace's own form, its SSRC, and how many records the part holds in the other form.
-#[derive(Drop)]
+#[derive(Clone, Copy)]
 pub struct Conversion {
     pub form: Form,
     pub ssrc: u32,
@@ -29,7 +31,7 @@ pub struct Conversion {
 }
 
 // The answer to block 0: the conversion and the length of the label block in the other form, or why there is none.
-#[derive(Drop)]
+#[derive(Clone, Copy)]
 pub enum Begin {
     Started(Conversion, usize),
     // 12: the output is too small; the block has so many bytes.
@@ -38,7 +40,7 @@ pub enum Begin {
 }
 
 // The answer to a later block: what the writer of the blocks that are full says, and the next conversion where they were written, else the one that was given.
-#[derive(Drop)]
+#[derive(Clone, Copy)]
 pub struct Step {
     pub answer: Written,
     pub conversion: Conversion,

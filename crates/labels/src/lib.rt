@@ -1,5 +1,7 @@
 // A run of ecnlabel over pieces of a trace (02, request L14), in three calls: block 0; the blocks of a piece; the end. What they give, joined, is what the
 // program prints, however the trace is cut (specs/Pieces, `trace_prints`). Only block 0 is written anew: later blocks are copied as they stand.
+#![tactic(auto)]
+
 ghost use Rattle.std.specs.Prelude.{◌≡◌};
 ghost use Rattle.std.proofs.Math.Option.{none};
 ghost use Rattle.answers.specs.Writers.{Wrote};
@@ -18,7 +20,7 @@ use walk::{Ended, number_after};
 
 // How far a run has come: the form and the SSRC of its trace, how many bytes of its label were replaced, the number of the next block, and whether that was
 // refused. Every such state is sound.
-#[derive(Drop)]
+#[derive(Clone, Copy)]
 pub struct Progress {
     pub form: Form,
     pub ssrc: u32,
@@ -28,14 +30,14 @@ pub struct Progress {
 }
 
 // The answer to block 0: what its writer says, and the progress.
-#[derive(Drop)]
+#[derive(Clone, Copy)]
 pub struct Begun {
     pub answer: Written,
     pub progress: Progress,
 }
 
 // The answer to a piece: how many bytes at its front are copied, and the progress.
-#[derive(Drop)]
+#[derive(Clone, Copy)]
 pub struct Taken {
     pub bytes: usize,
     pub progress: Progress,

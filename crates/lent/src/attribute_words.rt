@@ -22,14 +22,14 @@ const ECT: usize = 10;
 // Modes and ects are below this.
 const VALUES: u64 = 4;
 
-#[derive(Drop)]
+#[derive(Clone, Copy)]
 pub enum Answer {
     Held,
     Malformed,
 }
 
 // A record taken from words, or that they are no record's; it says nothing then. (An enum cannot hold the array.)
-#[derive(Drop)]
+#[derive(Clone, Copy)]
 pub struct Loaded {
     pub attribute: Attribute,
     pub answer: Answer,

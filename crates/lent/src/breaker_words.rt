@@ -15,7 +15,7 @@ const HEAD: usize = 13;
 const NUMBERS: u64 = 0x1_0000_0000;
 
 // A record taken from words, and whether the words are those of a record.
-#[derive(Drop)]
+#[derive(Clone, Copy)]
 pub struct Loaded {
     pub ok: bool,
     pub breaker: Breaker,

@@ -17,7 +17,7 @@ use rtcp::{Compound, Feedback, MaybeFeedback, MaybeReport, MaybeSummary, ReportB
 pub const WORDS: usize = 25;
 
 // A compound taken from words, or that they are no compound's.
-#[derive(Drop)]
+#[derive(Clone, Copy)]
 pub enum Loaded {
     Held(Compound),
     Malformed,

@@ -14,7 +14,7 @@ pub const WORDS: usize = 3;
 const NUMBERS: u64 = 0x1_0000_0000;
 
 // A conversion taken from words, or that they are no conversion's.
-#[derive(Drop)]
+#[derive(Clone, Copy)]
 pub enum Loaded {
     Held(Conversion),
     Malformed,

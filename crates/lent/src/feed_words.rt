@@ -17,7 +17,7 @@ use walk::Ended;
 pub const WORDS: usize = 18;
 
 // An upload taken from words, or that they are no upload's.
-#[derive(Drop)]
+#[derive(Clone, Copy)]
 pub enum Loaded {
     Held(Upload),
     Malformed,

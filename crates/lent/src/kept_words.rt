@@ -12,7 +12,7 @@ use between::{Kept, MaybeKept};
 pub const WORDS: usize = 4;
 
 // What is kept, taken from words, or that they are not those of it.
-#[derive(Drop)]
+#[derive(Clone, Copy)]
 pub enum Loaded {
     Held(MaybeKept),
     Malformed,

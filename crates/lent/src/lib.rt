@@ -1,5 +1,7 @@
 // Records lent as arrays of 64-bit words, for callers in C: each taken out of its words, and put back. A word past the end reads as 0, and is
 // not stored.
+#![tactic(auto)]
+
 mod access;
 pub mod attribute_words;
 pub mod breaker_words;

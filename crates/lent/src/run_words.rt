@@ -13,7 +13,7 @@ use convert::Run;
 pub const WORDS: usize = 15;
 
 // A run taken from words, or that they are no run's.
-#[derive(Drop)]
+#[derive(Clone, Copy)]
 pub enum Loaded {
     Held(Run),
     Malformed,

@@ -14,7 +14,7 @@ pub const WORDS: usize = 10;
 const MOST_REMEMBERED: u64 = 65536;
 
 // A record taken from words, or that they are no record's.
-#[derive(Drop)]
+#[derive(Clone, Copy)]
 pub enum Loaded {
     Held(Source),
     Malformed,

@@ -25,14 +25,14 @@ pub const WORDS: usize = 3;
 pub const LINES: usize = 208;
 
 // Whether a run was taken from words.
-#[derive(Drop)]
+#[derive(Clone, Copy)]
 pub enum Answer {
     Taken,
     Refused(Refusal),
 }
 
 // The run taken from words; where they are refused, an empty one.
-#[derive(Drop)]
+#[derive(Clone, Copy)]
 pub struct Loaded {
     pub run: Run,
     pub answer: Answer,

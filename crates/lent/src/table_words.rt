@@ -23,14 +23,14 @@ const SSRCS: u64 = 0x1_0000_0000;
 const REMEMBERED_WORDS: u64 = 65537;
 
 // Whether a table was taken from words.
-#[derive(Drop)]
+#[derive(Clone, Copy)]
 pub enum Answer {
     Taken,
     Refused(Refusal),
 }
 
 // The table taken from words; where they are refused, one of no places.
-#[derive(Drop)]
+#[derive(Clone, Copy)]
 pub struct Loaded {
     pub table: Table,
     pub answer: Answer,

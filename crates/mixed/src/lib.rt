@@ -1,5 +1,7 @@
 // One run of the program ecnstreams, block by block (request L1): the arrivals blocks of a trace may differ in SSRC. Block 0 holds the label; the caller
 // keeps it. The lines of the sources, one for each SSRC in rising order, stand in words that the caller lends to each call.
+#![tactic(auto)]
+
 ghost use Rattle.std.specs.Prelude.{◌≡◌};
 ghost use Rattle.answers.specs.Writers.{Wrote};
 ghost use Rattle.mixed.specs.Runs.{start_of, call_next, TakesBlock};
@@ -18,14 +20,14 @@ mod soundness;
 mod words;
 
 // The source of an SSRC, with its jumps and restarts.
-#[derive(Drop)]
+#[derive(Clone, Copy)]
 pub struct Line {
     pub ssrc: u32,
     pub totals: Totals,
 }
 
 // What is kept between blocks beside the lent lines: the form, the length of the label in block 0, and how many lines are held.
-#[derive(Drop)]
+#[derive(Clone, Copy)]
 pub struct Run {
     pub form: Form,
     pub length: usize,
@@ -33,14 +35,14 @@ pub struct Run {
 }
 
 // The answer to block 0: the run, or why it is refused.
-#[derive(Drop)]
+#[derive(Clone, Copy)]
 pub enum Begin {
     Started(Run),
     Refused(Refusal),
 }
 
 // The answer to a later block: a writer's that has no bytes to write, and the next run, or with a refusal the run that was given.
-#[derive(Drop)]
+#[derive(Clone, Copy)]
 pub struct Step {
     pub answer: Written,
     pub run: Run,

@@ -10,7 +10,7 @@ use source::Totals;
 pub const WORDS: usize = 13;
 
 // The totals taken from the words of a line, or that they are no line's.
-#[derive(Drop)]
+#[derive(Clone, Copy)]
 pub enum Loaded {
     Held(Totals),
     Malformed,

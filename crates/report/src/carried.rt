@@ -8,7 +8,7 @@ use numbers::sign::{low16, low32};
 use source::{Lost, Source};
 
 // The extended highest number with the counters, or that the record is malformed.
-#[derive(Drop)]
+#[derive(Clone, Copy)]
 pub enum Carried {
     Fields(u32, Counts),
     Malformed,

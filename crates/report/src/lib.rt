@@ -1,4 +1,6 @@
 // The ECN reports of RFC 6679, section 5, written from a source's record: the feedback packet and the XR summary block.
+#![tactic(auto)]
+
 ghost use Rattle.std.specs.Prelude.{◌≡◌};
 ghost use Rattle.answers.specs.Writers.{Wrote};
 ghost use Rattle.report.specs.Reports.{fault, feedback_bytes, summary_bytes};

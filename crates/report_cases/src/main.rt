@@ -7,6 +7,8 @@
 //   f sender media room                                             the feedback packet of the record, in an output of `room` bytes
 //   x media room                                                    the summary block of the record, in an output of `room` bytes
 // Any other line is a heading.
+#![tactic(auto)]
+
 use answers::Written;
 use cases::record;
 use libc::STDIN_FILENO;

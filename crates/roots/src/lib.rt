@@ -1,5 +1,7 @@
 // The two roots of the full throughput equation (document 02, request L9; RFC 8083, section 4.3), from tables, and its denominator with them;
 // docs/BREAKER.md derives both. p is taken in 1024ths: p = n / 1024.
+#![tactic(auto)]
+
 ghost use Rattle.std.specs.Prelude.{◌≡◌, min};
 ghost use Rattle.roots.specs.Roots.{round_trip_root, timeout_root};
 ghost use Rattle.roots.specs.FullCondition.{scaled_denominator};

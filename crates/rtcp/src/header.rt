@@ -7,7 +7,7 @@ use crate::fields::byte;
 use numbers::big_endian::read16;
 
 // The header of a packet; the size is the packet's, in bytes.
-#[derive(Drop)]
+#[derive(Clone, Copy)]
 pub struct Header {
     pub version: u8,
     pub padded: bool,
@@ -17,7 +17,7 @@ pub struct Header {
 }
 
 // The header of an XR block; the words are those behind it.
-#[derive(Drop)]
+#[derive(Clone, Copy)]
 pub struct XrBlock {
     pub kind: u8,
     pub words: usize,

@@ -1,5 +1,7 @@
 // Compound RTCP (document 01, "Packets"; 02, request L4; RFC 3550, section 6.1; RFC 5506), read for one media source: its report block, its ECN feedback
 // and its ECN summary entry (RFC 6679, section 5).
+#![tactic(auto)]
+
 ghost use Rattle.std.specs.Prelude.{◌≡◌};
 ghost use mathlib.Core.List.{flat_map};
 ghost use Rattle.rtcp.specs.Packets.{first_fault};
@@ -24,7 +26,7 @@ mod reports;
 
 // The report block of an SR or RR about one source (RFC 3550, section 6.4.1). The cumulative lost has 24 bits and is signed. The reporter is the
 // SSRC of who sent that SR or RR.
-#[derive(Drop)]
+#[derive(Clone, Copy)]
 pub struct ReportBlock {
     pub fraction: u8,
     pub lost: i32,
@@ -36,27 +38,27 @@ pub struct ReportBlock {
 }
 
 // The ECN feedback packet about one source (RFC 6679, section 5.1).
-#[derive(Drop)]
+#[derive(Clone, Copy)]
 pub struct Feedback {
     pub sender: u32,
     pub highest: u32,
     pub counts: Counts,
 }
 
-#[derive(Drop)]
+#[derive(Clone, Copy)]
 pub enum MaybeReport {
     Present(ReportBlock),
     Absent,
 }
 
-#[derive(Drop)]
+#[derive(Clone, Copy)]
 pub enum MaybeFeedback {
     Present(Feedback),
     Absent,
 }
 
 // The entry of an ECN summary block (RFC 6679, section 5.2).
-#[derive(Drop)]
+#[derive(Clone, Copy)]
 pub enum MaybeSummary {
     Present(Counts),
     Absent,
@@ -64,7 +66,7 @@ pub enum MaybeSummary {
 
 // Which compounds are taken: those that begin with an SR or an RR (RFC 3550, section 6.1), or reduced-size ones too, which need not have one
 // (RFC 5506).
-#[derive(Drop)]
+#[derive(Clone, Copy)]
 pub enum Profile {
     Compound,
     ReducedSize,
@@ -72,7 +74,7 @@ pub enum Profile {
 
 // What a compound says of one media source: the first of each. `reporting` says whether an SR or an RR is in it, with or without a block about
 // the source.
-#[derive(Drop)]
+#[derive(Clone, Copy)]
 pub struct Compound {
     pub report: MaybeReport,
     pub feedback: MaybeFeedback,
@@ -81,21 +83,21 @@ pub struct Compound {
 }
 
 // What reading a compound gives: all of it, or why it is refused.
-#[derive(Drop)]
+#[derive(Clone, Copy)]
 pub enum Reading {
     Read(Compound),
     Refused(Refusal),
 }
 
 // Whether a packet has a fault.
-#[derive(Drop)]
+#[derive(Clone, Copy)]
 enum Verdict {
     Sound,
     Faulty(Refusal),
 }
 
 // Where an entry stands.
-#[derive(Drop)]
+#[derive(Clone, Copy)]
 enum Place {
     At(usize),
     Absent,

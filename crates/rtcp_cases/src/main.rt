@@ -3,6 +3,8 @@
 //   r media zeros bytes      the compound of these bytes, in hexadecimal, and so many zeros behind them, asked about the SSRC `media`
 //   s media zeros bytes      the same, where reduced-size compounds are taken too
 // Any other line is a heading.
+#![tactic(auto)]
+
 use format::Counts;
 use libc::STDIN_FILENO;
 use rtcp::{

@@ -1,5 +1,7 @@
 // A run of ecnsalvage over pieces of a trace (02, request L11), in three calls: block 0; the blocks of a piece, to one that is left out; the end. What they
 // give, joined, is what the program prints, however the trace is cut (specs/Pieces, `trace_prints`). No byte is moved: what is copied stands in the piece.
+#![tactic(auto)]
+
 ghost use Rattle.std.specs.Prelude.{◌≡◌, [], ◌+◌, ◌*◌, ◌<◌};
 ghost use Rattle.std.proofs.Math.Option.{none};
 ghost use Rattle.answers.specs.Refusals.{number_of};
@@ -18,7 +20,7 @@ use trace::places::read_label;
 use walk::{Ended, number_after};
 
 // How far a run has come: the form and the SSRC of its trace, the number of the next block, and whether that ended the run. Every such state is sound.
-#[derive(Drop)]
+#[derive(Clone, Copy)]
 pub struct Progress {
     pub form: Form,
     pub ssrc: u32,
@@ -27,14 +29,14 @@ pub struct Progress {
 }
 
 // The answer to block 0: how many bytes of it are copied, and the progress.
-#[derive(Drop)]
+#[derive(Clone, Copy)]
 pub struct Begun {
     pub copied: usize,
     pub progress: Progress,
 }
 
 // The answer to a piece: how many bytes at its front are copied and how many are taken, the line of the block between, and the progress.
-#[derive(Drop)]
+#[derive(Clone, Copy)]
 pub struct Taken {
     pub copied: usize,
     pub bytes: usize,

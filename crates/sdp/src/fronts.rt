@@ -89,7 +89,7 @@ pub fn token_end(line: &[u8], at: usize) -> usize
 }
 
 // What the first byte of a UTF-8 character says: its bytes, and the bounds of the second.
-#[derive(Drop)]
+#[derive(Clone, Copy)]
 pub struct Lead {
     pub size: usize,
     pub least: u8,

@@ -1,5 +1,7 @@
 // The SDP attribute ecn-capable-rtp (RFC 6679, section 6.1; document 02, request L12): its types. `reader` reads a line, `writer` writes one, `answerer`
 // answers an offer.
+#![tactic(auto)]
+
 ghost use Rattle.std.specs.Prelude.{◌≡◌};
 ghost use Rattle.sdp.specs.Reading.{nothing};
 ghost use Rattle.sdp.specs.Answers.{with_method, answered};
@@ -13,7 +15,7 @@ mod steps;
 pub mod writer;
 
 // An initiation method.
-#[derive(Drop)]
+#[derive(Clone, Copy)]
 pub enum Method {
     Rtp,
     Ice,
@@ -21,7 +23,7 @@ pub enum Method {
 }
 
 // What an endpoint can do with ECN marks.
-#[derive(Drop)]
+#[derive(Clone, Copy)]
 pub enum Mode {
     SetOnly,
     SetRead,
@@ -29,7 +31,7 @@ pub enum Mode {
 }
 
 // The ECT marking that a receiver prefers.
-#[derive(Drop)]
+#[derive(Clone, Copy)]
 pub enum Ect {
     Zero,
     One,
@@ -37,27 +39,27 @@ pub enum Ect {
 }
 
 // Absent means setread, and nobody fills it in.
-#[derive(Drop)]
+#[derive(Clone, Copy)]
 pub enum MaybeMode {
     Absent,
     Present(Mode),
 }
 
 // Absent means 0, and nobody fills it in.
-#[derive(Drop)]
+#[derive(Clone, Copy)]
 pub enum MaybeEct {
     Absent,
     Present(Ect),
 }
 
 // A place of a list of methods.
-#[derive(Drop)]
+#[derive(Clone, Copy)]
 pub struct Listed {
     pub method: Method,
 }
 
 // What an attribute says: the first `used` methods, most wanted first; the places behind them say nothing.
-#[derive(Drop)]
+#[derive(Clone, Copy)]
 pub struct Attribute {
     pub used: usize,
     pub methods: [Listed; 8],
@@ -65,28 +67,28 @@ pub struct Attribute {
     pub ect: MaybeEct,
 }
 
-#[derive(Drop)]
+#[derive(Clone, Copy)]
 pub enum Verdict {
     Read,
     Refused(Refusal),
 }
 
 // An enum cannot hold the array, so the attribute stands beside the verdict. A refused line has no method, mode or ect.
-#[derive(Drop)]
+#[derive(Clone, Copy)]
 pub struct Reading {
     pub verdict: Verdict,
     pub attribute: Attribute,
 }
 
 // What an answer carries.
-#[derive(Drop)]
+#[derive(Clone, Copy)]
 pub struct Chosen {
     pub method: Method,
     pub mode: MaybeMode,
     pub ect: MaybeEct,
 }
 
-#[derive(Drop)]
+#[derive(Clone, Copy)]
 pub enum Negotiated {
     Included(Chosen),
     LeftOut,

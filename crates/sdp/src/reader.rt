@@ -8,7 +8,7 @@ use crate::{Attribute, Ect, MaybeEct, MaybeMode, Mode, Reading, Verdict};
 use answers::Refusal;
 
 // The items passed, and the record so far. A line over the limits may still be malformed, so every item is counted to the end.
-#[derive(Drop)]
+#[derive(Clone, Copy)]
 pub struct Tally {
     pub methods: usize,
     pub parms: usize,

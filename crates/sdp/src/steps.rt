@@ -6,14 +6,14 @@ use crate::fronts::{byte_at, lower, token_end, value_end};
 use crate::{Ect, Method, Mode};
 
 // The list that is read.
-#[derive(Drop)]
+#[derive(Clone, Copy)]
 pub enum Part {
     Methods,
     Parms,
 }
 
 // What an item says; nothing where it is none.
-#[derive(Drop)]
+#[derive(Clone, Copy)]
 pub enum Item {
     Known(Method),
     Mode(Mode),
@@ -22,7 +22,7 @@ pub enum Item {
     Nothing,
 }
 
-#[derive(Drop)]
+#[derive(Clone, Copy)]
 pub enum Found {
     Nothing,
     Last,
@@ -30,7 +30,7 @@ pub enum Found {
 }
 
 // An item, and the list and the place of the next.
-#[derive(Drop)]
+#[derive(Clone, Copy)]
 pub struct Step {
     pub found: Found,
     pub item: Item,

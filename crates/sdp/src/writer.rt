@@ -11,7 +11,7 @@ use answers::copy::put_bytes;
 use answers::{Refusal, Written};
 
 // The line while it is made: the first `long` bytes.
-#[derive(Drop)]
+#[derive(Clone, Copy)]
 pub struct Text {
     pub long: usize,
     pub bytes: [u8; 96],

@@ -5,6 +5,8 @@
 //   a RECORD RECORD                the answer to an offer, the first record, where our abilities are the second
 // A record is four numbers: how many methods are used; eight digits, a method each (1 rtp, 2 ice, 3 leap, 0 none); the mode (0 absent, 1 setonly, 2 readonly,
 // 3 setread); the ect (0 absent, 1 "1", 2 "0", 3 random). Any other line is a heading.
+#![tactic(auto)]
+
 use libc::STDIN_FILENO;
 use sdp::answerer::answer;
 use sdp::reader::read;

@@ -13,7 +13,7 @@ use libc::STDOUT_FILENO;
 
 // The file descriptor, how many bytes at the front of the lent buffer are kept for it, how many bytes of the last print were written, and whether a write has
 // failed. Nothing is printed after a failure.
-#[derive(Drop)]
+#[derive(Clone, Copy)]
 pub struct Output {
     pub fd: i32,
     pub used: usize,

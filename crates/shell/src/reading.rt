@@ -10,7 +10,7 @@ use format::block::BLOCK;
 use libc::{SEEK_CUR, STDIN_FILENO};
 
 // How the input stands: more may come, it has ended, or a read has failed.
-#[derive(Drop)]
+#[derive(Clone, Copy)]
 pub enum Ahead {
     More,
     End,
@@ -18,14 +18,14 @@ pub enum Ahead {
 }
 
 // How many bytes at the front of the lent buffer were read, and what comes after them.
-#[derive(Drop)]
+#[derive(Clone, Copy)]
 pub struct Input {
     pub bytes: usize,
     pub ahead: Ahead,
 }
 
 // How far a buffer is filled, and the tries left for the next read.
-#[derive(Drop)]
+#[derive(Clone, Copy)]
 struct Reading {
     input: Input,
     left: u64,

@@ -9,7 +9,7 @@ use libc::{EAGAIN, EINTR};
 pub const TRIES: u64 = 0xffff_ffff;
 
 // What a call did: it moved so many bytes, or none; it is to be made again with so many tries left; or it has failed, and errno says why.
-#[derive(Drop)]
+#[derive(Clone, Copy)]
 pub enum Outcome {
     Bytes(usize),
     Nothing,

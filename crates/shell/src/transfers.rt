@@ -21,7 +21,7 @@ pub const PRINTED: usize = 512 * BLOCK;
 
 // What is read, and from where on it is not taken yet; whether the run goes on; whether output is prompt, so that all that is kept is printed before more is
 // read; and what is kept for standard output and for standard error.
-#[derive(Drop)]
+#[derive(Clone, Copy)]
 pub struct Transfer {
     pub input: Input,
     pub from: usize,

@@ -7,7 +7,7 @@ use crate::transfers::Transfer;
 use format::block::BLOCK;
 
 // What comes next: whole blocks are taken; output is printed; more is read; the run is ended, and all that is kept is printed; or nothing.
-#[derive(Drop)]
+#[derive(Clone, Copy)]
 pub enum Turn {
     Take,
     Print,

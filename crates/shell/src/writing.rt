@@ -6,7 +6,7 @@ ghost use Rattle.shell.specs.Writes.{Ended, unwritten, is_unwritten, has_failed,
 use crate::retries::{Outcome, TRIES, judged};
 
 // How many bytes were taken, and the tries left for the next write: none if one has failed.
-#[derive(Drop)]
+#[derive(Clone, Copy)]
 pub struct Writing {
     pub at: usize,
     pub left: u64,

@@ -1,5 +1,7 @@
 // Text and numbers on standard output, for the test programs. No contract can say what a program prints; each
 // program's output is compared with its file `stdout`.
+#![tactic(auto)]
+
 use answers::{ROOM, Refusal, Written};
 use libc::STDOUT_FILENO;
 use numbers::sign::magnitude;

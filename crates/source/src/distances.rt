@@ -9,7 +9,7 @@ pub const MOST_AHEAD: u64 = 2999;
 const LEAST_BEHIND: u64 = 65437;
 
 // So many numbers above the highest; so many below it, 0 where it is the highest; or neither.
-#[derive(Drop)]
+#[derive(Clone, Copy)]
 pub enum Reach {
     Ahead(u64),
     Behind(u64),

@@ -1,4 +1,6 @@
 // One RTP source: its arrivals counted by ECN mark (document 01, "Counting arrivals"; 02, request L5). A record goes in and comes back by value.
+#![tactic(auto)]
+
 ghost use Rattle.std.specs.Prelude.{◌≡◌};
 ghost use Rattle.source.specs.Record.{fresh_record, sound, lost_answer};
 ghost use Rattle.source.specs.Arrivals.{arrival};
@@ -22,25 +24,25 @@ use answers::Refusal;
 use format::Wire;
 
 // A sequence number with the wraps counted: negative before the base.
-#[derive(Drop)]
+#[derive(Clone, Copy)]
 pub struct Extended(pub i64);
 
 // The last 100 numbers: place k stands for highest - k. `recent` has the places 0 to 63, `older` 64 to 99.
-#[derive(Drop)]
+#[derive(Clone, Copy)]
 pub struct History {
     pub recent: u64,
     pub older: u64,
 }
 
 // The wire number that would follow the last jump, until an arrival is accepted (RFC 3550, appendix A.1: bad_seq).
-#[derive(Drop)]
+#[derive(Clone, Copy)]
 pub enum Remembered {
     Nothing,
     Number(Wire),
 }
 
 // What is counted of one source. Fresh, it is all zero and remembers nothing.
-#[derive(Drop)]
+#[derive(Clone, Copy)]
 pub struct Source {
     pub base: Extended,
     pub highest: Extended,
@@ -55,7 +57,7 @@ pub struct Source {
 
 // The answer to an arrival: the next record; the record that begins again with it; or a refusal, with the record that was given, in which refusal 7
 // alone changes what is remembered.
-#[derive(Drop)]
+#[derive(Clone, Copy)]
 pub enum Arrival {
     Accepted(Source),
     Restarted(Source),
@@ -64,14 +66,14 @@ pub enum Arrival {
 
 // The answer to a block of arrivals: the next record, how many were refused as jumps, and how many restarts there were; or a refusal with the record
 // that was given.
-#[derive(Drop)]
+#[derive(Clone, Copy)]
 pub enum BlockCount {
     Counted(Source, u64, u64),
     Refused(Refusal, Source),
 }
 
 // What a table shows of one source: its record, how many arrivals its blocks left out as jumps, and how often it began again.
-#[derive(Drop)]
+#[derive(Clone, Copy)]
 pub struct Totals {
     pub source: Source,
     pub jumped: u64,
@@ -79,7 +81,7 @@ pub struct Totals {
 }
 
 // How many packets are lost, negative where packets from before the base came.
-#[derive(Drop)]
+#[derive(Clone, Copy)]
 pub enum Lost {
     Packets(i64),
     Refused(Refusal),

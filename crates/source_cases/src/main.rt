@@ -7,6 +7,8 @@
 //   a number mark                                                   an arrival
 //   b width bytes                                                   a block, its bytes in hexadecimal
 // Any other line is a heading.
+#![tactic(auto)]
+
 use cases::record;
 use libc::STDIN_FILENO;
 use source::{Arrival, BlockCount, Lost, Remembered, Source};

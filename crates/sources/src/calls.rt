@@ -13,7 +13,7 @@ use format::Wire;
 use source::{Arrival, BlockCount, Source};
 
 // The places from `from` to `end` each take what stood in the one before, the first `place`.
-#[derive(Drop)]
+#[derive(Clone, Copy)]
 pub struct Change {
     pub from: usize,
     pub end: usize,
@@ -21,14 +21,14 @@ pub struct Change {
 }
 
 // The answer to an arrival, and the places that change.
-#[derive(Drop)]
+#[derive(Clone, Copy)]
 pub struct Arriving {
     pub answer: Arrived,
     pub change: Change,
 }
 
 // The answer to a block, and the places that change.
-#[derive(Drop)]
+#[derive(Clone, Copy)]
 pub struct Counting {
     pub answer: Counted,
     pub change: Change,

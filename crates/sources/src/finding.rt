@@ -9,7 +9,7 @@ use source::Source;
 
 // How many places there are; how many are held in front, and what the SSRC of the next must be at least; whether all so far are held; whether those so far keep
 // the rules, and whether the held ones are sound; where the SSRC stands, the end of the places that its record moves, and its record, a fresh one if it is new.
-#[derive(Drop)]
+#[derive(Clone, Copy)]
 pub struct Seen {
     pub count: usize,
     pub held: usize,

@@ -21,14 +21,14 @@ use trace::Block;
 use trace::read::read_block;
 
 // A place and its tally with the arrivals of a block; or it is no block of arrivals of that SSRC.
-#[derive(Drop)]
+#[derive(Clone, Copy)]
 pub enum Renewal {
     Held(Place, Tally),
     Other,
 }
 
 // How far the loop came: the run, and the place of the next block in the piece.
-#[derive(Drop)]
+#[derive(Clone, Copy)]
 pub struct Known {
     pub run: Run,
     pub at: usize,

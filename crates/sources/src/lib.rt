@@ -1,5 +1,7 @@
 // Several RTP sources in one table (document 02, L1): up to 16 places, each an SSRC with its source's record, in rising order of SSRC, the unused ones empty
 // and last.
+#![tactic(auto)]
+
 ghost use Rattle.std.specs.Prelude.{◌≡◌};
 ghost use Rattle.answers.specs.Writers.{Wrote};
 ghost use Rattle.sources.specs.Places.{empty_place};
@@ -26,28 +28,28 @@ use format::Wire;
 use source::Source;
 
 // One place: an SSRC and the record of its source. Unused, it is zero in every field and remembers nothing.
-#[derive(Drop)]
+#[derive(Clone, Copy)]
 pub struct Place {
     pub ssrc: u32,
     pub source: Source,
 }
 
 // A table by value: the first `count` places are in use.
-#[derive(Drop)]
+#[derive(Clone, Copy)]
 pub struct Table {
     pub places: [Place; 16],
     pub count: usize,
 }
 
 // How many places are held, all in front; or the refusal.
-#[derive(Drop)]
+#[derive(Clone, Copy)]
 pub enum Checked {
     Held(usize),
     Refused(Refusal),
 }
 
 // The answer to an arrival.
-#[derive(Drop)]
+#[derive(Clone, Copy)]
 pub enum Arrived {
     Accepted,
     Restarted,
@@ -55,28 +57,28 @@ pub enum Arrived {
 }
 
 // Where an SSRC stands in a table, and whether it is new there.
-#[derive(Drop)]
+#[derive(Clone, Copy)]
 pub struct Stand {
     pub at: usize,
     pub new: bool,
 }
 
 // The answer to a block of arrivals: where their SSRC now stands, how many were refused as jumps, and how many restarts there were.
-#[derive(Drop)]
+#[derive(Clone, Copy)]
 pub enum Counted {
     Block(Stand, u64, u64),
     Refused(Refusal),
 }
 
 // The next table, with the answer to an arrival.
-#[derive(Drop)]
+#[derive(Clone, Copy)]
 pub struct TableArrived {
     pub table: Table,
     pub answer: Arrived,
 }
 
 // The next table, with the answer to a block.
-#[derive(Drop)]
+#[derive(Clone, Copy)]
 pub struct TableCounted {
     pub table: Table,
     pub answer: Counted,

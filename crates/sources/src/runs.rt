@@ -13,14 +13,14 @@ use trace::Block;
 use trace::read::{fault_of, read_block};
 
 // Jumped and restarts of one source.
-#[derive(Drop)]
+#[derive(Clone, Copy)]
 pub struct Tally {
     pub jumped: u64,
     pub restarts: u64,
 }
 
 // What is kept between blocks: the form, the length of the label in block 0, the table, and the tallies of its places.
-#[derive(Drop)]
+#[derive(Clone, Copy)]
 pub struct Run {
     pub form: Form,
     pub length: usize,
@@ -29,7 +29,7 @@ pub struct Run {
 }
 
 // The answer to a block: a writer's that has no bytes to write, and the next run, or with a refusal the run that was given (for block 0 an empty one).
-#[derive(Drop)]
+#[derive(Clone, Copy)]
 pub struct Step {
     pub answer: Written,
     pub run: Run,

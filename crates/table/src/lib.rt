@@ -1,5 +1,7 @@
 // The table (document 01, "Table"; 02, requests L3 and L5): the head line, a row of one source's record, the line of a refused block; and the line of a number
 // (L14). Each writer knows its length before it stores a byte.
+#![tactic(auto)]
+
 ghost use Rattle.std.specs.Prelude.{◌≡◌};
 ghost use Rattle.std.proofs.Math.Option.{none};
 ghost use Rattle.answers.specs.Writers.{Wrote};

@@ -9,6 +9,8 @@
 //   r room shown ssrc jumped restarts label                         the row of the record, its label in apostrophes or hexadecimal
 //   e room shown refusal block                                      the line of a refused block
 // Any other line is a heading.
+#![tactic(auto)]
+
 use answers::Written;
 use cases::record;
 use libc::STDIN_FILENO;

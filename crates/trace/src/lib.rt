@@ -1,4 +1,6 @@
 // One block of a trace of either form (document 01, "Trace file"; 02, request L10): 512 bytes, read or written by one call.
+#![tactic(auto)]
+
 use answers::Refusal;
 use format::{Form, Wire};
 
@@ -14,7 +16,7 @@ pub mod write;
 
 // What a block is: a label of `length` bytes, or `count` arrivals, with the form of its trace and the SSRC; or why it is refused. The label
 // or the records stay in the caller's slice, from format::block::BODY on.
-#[derive(Drop)]
+#[derive(Clone, Copy)]
 pub enum Block {
     Label {
         form: Form,
@@ -30,7 +32,7 @@ pub enum Block {
 }
 
 // What block 0 of a trace is: a label of `length` bytes, with the trace's form and SSRC; or why it is refused.
-#[derive(Drop)]
+#[derive(Clone, Copy)]
 pub enum Zeroth {
     Label {
         form: Form,
@@ -41,7 +43,7 @@ pub enum Zeroth {
 }
 
 // What writing block 0 again with its label spaced answers: the number of bytes replaced, or why nothing was written.
-#[derive(Drop)]
+#[derive(Clone, Copy)]
 pub enum Spaced {
     Replaced(usize),
     // 12: the output is too small; the block has so many bytes.
@@ -50,14 +52,14 @@ pub enum Spaced {
 }
 
 // What a later block of a trace is: `count` arrivals of the label's form and SSRC, or why it is refused.
-#[derive(Drop)]
+#[derive(Clone, Copy)]
 pub enum Later {
     Arrivals { count: usize },
     Refused(Refusal),
 }
 
 // One arrival of a block: its time in ms, its wire number and its mark.
-#[derive(Drop)]
+#[derive(Clone, Copy)]
 pub struct Record {
     pub time: u64,
     pub number: Wire,
@@ -65,7 +67,7 @@ pub struct Record {
 }
 
 // What stands at a place among a block's records: the record, or why there is none.
-#[derive(Drop)]
+#[derive(Clone, Copy)]
 pub enum Found {
     Is(Record),
     Refused(Refusal),

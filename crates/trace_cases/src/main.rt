@@ -11,6 +11,8 @@
 //   r n place                                    the record at a place of a block
 //   d n                                          the bytes themselves
 // Any other line is a heading.
+#![tactic(auto)]
+
 ghost use Rattle.std.specs.Prelude.{◌≤◌, length};
 
 use answers::copy::put_bytes;

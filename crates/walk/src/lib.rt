@@ -1,19 +1,21 @@
 // A program over the blocks of a trace, as a definition; the programs' crates say what their blocks do, and cite these laws. The types here are those
 // that their runs share.
+#![tactic(auto)]
+
 ghost use Rattle.std.specs.Prelude.{◌≡◌};
 ghost use Rattle.walk.specs.Endings.{number_after};
 
 use answers::{Refusal, Written};
 
 // Whether a run goes on, or its next block was refused.
-#[derive(Drop)]
+#[derive(Clone, Copy)]
 pub enum Ended {
     Going,
     Refused(Refusal),
 }
 
 // What the end of a run wrote for standard output and for standard error.
-#[derive(Drop)]
+#[derive(Clone, Copy)]
 pub struct Closed {
     pub out: Written,
     pub err: Written,

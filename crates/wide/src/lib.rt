@@ -1,5 +1,7 @@
 // Exact products of two 64-bit numbers, in two words, with each half-product named, and their order (document 02, request L6). docs/BREAKER.md does the
 // same on paper, under these names.
+#![tactic(auto)]
+
 ghost use Rattle.std.specs.Prelude.{◌≡◌, ◌*◌, ltb};
 ghost use Rattle.wide.specs.Products.{value, wide_of, half_products_of};
 
@@ -7,7 +9,7 @@ ghost use Rattle.wide.specs.Products.{value, wide_of, half_products_of};
 const HALF: u64 = 0x1_0000_0000;
 
 // A number of up to 128 bits: high · 2^64 + low.
-#[derive(Drop)]
+#[derive(Clone, Copy)]
 pub struct Wide {
     pub high: u64,
     pub low: u64,
@@ -15,7 +17,7 @@ pub struct Wide {
 
 // The products of the halves of two numbers a and b, in the order used on paper: both halves of a by the lower half of b, then both by the
 // upper one. The first letter is the half of a, the second the half of b: l the lower one, h the upper one.
-#[derive(Drop)]
+#[derive(Clone, Copy)]
 pub struct HalfProducts {
     pub ll: u64,
     pub hl: u64,
