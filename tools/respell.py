@@ -16,8 +16,8 @@ DEFINED = re.compile(
 TOKEN = re.compile(rf"{WORD}")
 # Functions of std. A lemma on what one of them gives begins with its name and a dash.
 STD = set("length sets drop take map append get_or set ones pow filter".split())
-# Facts that were spelled as words.
-FACTS = {"takenBy": "TakenBy"}
+# Facts that were spelled as words, and a constructor, which is named after its type.
+FACTS = {"takenBy": "TakenBy", "with-parms": "with_parms"}
 # Fields whose name falls together with a definition's.
 FIELDS = {"all_plain", "goes_on", "number_fits", "numbers_fit"}
 
@@ -94,6 +94,8 @@ def renamed(root):
             table[name] = new
     definitions = {new for name, new in table.items() if "-" not in name}
     for name in sorted(names):
+        if name in FACTS:
+            continue
         if "-" in name and (table.get(name) in definitions or table.get(name) in names):
             table[name] += "_lem"
         elif name not in table and name in definitions:
@@ -138,7 +140,7 @@ def main():
     by_new = {}
     for name, new in table.items():
         by_new.setdefault(new, []).append(name)
-    clash = {new: its for new, its in by_new.items() if len(its) > 1 or (new in names and new not in table)}
+    clash = {new: its for new, its in by_new.items() if (len(its) > 1 and not FACTS.keys() & set(its)) or (new in names and new not in table)}
     for new, its in sorted(clash.items()):
         print("fall together:", new, its, "(defined)" if new in names else "")
     if only:

@@ -71,11 +71,11 @@ written_derives m ms mode.Absent ect.Absent =
     Derives.alone (codes "a=ecn-capable-rtp:") (with_commas (m ∷ ms)) refl (methods_are m ms)
     (ap (λ (l : List ℕ). codes "a=ecn-capable-rtp: " ++ l) (append-nil (with_commas (m ∷ ms))))
 written_derives m ms mode.Absent (ect.Present e) =
-    Derives.with-parms (codes "a=ecn-capable-rtp:") (with_commas (m ∷ ms)) (ect_text e) refl (methods_are m ms) (Joined.one (ect_is e)) refl
+    Derives.with_parms (codes "a=ecn-capable-rtp:") (with_commas (m ∷ ms)) (ect_text e) refl (methods_are m ms) (Joined.one (ect_is e)) refl
 written_derives m ms (mode.Present o) ect.Absent =
-    Derives.with-parms (codes "a=ecn-capable-rtp:") (with_commas (m ∷ ms)) (mode_text o) refl (methods_are m ms) (Joined.one (mode_is o)) refl
+    Derives.with_parms (codes "a=ecn-capable-rtp:") (with_commas (m ∷ ms)) (mode_text o) refl (methods_are m ms) (Joined.one (mode_is o)) refl
 written_derives m ms (mode.Present o) (ect.Present e) =
-    Derives.with-parms (codes "a=ecn-capable-rtp:") (with_commas (m ∷ ms)) (mode_text o ++ (59 ∷ 32 ∷ ect_text e)) refl (methods_are m ms)
+    Derives.with_parms (codes "a=ecn-capable-rtp:") (with_commas (m ∷ ms)) (mode_text o ++ (59 ∷ 32 ∷ ect_text e)) refl (methods_are m ms)
     (Joined.more (mode_text o) (ect_text e) (mode_is o) (Joined.one (ect_is e)) refl) refl
 
 -- ---- and says what the record does

@@ -140,7 +140,7 @@ items_parms (Items.more q u b t (EntryIs.parm h) Between.semicolon is e) =
 -- a list of methods, alone or with parameters behind it
 pub data Listing : List ℕ → Line → Type 0 where
   alone : {s : List ℕ} {xs : List Init} → Methods s xs → Listing s (record { methods = xs; parms = [] })
-  with_parms_lem : (s t : List ℕ) {r : List ℕ} {xs : List Init} {ys : List Parm} → Methods s xs → Parms t ys → r ≡ s ++ (32 ∷ t)
+  with_parms : (s t : List ℕ) {r : List ℕ} {xs : List Init} {ys : List Parm} → Methods s xs → Parms t ys → r ≡ s ++ (32 ∷ t)
       → Listing r (record { methods = xs; parms = ys })
 
 pub items_listing : {s : List ℕ} {xs : List Entry} → Items part.Methods s xs → Listing s (line_of xs)
@@ -149,12 +149,12 @@ items_listing {s} (Items.more q u b t (EntryIs.method {x = x} h) Between.comma i
   where
     go : {w : Line} → Listing t w → Listing s (record { methods = x ∷ w.methods; parms = w.parms })
     go (Listing.alone ms) = Listing.alone (Joined.more u t h ms e)
-    go (Listing.with-parms v r ms ps j) =
-        Listing.with-parms (u ++ (44 ∷ v)) r (Joined.more u v h ms refl) ps
+    go (Listing.with_parms v r ms ps j) =
+        Listing.with_parms (u ++ (44 ∷ v)) r (Joined.more u v h ms refl) ps
         (e ∙ ap (λ (l : List ℕ). u ++ (44 ∷ l)) j ∙ sym (append_assoc u (44 ∷ v) (32 ∷ r)))
 items_listing {s} (Items.more q u b t {xs = xs} (EntryIs.method {x = x} h) Between.space is e) =
     let (ps, m) = items_parms is in
-    subst (λ (l : List Init). Listing s (record { methods = x ∷ l; parms = (line_of xs).parms })) (sym m) (Listing.with-parms u t (Joined.one h) ps e)
+    subst (λ (l : List Init). Listing s (record { methods = x ∷ l; parms = (line_of xs).parms })) (sym m) (Listing.with_parms u t (Joined.one h) ps e)
 
 -- ---- the attribute's name in front
 
@@ -192,7 +192,7 @@ pub derives_items : {s : List ℕ} {x : Line} → Derives s x
 derives_items {s} (Derives.alone a r h ms e) =
     let (b, d, l) = begun a r s h e in
     let (xs, is, i) = methods_items ms in (b, l, (xs, items_whole is s 19 (length s) l d (omega arith), i))
-derives_items {s} (Derives.with-parms a r t h ms ps e) =
+derives_items {s} (Derives.with_parms a r t h ms ps e) =
     let (b, d, l) = begun a (r ++ (32 ∷ t)) s h e in
     let (xs, is, i) = both_items ms ps refl in (b, l, (xs, items_whole is s 19 (length s) l d (omega arith), i))
 
@@ -202,8 +202,8 @@ items_derives s xs b e =
   where
     go : {w : Line} → Listing (drop 19 s) w → Is attribute_name (take 18 s) → s ≡ take 18 s ++ (32 ∷ drop 19 s) → Derives s w
     go (Listing.alone ms) h j = Derives.alone (take 18 s) (drop 19 s) h ms j
-    go (Listing.with-parms r t ms ps i) h j =
-        Derives.with-parms (take 18 s) r t h ms ps (j ∙ ap (λ (l : List ℕ). take 18 s ++ (32 ∷ l)) i)
+    go (Listing.with_parms r t ms ps i) h j =
+        Derives.with_parms (take 18 s) r t h ms ps (j ∙ ap (λ (l : List ℕ). take 18 s ++ (32 ∷ l)) i)
 
 pub one_reading : OneReading
 one_reading s x y d e =

@@ -124,5 +124,5 @@ attribute_name = codes "a=ecn-capable-rtp:"
 pub data Derives : List ℕ → Line → Type 0 where
   alone : (a s : List ℕ) {u : List ℕ} {xs : List Init} → Is attribute_name a → Methods s xs → u ≡ a ++ (32 ∷ s)
       → Derives u (record { methods = xs; parms = [] })
-  with_parms_lem : (a s t : List ℕ) {u : List ℕ} {xs : List Init} {ys : List Parm} → Is attribute_name a → Methods s xs → Parms t ys
+  with_parms : (a s t : List ℕ) {u : List ℕ} {xs : List Init} {ys : List Parm} → Is attribute_name a → Methods s xs → Parms t ys
       → u ≡ a ++ (32 ∷ (s ++ (32 ∷ t))) → Derives u (record { methods = xs; parms = ys })
