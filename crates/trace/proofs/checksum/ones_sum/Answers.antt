@@ -1,4 +1,4 @@
-use Rattle.std.proofs.Common.{◌≡◌, ℕ, ◌+◌, ◌-◌, ◌*◌, ◌/◌, ◌%◌, [], ◌∷◌, get_or, drop, sym, refl, ap, ◌∙◌, add_assoc, zero-add, arith, rules}
+use Rattle.std.proofs.Common.{◌≡◌, ℕ, ◌+◌, ◌*◌, ◌/◌, ◌%◌, [], ◌∷◌, get_or, drop, sym, refl, ap, ◌∙◌, add_assoc, zero-add, arith, rules}
 use Rattle.trace.proofs.Sums.{low_total, carried, carried_twice, ones-swapped, low_turn, low_done}
 use Rattle.numbers.proofs.BigEndian.{word_two}
 use Rattle.trace.proofs.checksum.ones_sum.Goals as goal

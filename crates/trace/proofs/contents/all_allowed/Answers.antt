@@ -1,4 +1,4 @@
-use Rattle.std.proofs.Common.{ℕ, ◌+◌, ◌-◌, ◌≤◌, drop, ap, ◌∙◌, zero-add, arith}
+use Rattle.std.proofs.Common.{ℕ, ◌+◌, ◌≤◌, drop, ap, ◌∙◌, zero-add, arith}
 use Rattle.trace.proofs.Tallies.{tally, tally_turn, tally_rule, rule_fault, rule_small, outside_of}
 use Rattle.trace.specs.Contents.{label_byte}
 use Rattle.trace.proofs.contents.all_allowed.Goals.{After-outside-sum}

@@ -1,4 +1,4 @@
-use Rattle.std.proofs.Common.{ℕ, ◌-◌, ◌/◌, ◌∙◌, zero-add, arith}
+use Rattle.std.proofs.Common.{ℕ, ◌/◌, ◌∙◌, zero-add, arith}
 use Rattle.trace.proofs.Tallies.{tally_turn, tally_rule, mark_fault}
 use Rattle.trace.specs.Contents.{is_mark}
 use Rattle.trace.proofs.contents.all_marks.Goals as goal

@@ -1,4 +1,4 @@
-use Rattle.std.proofs.Common.{ℕ, ◌+◌, ◌-◌, ◌≤◌, ltb, get_or, drop, ap, ◌∙◌, zero-add, arith}
+use Rattle.std.proofs.Common.{ℕ, ◌+◌, ◌≤◌, ltb, get_or, drop, ap, ◌∙◌, zero-add, arith}
 use Rattle.trace.proofs.Tallies.{tally, tally_turn, tally_rule, rule_fault, rule_small, beyond_of}
 use Rattle.trace.specs.Contents.{every}
 use Rattle.trace.proofs.contents.all_times.Goals.{After-beyond-sum}

@@ -1,4 +1,4 @@
-use Rattle.std.proofs.Common.{◌≡◌, ◌+◌, ◌-◌, ◌*◌, ◌/◌, ◌≤◌, ◌&&◌, eqb, length, drop}
+use Rattle.std.proofs.Common.{◌≡◌, ◌+◌, ◌*◌, ◌/◌, ◌≤◌, ◌&&◌, eqb, length, drop}
 use Rattle.format.specs.Forms.{Shape, width}
 use Rattle.trace.specs.Contents.{good_records}
 use Rattle.trace.proofs.contents.good_part.Given as goal

@@ -1,4 +1,4 @@
-use Rattle.std.proofs.Common.{ℕ, ◌+◌, ◌-◌, ◌≤◌, drop, sym, ap, ◌∙◌, zero-add, arith}
+use Rattle.std.proofs.Common.{ℕ, ◌+◌, ◌≤◌, drop, sym, ap, ◌∙◌, zero-add, arith}
 use Rattle.trace.specs.Retired.{retired}
 use Rattle.trace.proofs.Tallies.{tally, tally_turn, tally_done}
 use Rattle.trace.proofs.Spacing.{retired_of, retired_small, retired_tally}

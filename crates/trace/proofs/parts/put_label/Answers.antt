@@ -1,4 +1,4 @@
-use Rattle.std.proofs.Common.{◌≡◌, ◌-◌, length, sym, refl, arith}
+use Rattle.std.proofs.Common.{◌≡◌, length, sym, refl, arith}
 use Rattle.answers.proofs.Stores.{wrote_short, wrote_all}
 use Rattle.format.specs.Forms.{shape_of}
 use Rattle.trace.specs.Layout.{label_block}

@@ -1,4 +1,4 @@
-use Rattle.std.proofs.Common.{◌+◌, ◌-◌, refl, ◌∙◌, add-zero, add_assoc, arith, length-set}
+use Rattle.std.proofs.Common.{◌+◌, refl, ◌∙◌, add-zero, add_assoc, arith, length-set}
 use Rattle.trace.proofs.Spacing.{spaced_turn, spaced_done}
 use Rattle.trace.proofs.parts.put_spaced.Goals as goal
 

@@ -1,4 +1,5 @@
 use Rattle.std.proofs.Common.{sym, ap, ◌∙◌}
+use borrow.Enum.Refused.{opened}
 use Rattle.trace.specs.Numbered.{zeroth_as}
 use Rattle.trace.specs.declared.Zeroth.TheVariants.{Refused}
 use Rattle.trace.proofs.Placed.{zeroth_by_lem, zeroth_other}
@@ -8,7 +9,7 @@ use Rattle.trace.proofs.places.read_label.Goals as goal
 pub returns-in_default-clause-value : goal.returns-in_default-clause-value
 returns-in_default-clause-value c =
     let read = c.read_block-read in
-    ap Refused c.fault_of.ensures ∙ sym (zeroth_other c.args.zeroth.now read.result (sym read.ensures.value) c.in_default.in_default-own.keys2)
+    ap Refused c.fault_of.ensures ∙ sym (zeroth_other c.args.zeroth.now read.result (sym read.ensures.value) (opened c.in_default.in_default-own.keys2))
 
 pub returns-in_default-clause-numbered : goal.returns-in_default-clause-numbered
 returns-in_default-clause-numbered c = ap zeroth_as (returns-in_default-clause-value c)

@@ -1,4 +1,5 @@
 use Rattle.std.proofs.Common.{sym, ap, ◌∙◌}
+use borrow.Enum.Refused.{opened}
 use Rattle.trace.specs.Numbered.{later_as}
 use Rattle.answers.proofs.Conditions.{was_true, was_false}
 use Rattle.trace.specs.declared.Later.TheVariants.{Refused}
@@ -10,7 +11,7 @@ pub returns-in_default-clause-value : goal.returns-in_default-clause-value
 returns-in_default-clause-value c =
     let a = c.args in
     let read = c.read_block-read in
-    ap Refused c.fault_of.ensures ∙ sym (later_other a.form a.ssrc a.block.now read.result (sym read.ensures.value) c.in_default.in_default-own.keys2)
+    ap Refused c.fault_of.ensures ∙ sym (later_other a.form a.ssrc a.block.now read.result (sym read.ensures.value) (opened c.in_default.in_default-own.keys2))
 
 pub returns-in_default-clause-numbered : goal.returns-in_default-clause-numbered
 returns-in_default-clause-numbered c = ap later_as (returns-in_default-clause-value c)

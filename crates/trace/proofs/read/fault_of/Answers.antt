@@ -1,5 +1,6 @@
 use Rattle.std.proofs.Common.{◌≡◌, [], ◌∷◌, sym, refl, ap, ⊎_elim, arith}
 use denote.Enum.Declared.{tag_of}
+use borrow.Enum.Refused.{opened}
 use types.Run.{OneOf}
 use Rattle.answers.specs.declared.Refusal.TheVariants.{Contents}
 use Rattle.trace.specs.Reading.{fault_of}
@@ -18,4 +19,4 @@ pub returns-in-Refused : goal.returns-in-Refused
 returns-in-Refused c = ap fault_of (sym c.in-Refused.is)
 
 pub returns-in_default : goal.returns-in_default
-returns-in_default c = fault-other c.args.block c.in_default.in_default-own.keys2
+returns-in_default c = fault-other c.args.block (opened c.in_default.in_default-own.keys2)

@@ -1,4 +1,4 @@
-use Rattle.std.proofs.Common.{◌-◌, sym, ap, ◌∙◌, arith, length-take-le}
+use Rattle.std.proofs.Common.{sym, ap, ◌∙◌, arith, length-take-le}
 use borrow.Author.Tests.{lt-leb}
 use Rattle.trace.proofs.Decisions.{part_tail, text_false, text_rest}
 use Rattle.answers.proofs.Conditions.{was_false, was_true}
@@ -20,5 +20,5 @@ returns-then-not-all_allowed c = text_false _ _ 1 (was_false c.all_allowed.ensur
 pub returns : goal.returns
 returns c =
     let a = c.args in
-    text_rest a.n a.body.now c.if1.false (was_true c.all_allowed.ensures c.if-not-all_allowed.false)
+    text_rest a.n a.body.now c.if-n-gt-BODY_BYTES.false (was_true c.all_allowed.ensures c.if-not-all_allowed.false)
     (c.all_zero.ensures ∙ ap (every is_zero) (part_tail a.body.now a.n))

@@ -1,4 +1,5 @@
-use Rattle.std.proofs.Common.{◌≡◌, ℕ, ◌+◌, ◌-◌, ◌*◌, ◌≤◌, true, refl, ap, ◌∙◌, arith}
+use Rattle.std.proofs.Common.{◌≡◌, ℕ, ◌+◌, ◌*◌, ◌≤◌, true, refl, ap, ◌∙◌, arith}
+use borrow.Enum.Refused.{opened}
 use Rattle.trace.specs.Numbered.{found_as}
 use Rattle.answers.proofs.Conditions.{was_true, was_false}
 use Rattle.format.specs.Forms.{shape_of}
@@ -9,7 +10,6 @@ use Rattle.trace.specs.Contents.{count_ok}
 use Rattle.trace.specs.Layout.{record_at, body_of}
 use Rattle.trace.specs.Reading.{found_by, found_at}
 use Rattle.trace.specs.declared.Found.TheVariants.{Is}
-use Rattle.trace.proofs.read.record_at.Lts.View.{up-Else-not-is_count}
 use mathlib.Core.Path.{ap}
 use Rattle.trace.proofs.read.record_at.Goals.{After-width, Else-not-is_count, In-Arrivals}
 use Rattle.trace.proofs.read.record_at.Goals as goal
@@ -24,7 +24,7 @@ count : (c : Else-not-is_count) → count_ok (shape_of c.in-Arrivals.form) c.rea
 count c = was_true c.is_count.ensures c.if-not-is_count.false
 
 room : (c : After-width) → c.args.i * c.width.result + c.width.result ≤ 502
-room c = rw c.width.ensures (record_fits (fits c.in-Arrivals.form) (count_right _ _ (count (up-Else-not-is_count _ _ _ c.before.before.before.before))).1 c.args.i c.if-count-i.false)
+room c = rw c.width.ensures (record_fits (fits c.in-Arrivals.form) (count_right _ _ (was_true c.is_count.ensures c.if-not-is_count.false)).1 c.args.i c.if-count-i.false)
 
 pub returns-then-b-ne-BLOCK-clause-value : goal.returns-then-b-ne-BLOCK-clause-value
 returns-then-b-ne-BLOCK-clause-value c = let a = c.args in found_short a.b.now a.i c.if-b-ne-BLOCK.true
@@ -35,7 +35,7 @@ returns-then-b-ne-BLOCK-clause-numbered c = ap found_as (returns-then-b-ne-BLOCK
 pub returns-in_default-clause-value : goal.returns-in_default-clause-value
 returns-in_default-clause-value c =
     let a = c.args in
-    found_other a.b.now a.i c.of-kind.result c.in_default.in_default-own.keys2 ∙ found_whole a.b.now a.i c.if-b-ne-BLOCK.false (kind_told a.b.now c.read16.ensures c.of-kind.ensures refl)
+    found_other a.b.now a.i c.of-kind.result (opened c.in_default.in_default-own.keys2) ∙ found_whole a.b.now a.i c.if-b-ne-BLOCK.false (kind_told a.b.now c.read16.ensures c.of-kind.ensures refl)
 
 pub returns-in_default-clause-numbered : goal.returns-in_default-clause-numbered
 returns-in_default-clause-numbered c = ap found_as (returns-in_default-clause-value c)

@@ -1,4 +1,4 @@
-use Rattle.std.proofs.Common.{◌-◌, sym, ◌∙◌, arith}
+use Rattle.std.proofs.Common.{sym, ◌∙◌, arith}
 use Rattle.trace.proofs.Rewritten.{spaces_refused, label_fits, part_short, spaces_label, spaces_numbered}
 use Rattle.trace.proofs.rewrite.space_label.Goals as goal
 
@@ -14,8 +14,11 @@ put_spaced_label-requires c = part_short c.args.zeroth.now (sym c.read_label.ens
 pub returns-in-Label : goal.returns-in-Label
 returns-in-Label c =
     let put = c.put_spaced_label in
-    spaces_numbered
-    (spaces_label c.args.zeroth.now (sym c.read_label.ensures.value ∙ c.in-Label.is) put.ensures.value put.ensures.written)
+    let done = spaces_numbered (spaces_label c.args.zeroth.now (sym c.read_label.ensures.value ∙ c.in-Label.is) put.ensures.value put.ensures.written) in
+    record { spaces = done.0; numbered = done.1 }
 
 pub returns-in-Refused : goal.returns-in-Refused
-returns-in-Refused c = let a = c.args in spaces_numbered (spaces_refused a.zeroth.now (sym c.read_label.ensures.value ∙ c.in-Refused.is) a.out.now)
+returns-in-Refused c =
+    let a = c.args in
+    let done = spaces_numbered (spaces_refused a.zeroth.now (sym c.read_label.ensures.value ∙ c.in-Refused.is) a.out.now) in
+    record { spaces = done.0; numbered = done.1 }

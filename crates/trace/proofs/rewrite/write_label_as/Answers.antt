@@ -1,4 +1,4 @@
-use Rattle.std.proofs.Common.{◌-◌, sym, ◌∙◌, arith}
+use Rattle.std.proofs.Common.{sym, ◌∙◌, arith}
 use Rattle.trace.proofs.Rewritten.{as_refused, label_fits, part_short, as_label}
 use Rattle.trace.proofs.rewrite.write_label_as.Goals as goal
 

@@ -1,11 +1,11 @@
-use Rattle.std.proofs.Common.{◌≡◌, ℕ, ◌+◌, ◌-◌, length, ap, ◌∙◌, arith, length-set}
+use Rattle.std.proofs.Common.{◌≡◌, ℕ, ◌+◌, length, ap, ◌∙◌, arith, length-set}
 use Rattle.format.specs.Forms.{shape_of}
 use Rattle.trace.proofs.Layouts.{record_stored}
 use Rattle.trace.proofs.write.put_record.Goals.{After-slice_known-3-1}
 use Rattle.trace.proofs.write.put_record.Goals as goal
 
-long : (c : After-slice_known-3-1) → length c.write16.new.1.0 ≡ length c.args.out.now
-long c = c.write16.auto.1.0 ∙ c.write_time.auto.1.1.0
+long : (c : After-slice_known-3-1) → length c.write16.new.out ≡ length c.args.out.now
+long c = c.write16.auto.out ∙ c.write_time.auto.out
 
 pub bounds-out-behind-2 : goal.bounds-out-behind-2
 bounds-out-behind-2 c = simp length-set (omega (arith, long (goal.at.bounds-out-behind-2 c).After-slice_known-3-1))

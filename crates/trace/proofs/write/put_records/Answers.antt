@@ -1,4 +1,4 @@
-use Rattle.std.proofs.Common.{◌≡◌, ℕ, ◌+◌, ◌-◌, ◌*◌, ◌≤◌, List, get_or, drop, refl, ap, ◌∙◌, suc-mul, add-one, arith, rules}
+use Rattle.std.proofs.Common.{◌≡◌, ℕ, ◌+◌, ◌*◌, ◌≤◌, List, get_or, drop, refl, ap, ◌∙◌, suc-mul, add-one, arith, rules}
 use Rattle.answers.proofs.Stores.{sets-step}
 use Rattle.format.specs.Forms.{Shape, shape_of, width}
 use Rattle.format.proofs.Fits.{fits, record_fits}
@@ -35,7 +35,7 @@ loop-i-preserved c =
     let more : (loop.i + 1) * width shape ≡ loop.i * width shape + width shape = ap (λ (k : ℕ). k * width shape) (add-one loop.i) ∙ suc-mul loop.i (width shape) in (
       omega arith,
       omega (arith, more, loop.invariant.1, c.width-width.ensures),
-      put.auto.1.1.0 ∙ loop.invariant.2,
+      put.auto.out ∙ loop.invariant.2,
       sets-step loop.out loop.at (record_bytes shape one) (records_bytes shape rest) (ap (records_bytes shape) next) put.ensures (omega (arith, length-record shape one, c.width-width.ensures))
           ∙ loop.invariant.3,
     )

@@ -1,4 +1,4 @@
-use Rattle.std.proofs.Common.{◌≡◌, ℕ, ◌+◌, ◌-◌, ◌*◌, ◌≤◌, List, length, sym, ◌∙◌, ap₂, arith}
+use Rattle.std.proofs.Common.{◌≡◌, ℕ, ◌+◌, ◌*◌, ◌≤◌, List, length, sym, ◌∙◌, ap₂, arith}
 use Rattle.answers.proofs.Stores.{wrote_refused, wrote_short, wrote_all}
 use Rattle.answers.proofs.Conditions.{was_true, was_false}
 use Rattle.format.specs.Forms.{Shape, shape_of}
@@ -8,7 +8,6 @@ use Rattle.trace.proofs.Layouts.{length-arrivals_block, length-records_of, lengt
 use Rattle.trace.specs.Layout.{arrivals_block, records_bytes}
 use Rattle.trace.specs.Writing.{records_of, arrivals_ok}
 use Rattle.trace.specs.declared.Record.{Record}
-use Rattle.trace.proofs.write.write_arrivals.Lts.View.{up-Else-not-are_records}
 use Rattle.trace.proofs.write.write_arrivals.Goals.{After-width, Else-not-are_records}
 use Rattle.trace.proofs.write.write_arrivals.Goals as goal
 
@@ -23,7 +22,7 @@ whole c =
     length-arrivals_block (shape_of c.args.form) (records_of c.args.times.now c.args.numbers.now c.args.marks.now) c.args.ssrc (rw (many c) (records_fit (fits c.args.form) (good c).most))
 
 room : (c : After-width) → length c.args.times.now * c.width.result ≤ 502
-room c = rw c.width.ensures (records_fit (fits c.args.form) (good (up-Else-not-are_records _ _ _ c.before.before.before.before.before.before.before.before.before.before.before.before.before)).most)
+room c = rw c.width.ensures (records_fit (fits c.args.form) (lists_taken (shape_of c.args.form) c.args.times.now c.args.numbers.now c.args.marks.now (was_true c.are_records.ensures c.if-not-are_records.false)).most)
 
 pub returns-then-not-are_records : goal.returns-then-not-are_records
 returns-then-not-are_records c = let a = c.args in wrote_refused (arrivals_block (shape_of a.form) (records_of a.times.now a.numbers.now a.marks.now) a.ssrc) a.out.now (lists_refused (shape_of a.form) a.times.now a.numbers.now a.marks.now (was_false {t = arrivals_ok (shape_of a.form) a.times.now a.numbers.now a.marks.now} c.are_records.ensures c.if-not-are_records.true))
@@ -35,7 +34,7 @@ pub put_header-requires : goal.put_header-requires
 put_header-requires c = omega (arith, (good (goal.at.put_header-requires c).Else-not-are_records).most, (fits c.args.form).few)
 
 pub put_records-requires : goal.put_records-requires
-put_records-requires c = let t = good (goal.at.put_records-requires c).Else-not-are_records in ((t.numbers_long, t.marks_long), (t.most, omega (arith, c.if-out-lt-BLOCK.false)))
+put_records-requires c = let t = good (goal.at.put_records-requires c).Else-not-are_records in record { alike = (t.numbers_long, t.marks_long); has_room = (t.most, omega (arith, c.if-out-lt-BLOCK.false)) }
 
 pub overflow_mul-times : goal.overflow_mul-times
 overflow_mul-times c = omega (arith, room (goal.at.overflow_mul-times c).After-width)

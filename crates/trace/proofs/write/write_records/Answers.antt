@@ -1,4 +1,4 @@
-use Rattle.std.proofs.Common.{◌≡◌, ℕ, ◌-◌, ◌/◌, ◌≤◌, length, sym, refl, ap, arith}
+use Rattle.std.proofs.Common.{◌≡◌, ℕ, ◌/◌, ◌≤◌, length, sym, refl, ap, arith}
 use Rattle.answers.proofs.Stores.{wrote_refused, wrote_short, wrote_all}
 use Rattle.answers.proofs.Conditions.{was_true, was_false}
 use Rattle.format.specs.Forms.{Shape, shape_of, width}
@@ -10,7 +10,7 @@ use Rattle.trace.proofs.write.write_records.Goals.{After-width, Else-not-is_body
 use Rattle.trace.proofs.write.write_records.Goals as goal
 
 good : (c : Else-not-is_body) → BodyTaken (shape_of c.args.form) c.args.records.now
-good c = body_taken (shape_of c.args.form) c.args.records.now (was_true c.is_IsBody.ensures c.if-not-is_body.false)
+good c = body_taken (shape_of c.args.form) c.args.records.now (was_true c.is_body.ensures c.if-not-is_body.false)
 
 few : (c : Else-not-is_body) → length c.args.records.now ≤ 502
 few c = omega (arith, (good c).whole, records_fit (fits c.args.form) (good c).most)
@@ -22,7 +22,7 @@ many : (c : After-width) → length c.args.records.now / c.width.result ≡ leng
 many c = ap (λ (w : ℕ). length c.args.records.now / w) c.width.ensures
 
 pub returns-then-not-is_body : goal.returns-then-not-is_body
-returns-then-not-is_body c = let a = c.args in wrote_refused (records_block (shape_of a.form) a.records.now a.ssrc) a.out.now (body_refused (shape_of a.form) a.records.now (was_false c.is_IsBody.ensures c.if-not-is_body.true))
+returns-then-not-is_body c = let a = c.args in wrote_refused (records_block (shape_of a.form) a.records.now a.ssrc) a.out.now (body_refused (shape_of a.form) a.records.now (was_false c.is_body.ensures c.if-not-is_body.true))
 
 pub returns-then-out-lt-BLOCK : goal.returns-then-out-lt-BLOCK
 returns-then-out-lt-BLOCK c = let a = c.args in wrote_short (records_block (shape_of a.form) a.records.now a.ssrc) a.out.now (good (goal.at.returns-then-out-lt-BLOCK c).Else-not-is_body).no_fault (omega (arith, whole (goal.at.returns-then-out-lt-BLOCK c).Else-not-is_body)) (sym (whole (goal.at.returns-then-out-lt-BLOCK c).Else-not-is_body))
