@@ -1,5 +1,4 @@
 use mathlib.Core.Path.{refl}
-use Prim.Native.Nat.{◌-◌}
 use Rattle.answers.proofs.Stores.{wrote_short, wrote_all}
 use Rattle.table.specs.Field.{line}
 use Rattle.table.specs.Lines.{head_bytes}

@@ -1,7 +1,6 @@
 use borrow.Author.Rules.{rules}
 use mathlib.Core.Path.{◌≡◌, refl, sym, ◌∙◌}
 use mathlib.Core.Bool.{true}
-use Prim.Native.Nat.{◌-◌}
 use Rattle.answers.proofs.Stores.{wrote_refused, wrote_same}
 use Rattle.answers.proofs.Conditions.{was_true, was_false}
 use Rattle.numbers.proofs.Signed.{seen_is}

@@ -1,6 +1,6 @@
 use borrow.Author.Rules.{rules}
 use mathlib.Core.Path.{refl, ◌∙◌}
-use Prim.Native.Nat.{◌-◌, ◌/◌}
+use Prim.Native.Nat.{◌/◌}
 use native.Mathlib.Omega.{arith}
 use lib.ListN.{length-set}
 use Rattle.table.proofs.Digits.{length-one, length_more, length_two, length-least, put_two, put_pair, put_one}
@@ -54,7 +54,7 @@ returns-then-front-lt10 c =
     let loop = c.loop-rest in
     let a = c.args in
     let one = length-one loop.rest c.if-front-lt10.true in
-    record { begins = omega arith; written = put_one loop.out a.out.now (start a.n a.end) loop.last a.n loop.rest loop.invariant.1 loop.invariant.4 c.if-front-lt10.true; }
+    record { begins = omega arith; written = put_one loop.out a.out.now (start a.n a.end) loop.last a.n loop.rest loop.invariant.1 loop.invariant.4 c.if-front-lt10.true }
 
 pub overflow_sub-out-2 : goal.overflow_sub-out-2
 overflow_sub-out-2 c = omega (arith, length_more c.loop-rest.rest c.if-front-lt10.false, length-least (c.loop-rest.rest / 10))
@@ -81,4 +81,4 @@ returns c =
     let a = c.args in
     let more = length_more loop.rest c.if-front-lt10.false in
     let one = length-one (loop.rest / 10) (omega arith) in
-    record { begins = omega arith; written = put_pair loop.out a.out.now (start a.n a.end) loop.last a.n loop.rest loop.invariant.1 loop.invariant.4 c.if-front-lt10.false c.loop-rest-test.false; }
+    record { begins = omega arith; written = put_pair loop.out a.out.now (start a.n a.end) loop.last a.n loop.rest loop.invariant.1 loop.invariant.4 c.if-front-lt10.false c.loop-rest-test.false }

@@ -1,5 +1,4 @@
 use native.Mathlib.Omega.{arith}
-use Prim.Native.Nat.{◌-◌}
 use Rattle.table.specs.Parts.{minus}
 use Rattle.table.proofs.Digits.{length-u64}
 use Rattle.table.proofs.decimal.signed_length.Goals as goal

@@ -1,6 +1,5 @@
 use borrow.Author.Rules.{rules}
 use mathlib.Core.Path.{refl, sym, ◌∙◌}
-use Prim.Native.Nat.{◌-◌}
 use Rattle.table.proofs.Texts.{any_yes, any_no, any_done}
 use Rattle.table.proofs.field.has_special.Goals as goal
 

@@ -1,5 +1,4 @@
 use mathlib.Core.Path.{ap}
-use Prim.Native.Nat.{◌-◌}
 use native.Mathlib.Omega.{arith}
 use native.Mathlib.Numerals.{add-one}
 use lib.ListN.{length, length-set}
@@ -13,7 +12,7 @@ pub bounds-out-at-then-c-eq34 : goal.bounds-out-at-then-c-eq34
 bounds-out-at-then-c-eq34 c = simp length-set (omega (arith, ap length (byte_quote c.args.c c.if-c-eq34.true)))
 
 pub returns-then-c-eq34 : goal.returns-then-c-eq34
-returns-then-c-eq34 c = let e = byte_quote c.args.c c.if-c-eq34.true in record { value = rw e; written = rw (e, add-one); }
+returns-then-c-eq34 c = let e = byte_quote c.args.c c.if-c-eq34.true in record { value = rw e; written = rw (e, add-one) }
 
 pub returns : goal.returns
-returns c = let e = byte_other c.args.c c.if-c-eq34.false in record { value = rw e; written = rw e; }
+returns c = let e = byte_other c.args.c c.if-c-eq34.false in record { value = rw e; written = rw e }

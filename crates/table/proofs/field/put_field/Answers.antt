@@ -1,7 +1,7 @@
 use borrow.Author.Rules.{rules}
 use mathlib.Core.Path.{sym, ap, ◌∙◌}
 use mathlib.Core.List.{List}
-use Prim.Native.Nat.{ℕ, ◌-◌}
+use Prim.Native.Nat.{ℕ}
 use lib.Seq.{sets}
 use Rattle.table.proofs.Texts.{same_bare, other_quoted}
 use Rattle.table.proofs.field.put_field.Goals as goal

@@ -1,6 +1,6 @@
 use borrow.Author.Rules.{rules}
 use mathlib.Core.Path.{refl, ap, ◌∙◌}
-use Prim.Native.Nat.{◌+◌, ◌-◌}
+use Prim.Native.Nat.{◌+◌}
 use native.Mathlib.Omega.{arith}
 use lib.ListN.{length, drop, get_or}
 use Rattle.table.proofs.Texts.{length-turn, doubled_turn, doubled_done}
@@ -23,11 +23,11 @@ loop-i-preserved c =
     let turn = c.loop-i-test.true in (
       omega arith,
       omega (arith, length-turn s loop.i turn),
-      put.auto.1.0 ∙ loop.invariant.2,
+      put.auto.out ∙ loop.invariant.2,
       sets-step _ _ (doubled_byte (get_or s loop.i 0)) (doubled (drop (loop.i + 1) s)) (doubled_turn s loop.i turn) put.ensures.written put.ensures.value ∙ loop.invariant.3,
     )
 
 pub returns : goal.returns
 returns c =
     let done = doubled_done c.args.s.now c.loop-i.i c.loop-i-test.false in
-    record { value = omega (arith, ap length done); written = rw done at c.loop-i.invariant.3; }
+    record { value = omega (arith, ap length done); written = rw done at c.loop-i.invariant.3 }

@@ -1,5 +1,5 @@
 use mathlib.Core.Path.{◌≡◌, ◌∙◌}
-use Prim.Native.Nat.{◌+◌, ◌-◌}
+use Prim.Native.Nat.{◌+◌}
 use native.Mathlib.Omega.{arith}
 use lib.ListN.{length, length-set}
 use Rattle.table.proofs.Texts.{length-quoted, quoted_stored}
@@ -10,8 +10,8 @@ use Rattle.table.proofs.field.put_quoted.Goals as goal
 long : (c : Start) → length (as_field c.args.s.now) ≡ length (doubled c.args.s.now) + 2
 long c = length-quoted c.args.s.now c.requires.0
 
-kept : (c : After-slice_known-2-1) → length c.put_inner-end.new.1.0 ≡ length c.args.out.now
-kept c = c.put_inner-end.auto.1.0 ∙ length-set c.args.out.now 0 34
+kept : (c : After-slice_known-2-1) → length c.put_inner-end.new.out ≡ length c.args.out.now
+kept c = c.put_inner-end.auto.out ∙ length-set c.args.out.now 0 34
 
 pub bounds-out-0 : goal.bounds-out-0
 bounds-out-0 c = omega (arith, long (goal.at.bounds-out-0 c).Start)

@@ -1,6 +1,6 @@
 use mathlib.Core.Path.{◌≡◌, sym}
 use native.Mathlib.Omega.{arith}
-use Prim.Native.Nat.{◌+◌, ◌-◌}
+use Prim.Native.Nat.{◌+◌}
 use mathlib.Core.List.{◌++◌}
 use lib.ListN.{length}
 use Rattle.table.specs.Parts.{behind_commas, tail, whole}
@@ -20,7 +20,7 @@ put_tail-a-requires c = omega (arith, total (goal.at.put_tail-a-requires c).Star
 
 pub put_numbers-requires : goal.put_numbers-requires
 put_numbers-requires c =
-    omega (arith, total (goal.at.put_numbers-requires c).Start, c.put_tail-a.ensures.begins, c.put_tail-a.auto.1.1.1.0)
+    omega (arith, total (goal.at.put_numbers-requires c).Start, c.put_tail-a.ensures.begins, c.put_tail-a.auto.out)
 
 pub put_field-requires : goal.put_field-requires
 put_field-requires c =

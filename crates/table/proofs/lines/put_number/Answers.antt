@@ -8,4 +8,4 @@ pub returns : goal.returns
 returns c =
     let a = c.args in
     let put = c.put_before-at in
-    record { begins = omega arith; written = store_one a.out.now (put.result - 1) 44 (decimal a.n) (omega arith) put.ensures.written; }
+    record { begins = omega arith; written = store_one a.out.now (put.result - 1) 44 (decimal a.n) (omega arith) put.ensures.written }

@@ -32,7 +32,7 @@ loop-left-preserved c =
     let place : loop.place ≡ put.result + length (44 ∷ decimal n) = omega arith in (
       omega arith,
       omega (arith, ap length next, length-append (44 ∷ decimal n) (behind_commas (drop loop.left ns))),
-      put.auto.1.0 ∙ loop.invariant.2,
+      put.auto.out ∙ loop.invariant.2,
       sets-back c.args.out.now put.result (44 ∷ decimal n) (behind_commas (drop loop.left ns)) place loop.invariant.3 put.ensures.written
           ∙ ap (sets c.args.out.now put.result) (sym next),
     )
@@ -42,4 +42,4 @@ returns c =
     let ns = c.args.ns.now in
     let none : c.loop-left.left ≡ 0 = omega arith in
     let all : behind_commas (drop c.loop-left.left ns) ≡ behind_commas ns = ap (λ (i : ℕ). behind_commas (drop i ns)) none in
-    record { begins = omega (arith, ap length all); written = c.loop-left.invariant.3 ∙ ap (sets c.args.out.now c.loop-left.place) all; }
+    record { begins = omega (arith, ap length all); written = c.loop-left.invariant.3 ∙ ap (sets c.args.out.now c.loop-left.place) all }

@@ -26,13 +26,13 @@ overflow_sub-at c = omega (arith, ap length (negative (goal.at.overflow_sub-at c
 
 pub bounds-out-at-then-below : goal.bounds-out-at-then-below
 bounds-out-at-then-below c =
-    simp length-set (omega (arith, ap length (negative (goal.at.bounds-out-at-then-below c).Then-below), c.put_before-at.auto.1.0))
+    simp length-set (omega (arith, ap length (negative (goal.at.bounds-out-at-then-below c).Then-below), c.put_before-at.auto.out))
 
 pub returns-then-below : goal.returns-then-below
 returns-then-below c =
     let put = c.put_before-at in
     let is = negative (goal.at.returns-then-below c).Then-below in
-    record { begins = omega (arith, ap length is); written = rw is (store_two c.args.out.now (put.result - 2) 44 (decimal c.args.size) 45 (omega (arith, ap length is)) put.ensures.written); }
+    record { begins = omega (arith, ap length is); written = rw is (store_two c.args.out.now (put.result - 2) 44 (decimal c.args.size) 45 (omega (arith, ap length is)) put.ensures.written) }
 
 pub put_number-requires : goal.put_number-requires
 put_number-requires c = omega (arith, ap length (other (goal.at.put_number-requires c).Else-below))

@@ -1,6 +1,6 @@
 use mathlib.Core.Path.{◌≡◌, sym, ◌∙◌}
 use native.Mathlib.Omega.{arith}
-use Prim.Native.Nat.{◌+◌, ◌-◌}
+use Prim.Native.Nat.{◌+◌}
 use mathlib.Core.List.{[], ◌∷◌, ◌++◌}
 use lib.ListN.{length, length-set}
 use Rattle.table.specs.Parts.{behind_commas, minus, tail}
@@ -14,8 +14,8 @@ total : (c : Start)
     ≡ length (minus c.args.below c.args.size) + length (behind_commas c.args.back.now) + 3
 total c = length-tail c.args.below c.args.size c.args.back.now
 
-kept : (c : After-put_numbers-a) → length c.put_numbers-a.new.1.0 ≡ length c.args.out.now
-kept c = c.put_numbers-a.auto.1.0 ∙ simp length-set
+kept : (c : After-put_numbers-a) → length c.put_numbers-a.new.out ≡ length c.args.out.now
+kept c = c.put_numbers-a.auto.out ∙ simp length-set
 
 pub overflow_sub-out : goal.overflow_sub-out
 overflow_sub-out c = omega (arith, total (goal.at.overflow_sub-out c).Start)
@@ -39,7 +39,7 @@ pub put_signed-requires : goal.put_signed-requires
 put_signed-requires c = omega (arith, total (goal.at.put_signed-requires c).Start, kept (goal.at.put_signed-requires c).After-put_numbers-a)
 
 pub shape_of-out : goal.shape_of-out
-shape_of-out c = c.put_signed.auto.1.1.0 ∙ kept (goal.at.shape_of-out c).After-put_numbers-a
+shape_of-out c = c.put_signed.auto.out ∙ kept (goal.at.shape_of-out c).After-put_numbers-a
 
 pub returns : goal.returns
 unfolding tail
@@ -51,4 +51,4 @@ returns c =
     let place : sign.result + length (tail c.args.below c.args.size c.args.back.now) ≡ c.args.end = omega (arith, total (goal.at.returns c).Start) in
     let next : numbers.result ≡ sign.result + length (44 ∷ minus c.args.below c.args.size) = omega arith in
     let first = sets-back old numbers.result back (13 ∷ 10 ∷ []) (sym numbers.ensures.begins) (store_end old c.args.end 13 10 (omega (arith, total (goal.at.returns c).Start))) numbers.ensures.written in
-    record { begins = place; written = sets-back old sign.result (44 ∷ minus c.args.below c.args.size) (back ++ (13 ∷ 10 ∷ [])) next first sign.ensures.written; }
+    record { begins = place; written = sets-back old sign.result (44 ∷ minus c.args.below c.args.size) (back ++ (13 ∷ 10 ∷ [])) next first sign.ensures.written }

@@ -1,6 +1,6 @@
 use mathlib.Core.Path.{◌≡◌, refl}
 use native.Mathlib.Omega.{arith}
-use Prim.Native.Nat.{◌+◌, ◌-◌}
+use Prim.Native.Nat.{◌+◌}
 use lib.ListN.{length, length-set}
 use Rattle.answers.proofs.Stores.{wrote_short, wrote_all}
 use Rattle.table.specs.Lines.{number_line}
@@ -18,7 +18,7 @@ returns-then-out-size c =
     wrote_short (number_line a.n) a.out.now refl (omega arith) (omega arith)
 
 pub bounds-out-size-2 : goal.bounds-out-size-2
-bounds-out-size-2 c = simp length-set (omega (arith, c.put_before.auto.1.0))
+bounds-out-size-2 c = simp length-set (omega (arith, c.put_before.auto.out))
 
 pub returns : goal.returns
 returns c =
