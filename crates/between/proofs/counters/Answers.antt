@@ -1,4 +1,3 @@
--- `between::counters` meets its contract. Assumes nothing.
 use borrow.Author.Rules.{rules}
 use mathlib.Core.Path.{◌≡◌, ◌∙◌, subst⁻¹}
 use native.Mathlib.Omega.{arith}
@@ -7,8 +6,7 @@ use mir.Syntax.{w16, w64}
 use mir.Val.{SFits, to_z, of_z}
 use mir.ValLaws.{to_z-of_z}
 use Rattle.between.specs.Differences.{signals_of}
-use Rattle.between.proofs.counters.Statement.{statement}
-use Rattle.between.proofs.counters.Tie as tie
+use Rattle.between.proofs.counters.Goals as goal
 
 -- an i16 is an i64
 widened : (z : ℤ) → SFits w16 z → SFits w64 (to_z w16 (of_z w16 z))
@@ -17,14 +15,11 @@ widened z f = subst⁻¹ (λ (y : ℤ). SFits w64 y) (to_z-of_z w16 z f) (record
 widened_is : (z : ℤ) → SFits w16 z → to_z w64 (of_z w64 (to_z w16 (of_z w16 z))) ≡ z
 widened_is z f = to_z-of_z w64 (to_z w16 (of_z w16 z)) (widened z f) ∙ to_z-of_z w16 z f
 
-cast-t4 : tie.Need-overflow-cast-t4
-cast-t4 c = widened c.lost-since.result (search rules)
+pub overflow_cast-result : goal.overflow_cast-result
+overflow_cast-result c = widened c.lost_since.result (search rules)
 
-returns : tie.Need-returns
+pub returns : goal.returns
 unfolding signals_of
 returns c =
-    let lost = widened_is c.before.lost-since.result (search rules) ∙ c.before.lost-since.ensures in
+    let lost = widened_is c.lost_since.result (search rules) ∙ c.lost_since.ensures in
     λ i. record { lost = lost i; marked = c.since16.ensures i }
-
-pub counters-spec : {M : Type 1} → statement M
-counters-spec = tie.close (tie.spec (λ c κs. search rules) cast-t4 (λ c κs. search rules) (λ c. search rules) returns)
