@@ -19,7 +19,8 @@ back c e = sym (ap (leb (2 ^ 31)) c.since32-expected.ensures) ∙ e
 
 pub returns-then-expected-ge-BACK-clause-value : goal.returns-then-expected-ge-BACK-clause-value
 unfolding expecting_of
-returns-then-expected-ge-BACK-clause-value c = cond_ends _ _ _ _ (back (goal.at.returns-then-expected-ge-BACK-clause-value c).After-since32-expected (le-leb _ _ c.if-expected-ge-BACK.true)) refl
+returns-then-expected-ge-BACK-clause-value c =
+    cond_ends _ _ _ _ (back (goal.at.returns-then-expected-ge-BACK-clause-value c).After-since32-expected (le-leb _ _ c.if-expected-ge-BACK.true)) refl
 
 pub returns-then-expected-ge-BACK-clause-numbered : goal.returns-then-expected-ge-BACK-clause-numbered
 returns-then-expected-ge-BACK-clause-numbered c = ap between_as (returns-then-expected-ge-BACK-clause-value c)

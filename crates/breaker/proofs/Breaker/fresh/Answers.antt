@@ -5,4 +5,14 @@ use Rattle.breaker.proofs.Breaker.fresh.Goals as goal
 pub returns : goal.returns
 returns c =
     let s = c.args in
-    λ i. record { settings = s.settings; state = Running; last = s.time; heard = s.time; reported = false; highest = 0; run = 0; trial = false; window = c.empty-window.ensures i }
+    λ i. record {
+      settings = s.settings;
+      state = Running;
+      last = s.time;
+      heard = s.time;
+      reported = false;
+      highest = 0;
+      run = 0;
+      trial = false;
+      window = c.empty-window.ensures i;
+    }

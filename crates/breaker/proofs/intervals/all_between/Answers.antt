@@ -14,7 +14,8 @@ pub returns-then-not-is_between : goal.returns-then-not-is_between
 returns-then-not-is_between c =
     let s = c.args in
     let i = c.loop-i in
-    sym (i.invariant.3 ∙ fails (between s.least s.most) i.i s.to s.xs c.loop-i-test.true (omega arith) (was_false c.is_between.ensures c.if-not-is_between.true))
+    sym (i.invariant.3 ∙ fails (between s.least s.most) i.i s.to s.xs c.loop-i-test.true (omega arith)
+    (was_false c.is_between.ensures c.if-not-is_between.true))
 
 pub loop-i-preserved : goal.loop-i-preserved
 loop-i-preserved c =

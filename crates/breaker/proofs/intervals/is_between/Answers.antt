@@ -12,8 +12,10 @@ returns-then-most-x c = and_goes _ _ _ (le-leb _ _ c.if-x-least.false) (and_ends
 
 pub returns-then-x-least-2 : goal.returns-then-x-least-2
 returns-then-x-least-2 c =
-    and_goes _ _ _ (le-leb _ _ c.if-x-least.false) (and_goes _ _ _ (le-leb _ _ c.if-most-x.false) (and_ends _ _ (lt-leb _ _ c.if-x-least-2.true)))
+    and_goes _ _ _ (le-leb _ _ c.if-x-least.false)
+    (and_goes _ _ _ (le-leb _ _ c.if-most-x.false) (and_ends _ _ (lt-leb _ _ c.if-x-least-2.true)))
 
 pub returns : goal.returns
 returns c =
-    and_goes _ _ _ (le-leb _ _ c.if-x-least.false) (and_goes _ _ _ (le-leb _ _ c.if-most-x.false) (and_goes _ _ _ (le-leb _ _ c.if-x-least-2.false) (sym (and-true _))))
+    and_goes _ _ _ (le-leb _ _ c.if-x-least.false)
+    (and_goes _ _ _ (le-leb _ _ c.if-most-x.false) (and_goes _ _ _ (le-leb _ _ c.if-x-least-2.false) (sym (and-true _))))

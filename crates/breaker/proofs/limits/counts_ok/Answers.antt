@@ -18,7 +18,8 @@ lost-test c e =
 
 pub returns-then-magnitude-gt-MAX_PACKETS : goal.returns-then-magnitude-gt-MAX_PACKETS
 unfolding counts_ok
-returns-then-magnitude-gt-MAX_PACKETS c = and_ends _ _ (lost-test (goal.at.returns-then-magnitude-gt-MAX_PACKETS c).After-magnitude (lt-leb _ _ c.if-magnitude-gt-MAX_PACKETS.true))
+returns-then-magnitude-gt-MAX_PACKETS c =
+    and_ends _ _ (lost-test (goal.at.returns-then-magnitude-gt-MAX_PACKETS c).After-magnitude (lt-leb _ _ c.if-magnitude-gt-MAX_PACKETS.true))
 
 pub returns-then-c-gt-MAX_PACKETS : goal.returns-then-c-gt-MAX_PACKETS
 unfolding counts_ok

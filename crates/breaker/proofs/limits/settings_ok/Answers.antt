@@ -16,4 +16,5 @@ returns-then-not-is_within-2 c =
 pub returns : goal.returns
 unfolding settings_ok
 returns c =
-    and_goes _ _ _ (was_true c.is_within.ensures c.if-not-is_within.false) (and_goes _ _ _ (was_true c.is_within-2.ensures c.if-not-is_within-2.false) (c.is_within-3.ensures ∙ sym (and-true _)))
+    and_goes _ _ _ (was_true c.is_within.ensures c.if-not-is_within.false)
+    (and_goes _ _ _ (was_true c.is_within-2.ensures c.if-not-is_within-2.false) (c.is_within-3.ensures ∙ sym (and-true _)))

@@ -14,4 +14,5 @@ returns-then-ahead-eq0 c =
 pub returns : goal.returns
 returns c =
     let d = c.since32-ahead.result in
-    or_goes (eqb d 0) (leb (2 ^ 31) d) (leb (2 ^ 31) d) (ne_eqb _ _ c.if-ahead-eq0.false) refl ∙ ap (λ (n : ℕ). eqb n 0 || leb (2 ^ 31) n) c.since32-ahead.ensures
+    or_goes (eqb d 0) (leb (2 ^ 31) d) (leb (2 ^ 31) d) (ne_eqb _ _ c.if-ahead-eq0.false) refl
+    ∙ ap (λ (n : ℕ). eqb n 0 || leb (2 ^ 31) n) c.since32-ahead.ensures

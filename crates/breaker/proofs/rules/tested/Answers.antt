@@ -53,7 +53,8 @@ unfolding tested
 returns-then-not-exceeds c =
     shown (goal.at.returns-then-not-exceeds c).After-window_after-window
     (cond_goes _ _ _ _ (le-ltb _ _ c.if-used-settings.false)
-    (cond_ends _ _ _ _ (ap not (was_false c.exceeds.ensures c.if-not-exceeds.true)) (c.answered-then-not-exceeds.ensures ∙ ap (answers Go) c.stored-then-not-exceeds.ensures)))
+    (cond_ends _ _ _ _ (ap not (was_false c.exceeds.ensures c.if-not-exceeds.true))
+    (c.answered-then-not-exceeds.ensures ∙ ap (answers Go) c.stored-then-not-exceeds.ensures)))
 
 pub returns-then-may_reduce : goal.returns-then-may_reduce
 unfolding tested
