@@ -5,7 +5,7 @@ use lib.IntN.{ℤ, pos, neg_ℤ, ◌-ℤ◌, +ℤ_idl}
 use mir.Syntax.{w64}
 use mir.Val.{SFits}
 use mir.ValLaws.{to_z_pos}
-use Rattle.cases.proofs.numbers.minus.Goals as goal
+use Rattle.cases.proofs.numerals.minus.Goals as goal
 
 negative_fits : (n : ℕ) → n < 2 ^ 63 → SFits w64 (neg_ℤ (pos n))
 negative_fits zero h = record { sfits = omega arith }
