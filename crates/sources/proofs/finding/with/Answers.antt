@@ -1,4 +1,4 @@
-use mathlib.Core.Path.{refl, sym, ◌∙◌}
+use mathlib.Core.Path.{sym, ◌∙◌}
 use borrow.Author.Tests.{not-true, not-false}
 use Rattle.answers.proofs.Conditions.{was_false, was_true}
 use Rattle.sources.proofs.Sights.{next_held, next_other, next_closed}

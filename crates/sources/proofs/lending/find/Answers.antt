@@ -1,6 +1,5 @@
 use mathlib.Core.Path.{refl, sym, ap, subst, ◌∙◌}
 use Prim.Native.Nat.{ℕ, ◌+◌, ◌≤◌}
-use native.Mathlib.Omega.{arith}
 use lib.ListN.{length, drop, take}
 use Rattle.sources.specs.declared.finding.Seen.{Seen}
 use Rattle.sources.specs.Seeing.{seen_from, seen_in}

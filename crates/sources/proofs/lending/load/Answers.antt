@@ -1,10 +1,7 @@
-use mathlib.Core.Path.{refl, sym, ap, subst, ◌∙◌}
-use mathlib.Core.List.{List}
+use mathlib.Core.Path.{sym, ap, subst, ◌∙◌}
 use Prim.Native.Nat.{ℕ, ◌+◌, ◌≤◌}
-use native.Mathlib.Omega.{arith}
 use lib.ListN.{length, drop, take, replicate}
 use lib.Seq.{sets}
-use Rattle.sources.specs.declared.Place.{Place}
 use Rattle.sources.specs.declared.Table.{Table}
 use Rattle.sources.specs.Places.{empty_place}
 use Rattle.sources.proofs.Lent.{in_use_le, in_use_most, sets-place, sets-none, loaded_is}

@@ -6,7 +6,6 @@ use Rattle.format.specs.Blocks.{body_bytes}
 use Rattle.trace.proofs.Accepted.{accepted}
 use mathlib.Core.List.{List}
 use Rattle.walk.specs.Steps.{goes}
-use Rattle.answers.specs.declared.Written.TheVariants as written
 use Rattle.sources.specs.declared.runs.Tally.{Tally}
 use Rattle.sources.specs.Tables.{counted_in}
 use Rattle.sources.specs.Runs.{counted_run, TakesBlock}

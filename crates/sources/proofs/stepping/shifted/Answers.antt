@@ -1,6 +1,5 @@
 use borrow.Author.Rules.{rules}
 use mathlib.Core.Path.{refl, sym, ◌∙◌}
-use Prim.Native.Nat.{◌-◌}
 use lib.ListN.{length-set}
 use Rattle.sources.proofs.Turns.{length-mapped}
 use Rattle.sources.proofs.Tallying.{shifted_turn, shifted_done}

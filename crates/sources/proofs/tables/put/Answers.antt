@@ -1,5 +1,4 @@
 use mathlib.Core.Path.{refl, sym, ◌∙◌}
-use Prim.Native.Nat.{◌-◌}
 use Rattle.sources.specs.Changes.{changed}
 use Rattle.sources.proofs.Pushes.{pushed_turn, pushed_done}
 use Rattle.sources.proofs.tables.put.Goals as goal
