@@ -8,7 +8,7 @@ use Rattle.forms.proofs.started.Goals as goal
 
 -- what the label's writer answered and stored
 begins : (c : After-write_label_as) {r : Begin} → begin_by (Label c.args.form c.requires.0 c.args.ssrc) c.write_label_as.result ≡ r
-    → Began c.args.zeroth.now c.args.out.now r c.write_label_as.new.1.1.0
+    → Began c.args.zeroth.now c.args.out.now r c.write_label_as.new.out
 begins c e = begin_label c.args.zeroth.now c.args.out.now c.requires.1 c.other.ensures c.write_label_as.ensures e
 
 pub returns-in-Length : goal.returns-in-Length

@@ -30,10 +30,10 @@ pub overflow_mul-end : goal.overflow_mul-end
 overflow_mul-end c = omega (arith, fits (goal.at.overflow_mul-end c).After-width)
 
 pub slice_bounds-write_records-end : goal.slice_bounds-write_records-end
-slice_bounds-write_records-end c = sym (length-take-le _ _ (fits (goal.at.slice_bounds-write_records-end c).After-other-to))
+slice_bounds-write_records-end c = sym (length-take-le _ _ (fits (goal.at.slice_bounds-write_records-end c).After-width))
 
 pub returns : goal.returns
 returns c =
     let a = c.args in
-    let octets : Octets a.part.now = λ i. omega (arith, c.shared-slice-known.given i) in
-    close_some a.self a.part.now a.out.now octets (was_true c.is-sound.ensures c.if1.false) (omega (arith, c.if2.false)) c.other.ensures c.width.ensures c.write_records.ensures
+    let octets : Octets a.part.now = λ i. omega (arith, c.shared_slice_known-1.given i) in
+    close_some a.self a.part.now a.out.now octets (was_true c.is_sound.ensures c.if-not-is_sound.false) (omega (arith, c.if-held-eq0.false)) c.other-to.ensures c.width.ensures c.write_records.ensures

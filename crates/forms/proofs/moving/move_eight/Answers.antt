@@ -11,4 +11,4 @@ pub returns : goal.returns
 returns c =
     let run : List ℕ = take 8 (drop c.args.from c.args.s.now) in
     let long : length run ≡ 8 = length-take-le 8 (drop c.args.from c.args.s.now) (rw length-drop (omega (arith, c.requires.0))) in
-    c.put_eight-2.ensures ∙ ap (sets c.args.out.now c.args.at) (by_buffer (replicate 8 0) run refl long c.put-eight.ensures)
+    c.put_eight-2.ensures ∙ ap (sets c.args.out.now c.args.at) (by_buffer (replicate 8 0) run refl long c.put_eight.ensures)

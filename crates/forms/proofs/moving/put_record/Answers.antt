@@ -25,7 +25,7 @@ move_eight-requires-in-Two c =
     (omega (arith, wide), omega (arith, narrow))
 
 pub shape_of-out-in-One : goal.shape_of-out-in-One
-shape_of-out-in-One c = c.move_eight.auto.1.1.0 ∙ simp length-set
+shape_of-out-in-One c = c.move_eight.auto.out ∙ simp length-set
 
 pub returns-in-One : goal.returns-in-One
 returns-in-One c =

@@ -69,7 +69,7 @@ loop-left-preserved c =
       loop.invariant.1,
       omega (arith, mul_turn loop.left w turn),
       omega (arith, mul_turn loop.left step turn),
-      put.auto.1.1.1.0 ∙ loop.invariant.4,
+      put.auto.out ∙ loop.invariant.4,
       (good_turn from a.body.now 1 (loop.left - 1) loop.from more next loop.invariant.5).1,
       sets-step loop.out loop.to (records_bytes to first) (records_bytes to rest) both put.ensures (omega (arith, size)) ∙ loop.invariant.6,
     )

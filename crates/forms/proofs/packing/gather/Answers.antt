@@ -35,14 +35,14 @@ pub overflow_mul-end : goal.overflow_mul-end
 overflow_mul-end c = omega (arith, fits (goal.at.overflow_mul-end c).After-width)
 
 pub slice_bounds-put_bytes-end : goal.slice_bounds-put_bytes-end
-slice_bounds-put_bytes-end c = sym (length-take-le _ _ (fits (goal.at.slice_bounds-put_bytes-end c).After-other-to))
+slice_bounds-put_bytes-end c = sym (length-take-le _ _ (fits (goal.at.slice_bounds-put_bytes-end c).After-width))
 
 pub overflow_add-at : goal.overflow_add-at
-overflow_add-at c = omega (arith, room (goal.at.overflow_add-at c).After-other-to)
+overflow_add-at c = omega (arith, room (goal.at.overflow_add-at c).After-width)
 
 pub put_records-requires : goal.put_records-requires
 put_records-requires c =
-    (c.requires.0.good, c.requires.0.long, omega (arith, room (goal.at.put_records-requires c).After-other-to, c.put_bytes.auto.1.0))
+    (c.requires.0.good, c.requires.0.long, omega (arith, room (goal.at.put_records-requires c).After-width, c.put_bytes.auto.out))
 
 pub returns : goal.returns
 returns c =
@@ -50,8 +50,8 @@ returns c =
     let to : Shape = shape_of (other_form a.form) in
     let held : List Record = records_in to a.held a.part.now in
     let more : List Record = records_in (shape_of a.form) a.n a.body.now in
-    let octets : Octets a.part.now = λ i. omega (arith, c.shared-slice-known.given i) in
-    let at : a.held * c.width.result ≡ a.held * width to = ap (λ (k : ℕ). a.held * k) (wide (goal.at.returns c).After-other-to) in
+    let octets : Octets a.part.now = λ i. omega (arith, c.shared_slice_known-1.given i) in
+    let at : a.held * c.width.result ≡ a.held * width to = ap (λ (k : ℕ). a.held * k) (wide (goal.at.returns c).After-width) in
     let back : records_bytes to held ≡ take (a.held * width to) a.part.now = bytes_records to a.held a.part.now octets c.requires.0.held_long c.requires.0.held_good in
     let first = c.put_bytes.ensures ∙ ap (λ (k : ℕ). sets a.out.now a.at (take k a.part.now)) at ∙ ap (sets a.out.now a.at) (sym back) in
     let size : length (records_bytes to held) ≡ a.held * width to = ap length back ∙ length-take-le _ _ c.requires.0.held_long in

@@ -80,44 +80,44 @@ overflow_mul-from c = omega (arith, from-fit (goal.at.overflow_mul-from c).After
 
 pub write_full-requires : goal.write_full-requires
 write_full-requires c =
-    let m = most_is (goal.at.write_full-requires c).After-other-to in
+    let m = most_is (goal.at.write_full-requires c).After-most-most in
     let room = ap (λ (k : ℕ). (c.args.c.held + c.args.n) / k * 512) m in
-    (omega (arith, (is_sound_lem c.requires.0.whole).few), rw (taken_is c.requires.0 m (some (goal.at.write_full-requires c).After-most-most)) (front_ready c.requires.0 m (some (goal.at.write_full-requires c).After-most-most)), omega (arith, room, c.requires.1))
+    (omega (arith, (is_sound_lem c.requires.0.whole).few), rw (taken_is c.requires.0 m (some (goal.at.write_full-requires c).Else-full-eq0)) (front_ready c.requires.0 m (some (goal.at.write_full-requires c).Else-full-eq0)), omega (arith, room, c.requires.1))
 
 pub overflow_sub-n : goal.overflow_sub-n
-overflow_sub-n c = omega (arith, blocks_most c.requires.0 (most_is (goal.at.overflow_sub-n c).After-other-to) (some (goal.at.overflow_sub-n c).After-most-most))
+overflow_sub-n c = omega (arith, blocks_most c.requires.0 (most_is (goal.at.overflow_sub-n c).After-most-most) (some (goal.at.overflow_sub-n c).Else-full-eq0))
 
 pub slice_bounds-put_records-count : goal.slice_bounds-put_records-count
-slice_bounds-put_records-count c = from-fit (goal.at.slice_bounds-put_records-count c).Else-full-eq0
+slice_bounds-put_records-count c = from-fit (goal.at.slice_bounds-put_records-count c).After-width-2
 
 pub slice_bounds-put_records-start : goal.slice_bounds-put_records-start
-slice_bounds-put_records-start c = from-fit (goal.at.slice_bounds-put_records-start c).Else-full-eq0
+slice_bounds-put_records-start c = from-fit (goal.at.slice_bounds-put_records-start c).After-width-2
 
 pub put_records-requires-2 : goal.put_records-requires-2
 put_records-requires-2 c =
-    let m = most_is (goal.at.put_records-requires-2 c).After-other-to in
+    let m = most_is (goal.at.put_records-requires-2 c).After-most-most in
     let body = c.args.body.now in
     let own : Shape = shape_of c.args.c.form in
     let left = c.args.n - taken (goal.at.put_records-requires-2 c).After-most-most in
     let from = taken (goal.at.put_records-requires-2 c).After-most-most * c.width2.result in
-    let good = ap (good_records own left) (part_tail body from) ∙ ap (λ (k : ℕ). good_records own left (drop k body)) (from_is (goal.at.put_records-requires-2 c).Else-full-eq0) ∙ rest_good c.requires.0 m (some (goal.at.put_records-requires-2 c).After-most-most) in
-    let size = ap length (part_tail body from) ∙ ap (λ (k : ℕ). length (drop k body)) (from_is (goal.at.put_records-requires-2 c).Else-full-eq0) in
-    (good, omega (arith, size, rest_long c.requires.0 m (some (goal.at.put_records-requires-2 c).After-most-most)), omega (arith, rest_fit c.requires.0 m (some (goal.at.put_records-requires-2 c).After-most-most)))
+    let good = ap (good_records own left) (part_tail body from) ∙ ap (λ (k : ℕ). good_records own left (drop k body)) (from_is (goal.at.put_records-requires-2 c).After-width-2) ∙ rest_good c.requires.0 m (some (goal.at.put_records-requires-2 c).Else-full-eq0) in
+    let size = ap length (part_tail body from) ∙ ap (λ (k : ℕ). length (drop k body)) (from_is (goal.at.put_records-requires-2 c).After-width-2) in
+    (good, omega (arith, size, rest_long c.requires.0 m (some (goal.at.put_records-requires-2 c).Else-full-eq0)), omega (arith, rest_fit c.requires.0 m (some (goal.at.put_records-requires-2 c).Else-full-eq0)))
 
 pub returns : goal.returns
 returns c =
-    let m = most_is (goal.at.returns c).After-other-to in
+    let m = most_is (goal.at.returns c).After-most-most in
     let body = c.args.body.now in
     let own : Shape = shape_of c.args.c.form in
     let to : Shape = to_shape c.args.c in
-    let full = (c.args.c.held + c.args.n) / c.most.result in
+    let full = (c.args.c.held + c.args.n) / c.most-most.result in
     let left = c.args.n - taken (goal.at.returns c).After-most-most in
     let from = taken (goal.at.returns c).After-most-most * c.width2.result in
     record {
       stores = c.write_full.ensures
-          ∙ ap (λ (j : ℕ). sets c.args.out.now 0 (full_blocks to c.args.c.ssrc full (joined c.args.c.form c.args.c.held c.args.part.now j body))) (taken_is c.requires.0 m (some (goal.at.returns c).After-most-most))
-          ∙ ap (sets c.args.out.now 0) (full_stored c.requires.0 m (some (goal.at.returns c).After-most-most) c.args.c.ssrc);
+          ∙ ap (λ (j : ℕ). sets c.args.out.now 0 (full_blocks to c.args.c.ssrc full (joined c.args.c.form c.args.c.held c.args.part.now j body))) (taken_is c.requires.0 m (some (goal.at.returns c).Else-full-eq0))
+          ∙ ap (sets c.args.out.now 0) (full_stored c.requires.0 m (some (goal.at.returns c).Else-full-eq0) c.args.c.ssrc);
       keeps = c.put_records-2.ensures
-          ∙ ap (λ (l : List ℕ). sets c.args.part.now 0 (records_bytes to (records_in own left l))) (part_tail body from ∙ ap (λ (j : ℕ). drop j body) (from_is (goal.at.returns c).Else-full-eq0))
-          ∙ ap (λ (l : List Record). sets c.args.part.now 0 (records_bytes to l)) (rest_left c.requires.0 m (some (goal.at.returns c).After-most-most));
+          ∙ ap (λ (l : List ℕ). sets c.args.part.now 0 (records_bytes to (records_in own left l))) (part_tail body from ∙ ap (λ (j : ℕ). drop j body) (from_is (goal.at.returns c).After-width-2))
+          ∙ ap (λ (l : List Record). sets c.args.part.now 0 (records_bytes to l)) (rest_left c.requires.0 m (some (goal.at.returns c).Else-full-eq0));
     }

@@ -63,13 +63,13 @@ loop-left-preserved c =
     let next : loop.from + step ≡ loop.from + (to.most - loop.first) * width (shape_of a.form) = rw (most_is (goal.at.loop-left-preserved c).In-loop-left, c.width-width.ensures) in
     let block : List ℕ = arrivals_block to (joined a.form loop.first part (to.most - loop.first) (drop loop.from body)) a.ssrc in
     let rest : List ℕ = full_blocks to a.ssrc (loop.left - 1) (joined a.form 0 part ((loop.left - 1) * to.most - 0) (drop (loop.from + step) body)) in
-    let stores : put.new.1.1.1.1.1.0 ≡ sets loop.out loop.at block = rw (part_tail body loop.from) at put.ensures in
+    let stores : put.new.out ≡ sets loop.out loop.at block = rw (part_tail body loop.from) at put.ensures in
     let long : length block ≡ 512 = length-full_block a.form loop.first part (drop loop.from body) loop.invariant.0 a.ssrc in (
       omega arith,
       others_ready a.form part body loop.first loop.left loop.from loop.invariant.1 turn loop.invariant.0 next,
       inside (goal.at.loop-left-preserved c).In-loop-left,
       omega (arith, turn, loop.invariant.3),
-      put.auto.1.1.1.1.1.0 ∙ loop.invariant.4,
+      put.auto.out ∙ loop.invariant.4,
       sets-step loop.out loop.at block rest (full_turn a.form part body loop.first loop.left loop.from loop.invariant.1 turn loop.invariant.0 next a.ssrc) stores (omega (arith, long)) ∙ loop.invariant.5,
     )
 

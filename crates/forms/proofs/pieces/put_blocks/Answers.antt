@@ -10,6 +10,6 @@ returns c =
     let step = c.step in
     record {
       put = put_of (carries its part) (bytes_in its part next) c.args.out.now c.args.at c.requires.1 (carried_by its part next)
-          (carries step.result.conversion step.new.1.0) step.result.answer step.new.1.1.1.0 step.ensures;
+          (carries step.result.conversion step.new.part) step.result.answer step.new.out step.ensures;
       after = step.ensures.after;
     }

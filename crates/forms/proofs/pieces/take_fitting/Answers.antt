@@ -33,16 +33,16 @@ pub loop-at-preserved : goal.loop-at-preserved
 loop-at-preserved c =
     let loop = c.loop-at in
     let octets : Octets c.args.piece.now = λ i. omega (arith, c.shared_slice_known-1.given i) in
-    loop_taken loop.invariant c.loop-at-test.true refl c.put_blocks-step.ensures octets c.in-Length.is c.put_blocks-step.auto.1.0
+    loop_taken loop.invariant c.loop-at-test.true refl c.put_blocks-step.ensures octets c.in-Length.is c.put_blocks-step.auto.part
 
 pub overflow_add-used : goal.overflow_add-used
 overflow_add-used c = omega (arith, loop_inside (loop-again (goal.at.overflow_add-used c).After-conversion-1))
 
 pub shape_of-part-in-Room : goal.shape_of-part-in-Room
-shape_of-part-in-Room c = c.put_blocks-step.auto.1.0 ∙ c.loop-at.invariant.long
+shape_of-part-in-Room c = c.put_blocks-step.auto.part ∙ c.loop-at.invariant.long
 
 pub shape_of-out-in-Room : goal.shape_of-out-in-Room
-shape_of-out-in-Room c = c.put_blocks-step.auto.1.1.1.0 ∙ loop_size c.loop-at.invariant
+shape_of-out-in-Room c = c.put_blocks-step.auto.out ∙ loop_size c.loop-at.invariant
 
 pub returns-in-Room : goal.returns-in-Room
 returns-in-Room c =
@@ -51,10 +51,10 @@ returns-in-Room c =
     loop_pauses loop.invariant c.loop-at-test.true refl c.put_blocks-step.ensures octets c.in-Room.is
 
 pub shape_of-part-in-Refused : goal.shape_of-part-in-Refused
-shape_of-part-in-Refused c = c.put_blocks-step.auto.1.0 ∙ c.loop-at.invariant.long
+shape_of-part-in-Refused c = c.put_blocks-step.auto.part ∙ c.loop-at.invariant.long
 
 pub shape_of-out-in-Refused : goal.shape_of-out-in-Refused
-shape_of-out-in-Refused c = c.put_blocks-step.auto.1.1.1.0 ∙ loop_size c.loop-at.invariant
+shape_of-out-in-Refused c = c.put_blocks-step.auto.out ∙ loop_size c.loop-at.invariant
 
 pub returns-in-Refused : goal.returns-in-Refused
 returns-in-Refused c = loop_refused c.loop-at.invariant c.loop-at-test.true refl c.put_blocks-step.ensures c.in-Refused.is

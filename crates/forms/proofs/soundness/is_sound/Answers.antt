@@ -44,16 +44,16 @@ pub overflow_mul-end : goal.overflow_mul-end
 overflow_mul-end c = omega (arith, fits (goal.at.overflow_mul-end c).After-width)
 
 pub slice_bounds-is_body-end : goal.slice_bounds-is_body-end
-slice_bounds-is_body-end c = sym (length-take-le _ _ (fits (goal.at.slice_bounds-is_body-end c).Else-held-eq0))
+slice_bounds-is_body-end c = sym (length-take-le _ _ (fits (goal.at.slice_bounds-is_body-end c).After-width))
 
 pub returns : goal.returns
 returns c =
     let a = c.args in
-    let other = c.other.ensures in
+    let other = c.other-to.ensures in
     let wide : c.width.result ≡ width (to_shape a.c) = c.width.ensures ∙ ap (λ (f : Form). width (shape_of f)) other in
-    let inside = few (goal.at.returns c).After-most in
-    let room = c.if1.false in
+    let inside = few (goal.at.returns c).Else-most-held in
+    let room = c.if-part-lt-BODY_BYTES.false in
     let body = c.is_IsBody.ensures ∙ ap (λ (f : Form). body_ok (shape_of f) (take (a.c.held * c.width.result) a.part.now)) other
     ∙ ap (λ (w : ℕ). body_ok (to_shape a.c) (take (a.c.held * w) a.part.now)) wide in
     sound_last a.c a.part.now room inside
-    (body ∙ body_good (to_shape a.c) a.c.held a.part.now (held_fits a.c a.part.now room inside) (omega (arith, c.if3.false)) (omega (arith, inside)))
+    (body ∙ body_good (to_shape a.c) a.c.held a.part.now (held_fits a.c a.part.now room inside) (omega (arith, c.if-held-eq0.false)) (omega (arith, inside)))

@@ -6,10 +6,10 @@ use Rattle.forms.proofs.pieces.Progress.begin.Goals.{After-start}
 use Rattle.forms.proofs.pieces.Progress.begin.Goals as goal
 
 -- by the answer of `Conversion.start`
-begun_by_lem : (c : After-start) {r : Begin} → c.start.result ≡ r → Begins c.args.zeroth.now c.args.out.now (begun_for r) c.start.new.1.0
+begun_by_lem : (c : After-start) {r : Begin} → c.start.result ≡ r → Begins c.args.zeroth.now c.args.out.now (begun_for r) c.start.new.out
 begun_by_lem c e =
     let a = c.args in
-    subst (λ (r : Begin). Begins a.zeroth.now a.out.now (begun_for r) c.start.new.1.0) e (begins a.zeroth.now a.out.now c.start.ensures.began)
+    subst (λ (r : Begin). Begins a.zeroth.now a.out.now (begun_for r) c.start.new.out) e (begins a.zeroth.now a.out.now c.start.ensures.began)
 
 pub returns-in-Started : goal.returns-in-Started
 returns-in-Started c = begun_by_lem (goal.at.returns-in-Started c).After-start c.in-Started.is
