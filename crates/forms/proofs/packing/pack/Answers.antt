@@ -98,8 +98,8 @@ put_records-requires-2 c =
     let m = most_is (goal.at.put_records-requires-2 c).After-most-most in
     let body = c.args.body.now in
     let own : Shape = shape_of c.args.c.form in
-    let left = c.args.n - taken (goal.at.put_records-requires-2 c).After-most-most in
-    let from = taken (goal.at.put_records-requires-2 c).After-most-most * c.width2.result in
+    let left = c.args.n - taken (goal.at.put_records-requires-2 c).Else-full-eq0 in
+    let from = taken (goal.at.put_records-requires-2 c).Else-full-eq0 * c.width-2.result in
     let good = ap (good_records own left) (part_tail body from) ∙ ap (λ (k : ℕ). good_records own left (drop k body)) (from_is (goal.at.put_records-requires-2 c).After-width-2) ∙ rest_good c.requires.0 m (some (goal.at.put_records-requires-2 c).Else-full-eq0) in
     let size = ap length (part_tail body from) ∙ ap (λ (k : ℕ). length (drop k body)) (from_is (goal.at.put_records-requires-2 c).After-width-2) in
     (good, omega (arith, size, rest_long c.requires.0 m (some (goal.at.put_records-requires-2 c).Else-full-eq0)), omega (arith, rest_fit c.requires.0 m (some (goal.at.put_records-requires-2 c).Else-full-eq0)))
@@ -111,8 +111,8 @@ returns c =
     let own : Shape = shape_of c.args.c.form in
     let to : Shape = to_shape c.args.c in
     let full = (c.args.c.held + c.args.n) / c.most-most.result in
-    let left = c.args.n - taken (goal.at.returns c).After-most-most in
-    let from = taken (goal.at.returns c).After-most-most * c.width2.result in
+    let left = c.args.n - taken (goal.at.returns c).Else-full-eq0 in
+    let from = taken (goal.at.returns c).Else-full-eq0 * c.width-2.result in
     record {
       stores = c.write_full.ensures
           ∙ ap (λ (j : ℕ). sets c.args.out.now 0 (full_blocks to c.args.c.ssrc full (joined c.args.c.form c.args.c.held c.args.part.now j body))) (taken_is c.requires.0 m (some (goal.at.returns c).Else-full-eq0))

@@ -1,5 +1,4 @@
 use mathlib.Core.Path.{refl, ◌∙◌}
-use Prim.Native.Nat.{◌-◌}
 use native.Mathlib.Omega.{arith}
 use Rattle.numbers.proofs.BigEndian.{Octets}
 use Rattle.forms.proofs.Fitted.{loop_first, loop_sound, loop_within, loop_inside, loop_size, loop_last, loop_taken, loop_pauses, loop_refused}
@@ -36,7 +35,11 @@ loop-at-preserved c =
     loop_taken loop.invariant c.loop-at-test.true refl c.put_blocks-step.ensures octets c.in-Length.is c.put_blocks-step.auto.part
 
 pub overflow_add-used : goal.overflow_add-used
-overflow_add-used c = omega (arith, loop_inside (loop-again (goal.at.overflow_add-used c).After-conversion-1))
+overflow_add-used c =
+    let loop = c.loop-at in
+    let octets : Octets c.args.piece.now = λ i. omega (arith, c.shared_slice_known-1.given i) in
+    let again = loop_taken loop.invariant c.loop-at-test.true refl c.put_blocks-step.ensures octets c.in-Length.is c.put_blocks-step.auto.part in
+    omega (arith, loop_inside again)
 
 pub shape_of-part-in-Room : goal.shape_of-part-in-Room
 shape_of-part-in-Room c = c.put_blocks-step.auto.part ∙ c.loop-at.invariant.long

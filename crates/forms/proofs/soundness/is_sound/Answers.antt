@@ -53,7 +53,7 @@ returns c =
     let wide : c.width.result ≡ width (to_shape a.c) = c.width.ensures ∙ ap (λ (f : Form). width (shape_of f)) other in
     let inside = few (goal.at.returns c).Else-most-held in
     let room = c.if-part-lt-BODY_BYTES.false in
-    let body = c.is_IsBody.ensures ∙ ap (λ (f : Form). body_ok (shape_of f) (take (a.c.held * c.width.result) a.part.now)) other
+    let body = c.is_body.ensures ∙ ap (λ (f : Form). body_ok (shape_of f) (take (a.c.held * c.width.result) a.part.now)) other
     ∙ ap (λ (w : ℕ). body_ok (to_shape a.c) (take (a.c.held * w) a.part.now)) wide in
     sound_last a.c a.part.now room inside
     (body ∙ body_good (to_shape a.c) a.c.held a.part.now (held_fits a.c a.part.now room inside) (omega (arith, c.if-held-eq0.false)) (omega (arith, inside)))

@@ -1,4 +1,3 @@
-use borrow.Enum.Refused.{opened}
 use borrow.Author.Rules.{rules}
 use Rattle.answers.proofs.Conditions.{was_true, was_false}
 use Rattle.forms.proofs.PieceCalls.{takes_over, takes_malformed, takes_some}
@@ -7,7 +6,7 @@ use Rattle.forms.proofs.pieces.Progress.blocks.Goals as goal
 pub returns-in_default : goal.returns-in_default
 returns-in_default c =
     let a = c.args in
-    rw c.none_taken.ensures (takes_over a.self a.part.now a.piece.now a.out.now (search rules) (opened c.in_default.in_default-own.keys2))
+    rw c.none_taken.ensures (takes_over a.self a.part.now a.piece.now a.out.now (search rules) c.in_default.in_default-own.keys2)
 
 pub returns-then-not-is_sound : goal.returns-then-not-is_sound
 returns-then-not-is_sound c =
