@@ -9,9 +9,8 @@ use Rattle.convert.proofs.Run.start.Goals as goal
 pub returns-in-Label-clause-value : goal.returns-in-Label-clause-value
 returns-in-Label-clause-value c =
     let read = c.read_label in
-    let is = c.form-1.given in
-    ap (λ (t : Totals). begin.Started (record { form = is.0.0; length = is.0.1.0; ssrc = is.0.1.1.0; totals = t })) c.fresh-totals.ensures
-    ∙ sym (start_by_lem c.args.zeroth.now (sym read.ensures.value ∙ is.1))
+    ap (λ (t : Totals). begin.Started (record { form = c.in-Label.form; length = c.in-Label.length; ssrc = c.in-Label.ssrc; totals = t })) c.fresh-totals.ensures
+    ∙ sym (start_by_lem c.args.zeroth.now (sym read.ensures.value ∙ c.in-Label.is))
 
 pub returns-in-Label-clause-numbered : goal.returns-in-Label-clause-numbered
 returns-in-Label-clause-numbered c = ap begin_as (returns-in-Label-clause-value c)

@@ -1,5 +1,5 @@
 use mathlib.Core.Path.{refl, ◌∙◌}
-use Prim.Native.Nat.{ℕ, ◌-◌}
+use Prim.Native.Nat.{ℕ}
 use native.Mathlib.Omega.{arith}
 use native.Mathlib.Nat.{zero-add}
 use Rattle.trace.proofs.Tallies.{tally_turn, tally_rule}
@@ -21,8 +21,8 @@ loop-i-preserved c =
     let s = c.args.s.now in (
       omega arith,
       omega (arith, c.shared_slice_known-1.given loop.i),
-      tally_turn (λ ((goal.at.loop-i-preserved c).After-shared_slice_known-1 : ℕ). (goal.at.loop-i-preserved c).After-shared_slice_known-1) s loop.i loop.sum c.loop-i-test.true ∙ loop.invariant.2,
+      tally_turn (λ (n : ℕ). n) s loop.i loop.sum c.loop-i-test.true ∙ loop.invariant.2,
     )
 
 pub returns : goal.returns
-returns c = tally_rule (λ ((goal.at.returns c).After-loop-i : ℕ). (goal.at.returns c).After-loop-i) is_zero (λ (goal.at.returns c).After-loop-i. refl) _ _ _ c.loop-i.invariant.2 c.loop-i-test.false
+returns c = tally_rule (λ (n : ℕ). n) is_zero (λ _. refl) _ _ _ c.loop-i.invariant.2 c.loop-i-test.false

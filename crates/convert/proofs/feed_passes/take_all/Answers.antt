@@ -31,8 +31,7 @@ forward_at-moved-requires c = c.loop-at.invariant.sound
 turn : (c : In-Row)
     → let a = c.args in
     let l = c.loop-at in
-    let m = c.moved-1.given.0 in
-    Passage a.start a.zeroth.now a.piece.now a.out.now a.from m.0 (l.at + 512) c.forward_at-moved.new.out (l.used + m.1.0)
+    Passage a.start a.zeroth.now a.piece.now a.out.now a.from c.in-Row.next (l.at + 512) c.forward_at-moved.new.out (l.used + c.in-Row.length)
 turn c =
     let a = c.args in
     let l = c.loop-at in

@@ -1,4 +1,3 @@
-use borrow.Enum.Refused.{opened}
 use mathlib.Core.Path.{◌≡◌, sym, ap, ap₂, ◌∙◌}
 use mathlib.Core.Bool.{true, false, and-true}
 use borrow.Author.Tests.{eq-eqb, ne_eqb}
@@ -9,7 +8,7 @@ use Rattle.convert.proofs.SoundUploads.{own_refused}
 use Rattle.convert.proofs.feed_soundness.is_own.Goals as goal
 
 pub returns-in_default : goal.returns-in_default
-returns-in_default c = let a = c.args in sym (ap (own_by a.run) (sym c.read_label-read.ensures.value) ∙ own_refused a.run c.read_label-read.result (opened c.in_default.in_default-own.keys2))
+returns-in_default c = let a = c.args in sym (ap (own_by a.run) (sym c.read_label-read.ensures.value) ∙ own_refused a.run c.read_label-read.result c.in_default.in_default-own.keys2)
 
 pub returns-then-label : goal.returns-then-label
 returns-then-label c =

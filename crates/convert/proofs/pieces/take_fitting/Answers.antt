@@ -34,11 +34,10 @@ turn : (c : After-run-1)
 turn c =
     let l = c.loop-at in
     let p = c.put_row-step in
-    let a = c.answer-1.given in
     let octets : Octets c.args.piece.now = λ i. omega (arith, c.shared_slice_known-2-1.given i) in
     let next = next_of l.run (take (l.at + 512 - l.at) (drop l.at c.args.piece.now)) in
     loop_taken l.invariant c.loop-at-test.true refl octets
-    (subst (PutBy next (row_in c.args.zeroth.now next) l.out l.used p.result.run p.new.out) a.1 p.ensures)
+    (subst (PutBy next (row_in c.args.zeroth.now next) l.out l.used p.result.run p.new.out) c.in-Length.is p.ensures)
 
 pub overflow_add-used : goal.overflow_add-used
 overflow_add-used c = let t = turn (goal.at.overflow_add-used c).After-run-1 in omega (arith, loop_inside t, c.well_formed)
