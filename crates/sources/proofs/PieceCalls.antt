@@ -18,7 +18,6 @@ use Rattle.answers.proofs.Stores.{wrote_all, wrote_refused}
 use Rattle.answers.specs.contracts.Written.{the_type}
 use Rattle.format.specs.Blocks.{block_bytes}
 use Rattle.table.specs.Lines.{refused_line}
-use Rattle.walk.specs.Programs.{nothing}
 use Rattle.walk.specs.Pieces.{whole_in}
 use Rattle.walk.specs.Fitting.{Took, fitting}
 use Rattle.walk.specs.Machines.{fitting_by, ending_by}
