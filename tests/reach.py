@@ -15,7 +15,13 @@ def read(path):
 
 # ---- modules
 
-OWN = re.compile(r"\.(?:Proof|Tie|Lts|Code|Code\.Mir)")  # what no other function's proof rests on
+# What no other function's proof rests on.
+OWN = re.compile(r"\.(?:Proof|Answers|Invariants|Goals(?:\..+)?|Given|Lts(?:\..+)?|Tie|Named|Layout|TheLink|Code(?:\..+)?)")
+
+
+def contract_of(function):
+    """The module of the contract of the function whose proof's modules begin so."""
+    return function.replace("-proofs.", "-specs.contracts.", 1)
 
 
 def imports(path):
@@ -36,21 +42,23 @@ def checked(folder):
 
 
 class Modules:
-    """The modules of a crate, and what each rests on."""
+    """The modules of a crate, those of its files of proofs among them, and what each rests on."""
 
-    def __init__(self, crate, folder):
-        self.crate = crate
-        self.edges = {module: imports(path) for module, path in checked(folder).items() if module.startswith(f"Rattle·{crate}·")}
+    def __init__(self, crate, folder, texts):
+        self.crate, self.texts = crate, texts
+        self.edges = {module: imports(path) for module, path in checked(folder).items() if module.startswith(f"Rattle-{crate}-")}
         contracts = [module[:-10] for module in self.edges if module.endswith(".Statement")]
-        names = ["/".join(("src." + contract.split("·proofs.proofs.", 1)[1]).split(".")[-2:]) for contract in contracts]
-        # By function, as its folder of proofs is named, with the type or the module that it belongs to: the module of its contract. None of a name that two have.
-        self.functions = {name: contract for name, contract in zip(names, contracts) if names.count(name) == 1}
-        self.owner = {module: self.owned(module, set(contracts)) for module in self.edges}
+        names = ["/".join(("src." + each.split("-proofs.", 1)[1]).split(".")[-2:]) for each in contracts]
+        # By function, as its folder of proofs is named, with the type or the module that it belongs to: how its modules' names begin. None of a name that
+        # two have.
+        self.functions = {name: each for name, each in zip(names, contracts) if names.count(name) == 1}
+        self.all = set(contracts)
+        self.owner = {module: self.owned(module) for module in self.edges}
         self.rests = {}
 
-    @staticmethod
-    def owned(module, contracts):
-        while module and module not in contracts:
+    def owned(self, module):
+        """The function that a module belongs to, or nothing."""
+        while module and module not in self.all:
             module = module.rpartition(".")[0]
         return module
 
@@ -85,19 +93,20 @@ class Modules:
         return self.rests[module]
 
     def sees(self, module, change):
-        """Whether a module can tell a change: (True, the contract's module of a function whose body it is) or (False, the module whose text it is)."""
+        """Whether a module can tell a change: (True, the function whose body it is) or (False, the module whose text it is)."""
         body, place = change
         return self.owner.get(module) == place if body else module in self.edges and place in self.all_below(module)
 
     def judged(self):
         """The modules that an error may be of: laws, and the proofs of functions."""
-        return [module for module in self.edges if "·proofs." in module and (not self.owner[module] or module.endswith(".Proof"))]
+        return [module for module in self.edges if module == self.owner[module] + ".Proof" or (not self.owner[module] and module in self.texts)]
 
     def near(self, change):
         """Those of them where an error is looked for first: a function's own proof, or what names the module."""
         body, place = change
-        if body or self.owner.get(place) == place:
-            return {place + ".Proof"} & self.edges.keys()
+        own = place if body else next((each for each in self.all if contract_of(each) == place), "")
+        if own:
+            return {own + ".Proof"} & self.edges.keys()
         judged = [module for module in self.judged() if self.sees(module, change)]
         return {module for module in judged if place in self.edges[module]} or set(judged)
 
@@ -117,11 +126,11 @@ class Files:
     """The files of definitions and laws of a crate, `specs.NAME` and `proofs.NAME`, with what each uses of the others."""
 
     def __init__(self, folder):
-        self.name = re.compile(rf"Rattle·{os.path.basename(folder)}·(?:specs|proofs)\.((?:specs|proofs)\.(\w+))((?:\.[\w-]+)*)")
+        self.name = re.compile(rf"Rattle\.{os.path.basename(folder)}\.((?:specs|proofs)\.(\w+))((?:\.[\w-]+)*)")
         self.texts = {
             f"{part}.{file[:-5]}": read(os.path.join(folder, part, file))
             for part in ("specs", "proofs") if os.path.isdir(os.path.join(folder, part)) for file in sorted(os.listdir(os.path.join(folder, part)))
-            if file.endswith(".antt") and file != "Lib.antt" and re.search(rf"^pub mod {file[:-5]}$", read(os.path.join(folder, part, "Lib.antt")), re.M)
+            if file.endswith(".antt") and file != "Lib.antt" and re.search(rf"^(?:pub )?mod {file[:-5]}$", read(os.path.join(folder, part, "Lib.antt")), re.M)
         }
         self.uses = {file: {found.group(1) for found in self.name.finditer(text)} & self.texts.keys() for file, text in self.texts.items()}
         # Those that name something of this crate that is no such file, as a function, of which there can be no copy.
