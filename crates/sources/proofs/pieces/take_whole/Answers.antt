@@ -1,4 +1,3 @@
-use borrow.Enum.Refused.{opened}
 use borrow.Author.Rules.{rules}
 use Prim.Native.Nat.{◌+◌, ◌-◌, ◌≤◌}
 use native.Mathlib.Omega.{arith}
@@ -63,7 +62,7 @@ loop-at-preserved c =
     let run = c.take-known.result.run in
     let at = c.take-known.result.at in
     taking_more (bytes (goal.at.loop-at-preserved c).After-shared_slice_known-1) (taken (goal.at.loop-at-preserved c).After-take-known) (omega (arith, c.if-piece-from-lt-BLOCK.false))
-    (told_goes run (next_of run (take (at + 512 - at) (drop at a.piece.now))) c.step-next.result c.step-next.ensures (opened c.in_default.in_default-own.keys2))
+    (told_goes run (next_of run (take (at + 512 - at) (drop at a.piece.now))) c.step-next.result c.step-next.ensures c.in_default.not-Refused)
 
 pub returns : goal.returns
 returns c = let l = c.loop-at in taking_last (bytes (goal.at.returns c).After-shared_slice_known-1) l.invariant (omega (arith, c.loop-at-test.false))
