@@ -18,7 +18,8 @@ returns-then-not-is_of_trace c =
     let a = c.args in
     let b = a.block.now in
     subst (TakesBlock a.run (next_of a.run b)) (sym c.refused-then-not-is_of_trace.ensures)
-    (takes_refuses a.run (next_foreign a.run b (sym c.read_block-read.ensures.value ∙ c.in-Arrivals.is) (was_false c.is_of_trace.ensures c.if-not-is_of_trace.true)))
+    (takes_refuses a.run
+    (next_foreign a.run b (sym c.read_block-read.ensures.value ∙ c.in-Arrivals.is) (was_false c.is_of_trace.ensures c.if-not-is_of_trace.true)))
 
 pub count_in-requires : goal.count_in-requires
 count_in-requires c =
@@ -30,4 +31,5 @@ returns c =
     let a = c.args in
     let b = a.block.now in
     subst (λ n. TakesBlock a.run n c.count_in.result)
-    (sym (next_goes a.run b (sym c.read_block-read.ensures.value ∙ c.in-Arrivals.is) (was_true c.is_of_trace.ensures c.if-not-is_of_trace.false))) c.count_in.ensures
+    (sym (next_goes a.run b (sym c.read_block-read.ensures.value ∙ c.in-Arrivals.is) (was_true c.is_of_trace.ensures c.if-not-is_of_trace.false)))
+    c.count_in.ensures
