@@ -1,13 +1,10 @@
 -- The calls over pieces, case by case. Assumes nothing.
 use mathlib.Core.Path.{◌≡◌, refl, sym, ap, ◌∙◌}
-use mathlib.Core.Logic.{⊎_elim}
 use mathlib.Core.List.{List, [], ◌∷◌}
 use mathlib.Core.Option.{Option, none, some}
 use Prim.Native.Nat.{ℕ, ◌/◌, ◌^◌, ◌≤◌, ◌<◌}
 use native.Mathlib.Omega.{arith}
-use denote.Enum.Declared.{tag_of}
 use lib.ListN.{length}
-use types.Run.{OneOf}
 use Rattle.answers.specs.Refusals.{number_of}
 use Rattle.answers.specs.Writers.{Wrote}
 use Rattle.answers.specs.declared.Refusal.{Refusal}
@@ -15,7 +12,6 @@ use Rattle.answers.specs.declared.Refusal.TheVariants.{Incomplete}
 use Rattle.answers.specs.declared.Written.{Written}
 use Rattle.answers.specs.declared.Written.TheVariants.{Length, Room, Refused}
 use Rattle.answers.proofs.Stores.{wrote_all, wrote_refused}
-use Rattle.answers.specs.contracts.Written.{the_type}
 use Rattle.format.specs.Blocks.{block_bytes}
 use Rattle.table.specs.Lines.{refused_line}
 use Rattle.walk.specs.Pieces.{whole_in}

@@ -1,32 +1,27 @@
 -- What a block does to a run, case by case, and what the calls give. Assumes nothing.
 use mathlib.Core.Path.{◌≡◌, refl, sym, ap, ◌∙◌}
 use mathlib.Core.Bool.{Bool, true, false, cond}
-use mathlib.Core.Logic.{⊎_elim}
-use mathlib.Core.List.{List, [], ◌∷◌, ◌++◌}
+use mathlib.Core.List.{List, [], ◌++◌}
 use mathlib.Core.Option.{Option, none, some}
 use Prim.Native.Nat.{ℕ, ◌+◌, ◌-◌, ◌≤◌}
 use native.Mathlib.Omega.{arith}
-use denote.Enum.Declared.{tag_of}
 use lib.Dec.{ltb}
 use lib.ListN.{length, drop}
 use lib.Seq.{sets}
 use borrow.Author.Tests.{le-ltb}
 use borrow.Rule.Slice.PartMut.{put_mid}
-use types.Run.{OneOf}
 use Rattle.answers.specs.Writers.{Wrote, written, stored, size_in}
 use Rattle.answers.specs.declared.Refusal.{Refusal}
 use Rattle.answers.specs.declared.Refusal.TheVariants.{Contents}
 use Rattle.answers.specs.declared.Written.{Written}
 use Rattle.answers.specs.declared.Written.TheVariants.{Length, Room, Refused}
 use Rattle.answers.proofs.Stores.{wrote_all}
-use Rattle.answers.specs.contracts.Written as answers
 use Rattle.format.specs.Forms.{shape_of, width, same_form}
 use Rattle.format.specs.declared.Form.{Form}
 use Rattle.format.proofs.Same.{same_form_lem}
 use Rattle.trace.specs.Reading.{block_of, fault_of}
 use Rattle.trace.specs.declared.Block.{Block}
 use Rattle.trace.specs.declared.Block.TheVariants as read
-use Rattle.trace.specs.contracts.Block.{the_type}
 use Rattle.walk.specs.Steps.{Next, goes, refuses, fault_in, state_after}
 use Rattle.walk.proofs.Putting.{step_refuses, part, part_long, part_front}
 use Rattle.sources.specs.declared.Stand.{Stand}
