@@ -13,8 +13,11 @@ use Rattle.engine.proofs.runs.count.Goals as goal
 
 pub along-t-requires : goal.along-t-requires
 along-t-requires c =
-    let b = c.begun.ensures in
-    (c.requires.held.0, subst (λ (t : Lean). LeanFits c.args.n t) (sym b.0) (begun_fits c.args.s c.args.n c.requires.held.1 c.requires.held.0.few b.1), c.requires.held.2)
+    let b = c.begun.ensures in (
+      c.requires.held.0,
+      subst (λ (t : Lean). LeanFits c.args.n t) (sym b.0) (begun_fits c.args.s c.args.n c.requires.held.1 c.requires.held.0.few b.1),
+      c.requires.held.2,
+    )
 
 pub restored-source-requires : goal.restored-source-requires
 restored-source-requires c =
@@ -30,6 +33,7 @@ returns c =
     let counts = c.along-t.result.counts in
     let low : byte 0 counts ≡ counts % 256 = omega arith in
     let behind = run_behind c.args.s c.args.n c.requires.held.1 c.requires.held.0.few b.1 ps size c.requires.wired c.requires.held.2 in
-    let stands = subst (λ (t : Lean). Behind c.args.s ps (restored c.args.s (taken_all ps (begun c.args.s))) (byte 0 t.counts) (byte 6 t.counts)) (sym state) behind in
+    let stands = subst (λ (t : Lean). Behind c.args.s ps (restored c.args.s (taken_all ps (begun c.args.s))) (byte 0 t.counts) (byte 6 t.counts))
+    (sym state) behind in
     subst (λ (x : ℕ). Behind c.args.s ps c.restored-source.result x (byte 6 counts)) low
     (subst (λ (x : Source). Behind c.args.s ps x (byte 0 counts) (byte 6 counts)) (sym source) stands)

@@ -19,7 +19,8 @@ added_up-requires-then-width-eq-USUAL c =
 
 pub returns-then-width-eq-USUAL : goal.returns-then-width-eq-USUAL
 returns-then-width-eq-USUAL c =
-    subst (λ (w : ℕ). SumsOf c.args.turned (held w c.args.records.now) c.added_up-then-width-eq-USUAL.result) (sym c.if-width-eq-USUAL.true) c.added_up-then-width-eq-USUAL.ensures
+    subst (λ (w : ℕ). SumsOf c.args.turned (held w c.args.records.now) c.added_up-then-width-eq-USUAL.result) (sym c.if-width-eq-USUAL.true)
+    c.added_up-then-width-eq-USUAL.ensures
 
 pub added_up-requires-then-size-eq-WHOLE_LONG : goal.added_up-requires-then-size-eq-WHOLE_LONG
 added_up-requires-then-size-eq-WHOLE_LONG c =
@@ -27,7 +28,8 @@ added_up-requires-then-size-eq-WHOLE_LONG c =
 
 pub returns-then-size-eq-WHOLE_LONG : goal.returns-then-size-eq-WHOLE_LONG
 returns-then-size-eq-WHOLE_LONG c =
-    subst (λ (w : ℕ). SumsOf c.args.turned (held w c.args.records.now) c.added_up-then-size-eq-WHOLE_LONG.result) (sym c.if-width-eq-LONG.true) c.added_up-then-size-eq-WHOLE_LONG.ensures
+    subst (λ (w : ℕ). SumsOf c.args.turned (held w c.args.records.now) c.added_up-then-size-eq-WHOLE_LONG.result) (sym c.if-width-eq-LONG.true)
+    c.added_up-then-size-eq-WHOLE_LONG.ensures
 
 pub added_up-requires-then-width-eq-LONG : goal.added_up-requires-then-width-eq-LONG
 added_up-requires-then-width-eq-LONG c =
@@ -35,4 +37,5 @@ added_up-requires-then-width-eq-LONG c =
 
 pub returns-then-width-eq-LONG : goal.returns-then-width-eq-LONG
 returns-then-width-eq-LONG c =
-    subst (λ (w : ℕ). SumsOf c.args.turned (held w c.args.records.now) c.added_up-then-width-eq-LONG.result) (sym c.if-width-eq-LONG.true) c.added_up-then-width-eq-LONG.ensures
+    subst (λ (w : ℕ). SumsOf c.args.turned (held w c.args.records.now) c.added_up-then-width-eq-LONG.result) (sym c.if-width-eq-LONG.true)
+    c.added_up-then-width-eq-LONG.ensures

@@ -17,7 +17,8 @@ room c =
     let a = c.args in
     room_left a.width a.records.now c.loop-at.at c.loop-at.invariant.2.left (inside c)
 
-few : (c : In-loop-at) → (c.loop-at.whole ≤ 7650) × (c.loop-at.halves ≤ 7650) × (c.loop-at.threes ≤ 7650) × (c.loop-at.fours ≤ 7650) × (c.loop-at.strays ≤ 30) × (c.loop-at.expected ≤ 73215)
+few : (c : In-loop-at) → (c.loop-at.whole ≤ 7650) × (c.loop-at.halves ≤ 7650) × (c.loop-at.threes ≤ 7650) × (c.loop-at.fours ≤ 7650)
+    × (c.loop-at.strays ≤ 30) × (c.loop-at.expected ≤ 73215)
 few c =
     let a = c.args in
     adding_room a.width a.records.now a.turned c.loop-at.invariant.2 (inside c)
@@ -44,7 +45,14 @@ pub overflow_add-fours : goal.overflow_add-fours
 overflow_add-fours c = omega (arith, (few (goal.at.overflow_add-fours c).In-loop-at).3)
 
 pub overflow_add-strays : goal.overflow_add-strays
-overflow_add-strays c = omega (arith, (few (goal.at.overflow_add-strays c).In-loop-at).4, c.differs-strays.ensures, bit_le (not (eqb (c.ending-word.result % 65536) c.loop-at.expected)))
+overflow_add-strays c =
+    omega (
+      arith,
+      (few (goal.at.overflow_add-strays c).In-loop-at).4,
+      c.differs-strays.ensures,
+      bit_le
+          (not (eqb (c.ending-word.result % 65536) c.loop-at.expected)),
+    )
 
 pub overflow_add-expected : goal.overflow_add-expected
 overflow_add-expected c = omega (arith, (few (goal.at.overflow_add-expected c).In-loop-at).5)
@@ -58,8 +66,12 @@ loop-at-smaller c = omega (arith, c.loop-at-test.true, c.loop-at.invariant.0)
 pub loop-at-preserved : goal.loop-at-preserved
 loop-at-preserved c =
     let a = c.args in
-    let l = c.loop-at in
-    (l.invariant.0, l.invariant.1, adding_next a.width a.records.now a.turned l.invariant.2 (inside (goal.at.loop-at-preserved c).In-loop-at) c.ending-word.result c.differs-strays.result c.ending-word.ensures c.differs-strays.ensures)
+    let l = c.loop-at in (
+      l.invariant.0,
+      l.invariant.1,
+      adding_next a.width a.records.now a.turned l.invariant.2 (inside (goal.at.loop-at-preserved c).In-loop-at)
+          c.ending-word.result c.differs-strays.result c.ending-word.ensures c.differs-strays.ensures,
+    )
 
 pub returns : goal.returns
 returns c =

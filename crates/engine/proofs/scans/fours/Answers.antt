@@ -19,7 +19,8 @@ fours_along-requires-then-width-eq-USUAL c =
 
 pub returns-then-width-eq-USUAL : goal.returns-then-width-eq-USUAL
 returns-then-width-eq-USUAL c =
-    subst (λ (w : ℕ). c.fours_along-then-width-eq-USUAL.result ≡ total (λ t. t / 4) (held w c.args.records.now)) (sym c.if-width-eq-USUAL.true) c.fours_along-then-width-eq-USUAL.ensures
+    subst (λ (w : ℕ). c.fours_along-then-width-eq-USUAL.result ≡ total (λ t. t / 4) (held w c.args.records.now)) (sym c.if-width-eq-USUAL.true)
+    c.fours_along-then-width-eq-USUAL.ensures
 
 pub fours_along-requires-then-size-eq-WHOLE_LONG : goal.fours_along-requires-then-size-eq-WHOLE_LONG
 fours_along-requires-then-size-eq-WHOLE_LONG c =
@@ -27,7 +28,8 @@ fours_along-requires-then-size-eq-WHOLE_LONG c =
 
 pub returns-then-size-eq-WHOLE_LONG : goal.returns-then-size-eq-WHOLE_LONG
 returns-then-size-eq-WHOLE_LONG c =
-    subst (λ (w : ℕ). c.fours_along-then-size-eq-WHOLE_LONG.result ≡ total (λ t. t / 4) (held w c.args.records.now)) (sym c.if-width-eq-LONG.true) c.fours_along-then-size-eq-WHOLE_LONG.ensures
+    subst (λ (w : ℕ). c.fours_along-then-size-eq-WHOLE_LONG.result ≡ total (λ t. t / 4) (held w c.args.records.now)) (sym c.if-width-eq-LONG.true)
+    c.fours_along-then-size-eq-WHOLE_LONG.ensures
 
 pub fours_along-requires-then-width-eq-LONG : goal.fours_along-requires-then-width-eq-LONG
 fours_along-requires-then-width-eq-LONG c =
@@ -35,4 +37,5 @@ fours_along-requires-then-width-eq-LONG c =
 
 pub returns-then-width-eq-LONG : goal.returns-then-width-eq-LONG
 returns-then-width-eq-LONG c =
-    subst (λ (w : ℕ). c.fours_along-then-width-eq-LONG.result ≡ total (λ t. t / 4) (held w c.args.records.now)) (sym c.if-width-eq-LONG.true) c.fours_along-then-width-eq-LONG.ensures
+    subst (λ (w : ℕ). c.fours_along-then-width-eq-LONG.result ≡ total (λ t. t / 4) (held w c.args.records.now)) (sym c.if-width-eq-LONG.true)
+    c.fours_along-then-width-eq-LONG.ensures

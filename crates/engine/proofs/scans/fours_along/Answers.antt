@@ -34,8 +34,12 @@ loop-at-smaller c = omega (arith, c.loop-at-test.true, c.loop-at.invariant.0)
 pub loop-at-preserved : goal.loop-at-preserved
 loop-at-preserved c =
     let a = c.args in
-    let l = c.loop-at in
-    (l.invariant.0, l.invariant.1, fours_next a.width a.records.now 0 l.invariant.2 (inside (goal.at.loop-at-preserved c).In-loop-at) c.ending-word.result _ c.ending-word.ensures)
+    let l = c.loop-at in (
+      l.invariant.0,
+      l.invariant.1,
+      fours_next a.width a.records.now 0 l.invariant.2 (inside (goal.at.loop-at-preserved c).In-loop-at) c.ending-word.result _
+          c.ending-word.ensures,
+    )
 
 pub returns : goal.returns
 returns c =

@@ -1,7 +1,8 @@
 use mathlib.Core.Path.{refl}
 use native.Mathlib.Omega.{arith}
 use Rattle.engine.specs.Windows.{held}
-use Rattle.engine.proofs.Marked.{some_fours, twice_fit, ones-fit, ones_is, zeros_fit, halves_fit, zeros_is, threes_fit, twos_is, known_whole, known_halves, known_threes, known_all, scanned_is}
+use Rattle.engine.proofs.Marked.{some_fours, twice_fit, ones-fit, ones_is, zeros_fit, halves_fit, zeros_is}
+use Rattle.engine.proofs.Marked.{threes_fit, twos_is, known_whole, known_halves, known_threes, known_all, scanned_is}
 use Rattle.engine.proofs.scans.marks.Goals as goal
 
 pub returns-then-sums-gt0 : goal.returns-then-sums-gt0
@@ -16,7 +17,8 @@ overflow_sub-ones c =
     let h = c.requires.0 in
     let none = c.if-sums-gt0.false in
     twice_fit c.args.n d.result.whole d.result.halves d.result.threes _ _ _ _ (known_whole c.args.width s c.args.n c.args.turned d.result h d.ensures none)
-    (known_halves c.args.width s c.args.n c.args.turned d.result h d.ensures none) (known_threes c.args.width s c.args.n c.args.turned d.result h d.ensures none)
+    (known_halves c.args.width s c.args.n c.args.turned d.result h d.ensures none)
+    (known_threes c.args.width s c.args.n c.args.turned d.result h d.ensures none)
     (known_all c.args.width s c.args.n c.args.turned d.result h d.ensures none)
 
 pub overflow_sub-ones-2 : goal.overflow_sub-ones-2
@@ -26,7 +28,8 @@ overflow_sub-ones-2 c =
     let h = c.requires.0 in
     let none = c.if-sums-gt0.false in
     ones-fit c.args.n d.result.whole d.result.halves d.result.threes _ _ _ _ (known_whole c.args.width s c.args.n c.args.turned d.result h d.ensures none)
-    (known_halves c.args.width s c.args.n c.args.turned d.result h d.ensures none) (known_threes c.args.width s c.args.n c.args.turned d.result h d.ensures none)
+    (known_halves c.args.width s c.args.n c.args.turned d.result h d.ensures none)
+    (known_threes c.args.width s c.args.n c.args.turned d.result h d.ensures none)
     (known_all c.args.width s c.args.n c.args.turned d.result h d.ensures none)
 
 pub overflow_sub-scan : goal.overflow_sub-scan
@@ -36,7 +39,8 @@ overflow_sub-scan c =
     let h = c.requires.0 in
     let none = c.if-sums-gt0.false in
     zeros_fit c.args.n d.result.whole d.result.halves d.result.threes _ _ _ _ (known_whole c.args.width s c.args.n c.args.turned d.result h d.ensures none)
-    (known_halves c.args.width s c.args.n c.args.turned d.result h d.ensures none) (known_threes c.args.width s c.args.n c.args.turned d.result h d.ensures none)
+    (known_halves c.args.width s c.args.n c.args.turned d.result h d.ensures none)
+    (known_threes c.args.width s c.args.n c.args.turned d.result h d.ensures none)
     (known_all c.args.width s c.args.n c.args.turned d.result h d.ensures none)
 
 pub overflow_sub-scan-2 : goal.overflow_sub-scan-2
@@ -46,7 +50,8 @@ overflow_sub-scan-2 c =
     let h = c.requires.0 in
     let none = c.if-sums-gt0.false in
     halves_fit c.args.n d.result.whole d.result.halves d.result.threes _ _ _ _ (known_whole c.args.width s c.args.n c.args.turned d.result h d.ensures none)
-    (known_halves c.args.width s c.args.n c.args.turned d.result h d.ensures none) (known_threes c.args.width s c.args.n c.args.turned d.result h d.ensures none)
+    (known_halves c.args.width s c.args.n c.args.turned d.result h d.ensures none)
+    (known_threes c.args.width s c.args.n c.args.turned d.result h d.ensures none)
     (known_all c.args.width s c.args.n c.args.turned d.result h d.ensures none)
 
 pub overflow_sub-scan-3 : goal.overflow_sub-scan-3
@@ -56,7 +61,8 @@ overflow_sub-scan-3 c =
     let h = c.requires.0 in
     let none = c.if-sums-gt0.false in
     threes_fit c.args.n d.result.whole d.result.halves d.result.threes _ _ _ _ (known_whole c.args.width s c.args.n c.args.turned d.result h d.ensures none)
-    (known_halves c.args.width s c.args.n c.args.turned d.result h d.ensures none) (known_threes c.args.width s c.args.n c.args.turned d.result h d.ensures none)
+    (known_halves c.args.width s c.args.n c.args.turned d.result h d.ensures none)
+    (known_threes c.args.width s c.args.n c.args.turned d.result h d.ensures none)
     (known_all c.args.width s c.args.n c.args.turned d.result h d.ensures none)
 
 pub returns : goal.returns

@@ -10,8 +10,11 @@ use Rattle.engine.proofs.steps.near.Goals as goal
 
 pub with_mark-next-requires : goal.with_mark-next-requires
 with_mark-next-requires c =
-    let a = c.args in
-    (c.fall-k.ensures.1, subst (λ (h : History). h.older < 2 ^ 36) (sym c.moved-past.ensures) (pack_lt 36 (λ k. moved c.rise-up.result (marks a.t.history) (64 + k))))
+    let a = c.args in (
+      c.fall-k.ensures.1,
+      subst (λ (h : History). h.older < 2 ^ 36) (sym c.moved-past.ensures)
+          (pack_lt 36 (λ k. moved c.rise-up.result (marks a.t.history) (64 + k))),
+    )
 
 pub returns : goal.returns
 returns c =

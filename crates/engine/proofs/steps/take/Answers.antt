@@ -22,5 +22,6 @@ returns-then-d-lt-NEAR c = c.near-then-d-lt-NEAR.ensures
 pub returns : goal.returns
 returns c =
     let a = c.args in
-    let d = far_ahead a.t a.number a.mark (above a.t.highest a.number) (omega arith) (λ l. omega (arith, l, c.if-d-lt-JUMPS.false)) (λ l. omega (arith, l, c.if-d-lt-NEAR.false)) in
+    let d = far_ahead a.t a.number a.mark (above a.t.highest a.number) (omega arith) (λ l. omega (arith, l, c.if-d-lt-JUMPS.false))
+    (λ l. omega (arith, l, c.if-d-lt-NEAR.false)) in
     c.ahead.ensures ∙ ahead_taken a.t a.number a.mark d.0 d.1

@@ -39,25 +39,34 @@ outside : (c : Then-below-ge-WIDE) → within (top_of c.args.s) (held c.args.wid
 outside c =
     let first = first_is (up-After-number-first _ _ _ _ c.before.before.before.before.before) in
     let far : 64 ≤ (top_of c.args.s + 65536 - word 2 c.args.records.now (c.args.width - 4)) % 65536 =
-    subst (λ (x : ℕ). 64 ≤ x) (ap₂ (λ (top first : ℕ). (top + 65536 - first) % 65536) (top-is (up-After-magnitude _ _ _ _ c.before.before)) first) c.if-below-ge-WIDE.true in
+    subst (λ (x : ℕ). 64 ≤ x) (ap₂ (λ (top first : ℕ). (top + 65536 - first) % 65536) (top-is (up-After-magnitude _ _ _ _ c.before.before)) first)
+    c.if-below-ge-WIDE.true in
     first_outside (top_of c.args.s) c.args.width c.args.records.now c.args.n c.requires.0 far
 
 pub number-first-requires : goal.number-first-requires
 number-first-requires c =
-    let h = c.requires.0 in
-    (h.wide, room_left c.args.width c.args.records.now 0 (all_left c.args.width c.args.records.now h.whole) (part_some c.args.width c.args.records.now c.args.n h))
+    let h = c.requires.0 in (
+      h.wide,
+      room_left c.args.width c.args.records.now 0 (all_left c.args.width c.args.records.now h.whole)
+          (part_some c.args.width c.args.records.now c.args.n h),
+    )
 
 pub returns-then-fours-gt0 : goal.returns-then-fours-gt0
 returns-then-fours-gt0 c =
     let a = c.args in
-    let s = a.records.now in
-    (some_fours (held a.width s) (omega (arith, c.if-fours-gt0.true, c.fours.ensures)), packets_wired a.width (length s / a.width) s (octets (goal.at.returns-then-fours-gt0 c).After-shared_slice_known-1))
+    let s = a.records.now in (
+      some_fours (held a.width s) (omega (arith, c.if-fours-gt0.true, c.fours.ensures)),
+      packets_wired a.width (length s / a.width) s
+          (octets (goal.at.returns-then-fours-gt0 c).After-shared_slice_known-1),
+    )
 
 pub returns-then-below-ge-WIDE : goal.returns-then-below-ge-WIDE
 returns-then-below-ge-WIDE c =
     let a = c.args in
-    let s = a.records.now in
-    ((no_fours (held a.width s) (omega (arith, c.if-fours-gt0.false, c.fours.ensures)), outside (goal.at.returns-then-below-ge-WIDE c).Then-below-ge-WIDE), packets_wired a.width (length s / a.width) s (octets (goal.at.returns-then-below-ge-WIDE c).After-shared_slice_known-1))
+    let s = a.records.now in (
+      (no_fours (held a.width s) (omega (arith, c.if-fours-gt0.false, c.fours.ensures)), outside (goal.at.returns-then-below-ge-WIDE c).Then-below-ge-WIDE),
+      packets_wired a.width (length s / a.width) s (octets (goal.at.returns-then-below-ge-WIDE c).After-shared_slice_known-1),
+    )
 
 pub placed-requires : goal.placed-requires
 placed-requires c =
@@ -75,5 +84,8 @@ returns-in-Fits c =
 pub returns-in-Misfit : goal.returns-in-Misfit
 returns-in-Misfit c =
     let a = c.args in
-    let s = a.records.now in
-    (misfit_of (turned c.number-first.result) (held a.width s) (sym c.in-Misfit.is ∙ c.marks.ensures), packets_wired a.width (length s / a.width) s (octets (goal.at.returns-in-Misfit c).After-shared_slice_known-1))
+    let s = a.records.now in (
+      misfit_of (turned c.number-first.result) (held a.width s) (sym c.in-Misfit.is ∙ c.marks.ensures),
+      packets_wired a.width (length s / a.width) s
+          (octets (goal.at.returns-in-Misfit c).After-shared_slice_known-1),
+    )

@@ -18,13 +18,19 @@ size c = c.magnitude.ensures ∙ ap nat_abs (seen_is c.args.s.highest.0 (search 
 
 -- what is found, in the record's own window
 told : (c : After-find-found) → c.find-found.result ≡ found_in (top_of c.args.s) (held c.args.width c.args.records.now)
-told c = c.find-found.ensures ∙ ap (λ (m : ℕ). found_in (m % 65536 + 40) (held c.args.width c.args.records.now)) (size (up-After-magnitude _ _ _ _ c.before.before))
+told c =
+    c.find-found.ensures
+    ∙ ap (λ (m : ℕ). found_in (m % 65536 + 40) (held c.args.width c.args.records.now)) (size (up-After-magnitude _ _ _ _ c.before.before))
 
 pub find-found-requires : goal.find-found-requires
 find-found-requires c =
     record {
       held = (c.requires.held.0, omega arith);
-      from_first = (c.requires.from_first.0, scan_strays c.args.width c.args.records.now c.args.n (turned c.args.first) c.requires.held.0 c.args.scan c.requires.from_first.1);
+      from_first = (
+        c.requires.from_first.0,
+        scan_strays c.args.width c.args.records.now c.args.n (turned c.args.first) c.requires.held.0 c.args.scan
+            c.requires.from_first.1,
+      );
     }
 
 pub returns-in_default : goal.returns-in_default

@@ -30,12 +30,13 @@ returns-then-below-ge-WIDE c =
 
 pub returns-then-astray-eq0 : goal.returns-then-astray-eq0
 returns-then-astray-eq0 c =
+    let p = (goal.at.returns-then-astray-eq0 c).After-shared_slice_known-1 in
     let a = c.args in
     let s = a.records.now in
     let size = length-packets a.width (length s / a.width) s ∙ c.requires.held.0.count in
     c.row.ensures ∙ ap (λ (n : ℕ). row_from n ((a.top + 65536 - a.first) % 65536)) (sym size)
-    ∙ row_found a.top (held a.width s) a.first ((a.top + 65536 - a.first) % 65536) (narrow (goal.at.returns-then-astray-eq0 c).After-shared_slice_known-1)
-    (packets_wired a.width (length s / a.width) s (octets (goal.at.returns-then-astray-eq0 c).After-shared_slice_known-1)) (sym c.requires.from_first.1 ∙ c.if-astray-eq0.true) refl c.if-below-ge-WIDE.false
+    ∙ row_found a.top (held a.width s) a.first ((a.top + 65536 - a.first) % 65536) (narrow p)
+    (packets_wired a.width (length s / a.width) s (octets p)) (sym c.requires.from_first.1 ∙ c.if-astray-eq0.true) refl c.if-below-ge-WIDE.false
 
 pub returns-then-found-ge-WIDE : goal.returns-then-found-ge-WIDE
 returns-then-found-ge-WIDE c =

@@ -39,8 +39,13 @@ loop-at-smaller c = omega (arith, c.loop-at-test.true, c.loop-at.invariant.0)
 pub loop-at-preserved : goal.loop-at-preserved
 loop-at-preserved c =
     let a = c.args in
-    let l = c.loop-at in
-    (l.invariant.0, l.invariant.1, l.invariant.2, looking_next a.width a.records.now a.top l.invariant.3 (inside (goal.at.loop-at-preserved c).In-loop-at) (a.top + 65536 - c.number.result) (ap (λ (n : ℕ). a.top + 65536 - n) c.number.ensures.0))
+    let l = c.loop-at in (
+      l.invariant.0,
+      l.invariant.1,
+      l.invariant.2,
+      looking_next a.width a.records.now a.top l.invariant.3 (inside (goal.at.loop-at-preserved c).In-loop-at)
+          (a.top + 65536 - c.number.result) (ap (λ (n : ℕ). a.top + 65536 - n) c.number.ensures.0),
+    )
 
 pub returns : goal.returns
 returns c =

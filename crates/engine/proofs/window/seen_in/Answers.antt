@@ -18,7 +18,8 @@ seen_along-requires-then-width-eq-USUAL c =
 
 pub returns-then-width-eq-USUAL : goal.returns-then-width-eq-USUAL
 returns-then-width-eq-USUAL c =
-    subst (λ (w : ℕ). SeenIn c.args.top (held w c.args.records.now) c.seen_along-then-width-eq-USUAL.result) (sym c.if-width-eq-USUAL.true) c.seen_along-then-width-eq-USUAL.ensures
+    subst (λ (w : ℕ). SeenIn c.args.top (held w c.args.records.now) c.seen_along-then-width-eq-USUAL.result) (sym c.if-width-eq-USUAL.true)
+    c.seen_along-then-width-eq-USUAL.ensures
 
 pub seen_along-requires-then-size-eq-WHOLE_LONG : goal.seen_along-requires-then-size-eq-WHOLE_LONG
 seen_along-requires-then-size-eq-WHOLE_LONG c =
@@ -26,7 +27,8 @@ seen_along-requires-then-size-eq-WHOLE_LONG c =
 
 pub returns-then-size-eq-WHOLE_LONG : goal.returns-then-size-eq-WHOLE_LONG
 returns-then-size-eq-WHOLE_LONG c =
-    subst (λ (w : ℕ). SeenIn c.args.top (held w c.args.records.now) c.seen_along-then-size-eq-WHOLE_LONG.result) (sym c.if-width-eq-LONG.true) c.seen_along-then-size-eq-WHOLE_LONG.ensures
+    subst (λ (w : ℕ). SeenIn c.args.top (held w c.args.records.now) c.seen_along-then-size-eq-WHOLE_LONG.result) (sym c.if-width-eq-LONG.true)
+    c.seen_along-then-size-eq-WHOLE_LONG.ensures
 
 pub seen_along-requires-then-width-eq-LONG : goal.seen_along-requires-then-width-eq-LONG
 seen_along-requires-then-width-eq-LONG c =
@@ -34,4 +36,5 @@ seen_along-requires-then-width-eq-LONG c =
 
 pub returns-then-width-eq-LONG : goal.returns-then-width-eq-LONG
 returns-then-width-eq-LONG c =
-    subst (λ (w : ℕ). SeenIn c.args.top (held w c.args.records.now) c.seen_along-then-width-eq-LONG.result) (sym c.if-width-eq-LONG.true) c.seen_along-then-width-eq-LONG.ensures
+    subst (λ (w : ℕ). SeenIn c.args.top (held w c.args.records.now) c.seen_along-then-width-eq-LONG.result) (sym c.if-width-eq-LONG.true)
+    c.seen_along-then-width-eq-LONG.ensures

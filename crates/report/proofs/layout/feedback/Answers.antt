@@ -12,12 +12,15 @@ use Rattle.report.proofs.layout.feedback.Goals as goal
 pub returns-then-out-lt32 : goal.returns-then-out-lt32
 returns-then-out-lt32 c =
     let a = c.args in
-    wrote_short (feedback_of a.sender a.media a.highest a.c) a.out.now refl (omega (arith, length-feedback a.sender a.media a.highest a.c)) (sym (length-feedback a.sender a.media a.highest a.c))
+    wrote_short (feedback_of a.sender a.media a.highest a.c) a.out.now refl (omega (arith, length-feedback a.sender a.media a.highest a.c))
+    (sym (length-feedback a.sender a.media a.highest a.c))
 
 pub returns : goal.returns
 returns c =
     let a = c.args in
-    let bytes : words_bytes (0x88CD0007 ∷ a.sender ∷ a.media ∷ a.highest ∷ a.c.ect0 ∷ a.c.ect1 ∷ c.pair-marked.result ∷ c.pair-missed.result ∷ []) ≡ feedback_of a.sender a.media a.highest a.c =
+    let bytes : words_bytes
+    (0x88CD0007 ∷ a.sender ∷ a.media ∷ a.highest ∷ a.c.ect0 ∷ a.c.ect1 ∷ c.pair-marked.result ∷ c.pair-missed.result ∷ []) ≡ feedback_of a.sender a.media
+    a.highest a.c =
     ap₂ (λ (x y : ℕ). words_bytes (0x88CD0007 ∷ a.sender ∷ a.media ∷ a.highest ∷ a.c.ect0 ∷ a.c.ect1 ∷ x ∷ y ∷ [])) c.pair-marked.ensures c.pair-missed.ensures
     ∙ sym (feedback_words_lem a.c (search rules) (search rules) a.sender a.media a.highest) in
     let size = length-feedback a.sender a.media a.highest a.c in

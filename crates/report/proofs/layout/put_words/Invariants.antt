@@ -7,7 +7,8 @@ use Rattle.report.proofs.layout.put_words.Given as goal
 
 abbrev pub invariant-loop-i : goal.invariant-loop-i
 invariant-loop-i l =
-    (length l.out ≡ length l.initial.out) × (l.i ≤ length l.words) × (sets l.out (4 * l.i) (words_bytes (drop l.i l.words)) ≡ sets l.initial.out 0 (words_bytes l.words))
+    (length l.out ≡ length l.initial.out) × (l.i ≤ length l.words)
+    × (sets l.out (4 * l.i) (words_bytes (drop l.i l.words)) ≡ sets l.initial.out 0 (words_bytes l.words))
 
 abbrev pub decreases-loop-i : goal.decreases-loop-i
 decreases-loop-i l = length l.words - l.i

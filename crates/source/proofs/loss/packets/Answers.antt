@@ -98,18 +98,31 @@ overflow_cast-result c =
 pub returns-then-distinct-span : goal.returns-then-distinct-span
 unfolding span distinct-here source
 returns-then-distinct-span c =
-    to_z_pos w64 (span (goal.at.returns-then-distinct-span c).After-struct_known-1 - distinct-here (goal.at.returns-then-distinct-span c).After-struct_known-1) (omega (arith, span_small (goal.at.returns-then-distinct-span c).After-struct_known-1))
-    ∙ sym (lost-here (goal.at.returns-then-distinct-span c).After-struct_known-1 ∙ minus_pos (span (goal.at.returns-then-distinct-span c).After-struct_known-1) (distinct-here (goal.at.returns-then-distinct-span c).After-struct_known-1) c.if-distinct-span.true)
+    let p = (goal.at.returns-then-distinct-span c).After-struct_known-1 in
+    to_z_pos w64 (span p - distinct-here
+    p) (omega (arith, span_small p))
+    ∙ sym (lost-here p
+    ∙ minus_pos (span p)
+    (distinct-here p) c.if-distinct-span.true)
 
 pub overflow_sub-result-3 : goal.overflow_sub-result-3
 unfolding span distinct-here source
 overflow_sub-result-3 c =
-    let x = distinct-here (goal.at.overflow_sub-result-3 c).After-struct_known-1 - span (goal.at.overflow_sub-result-3 c).After-struct_known-1 in
-    rw (turned x (omega arith) (omega (arith, distinct-small (goal.at.overflow_sub-result-3 c).After-struct_known-1))) (record { sfits = omega (arith, distinct-small (goal.at.overflow_sub-result-3 c).After-struct_known-1) })
+    let p = (goal.at.overflow_sub-result-3 c).After-struct_known-1 in
+    let x = distinct-here p - span p in
+    rw (turned x (omega arith) (omega (arith, distinct-small p)))
+    (record { sfits = omega (arith, distinct-small p) })
 
 pub returns : goal.returns
 unfolding span distinct-here source
 returns c =
-    let x = distinct-here (goal.at.returns c).After-struct_known-1 - span (goal.at.returns c).After-struct_known-1 in
-    rw (turned x (omega arith) (omega (arith, distinct-small (goal.at.returns c).After-struct_known-1)), to_z-of_z w64 (negsuc (x - 1)) (record { sfits = omega (arith, distinct-small (goal.at.returns c).After-struct_known-1) }))
-    (ap negsuc (omega arith) ∙ sym (lost-here (goal.at.returns c).After-struct_known-1 ∙ minus_neg (span (goal.at.returns c).After-struct_known-1) (distinct-here (goal.at.returns c).After-struct_known-1) c.if-distinct-span.false))
+    let p = (goal.at.returns c).After-struct_known-1 in
+    let x = distinct-here p - span p in
+    rw (
+      turned x (omega arith) (omega (arith, distinct-small p)),
+      to_z-of_z w64 (negsuc (x - 1))
+          (record { sfits = omega (arith, distinct-small p) }),
+    )
+    (ap negsuc (omega arith)
+    ∙ sym (lost-here p
+    ∙ minus_neg (span p) (distinct-here p) c.if-distinct-span.false))

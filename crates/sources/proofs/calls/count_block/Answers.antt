@@ -18,4 +18,5 @@ pub returns-in-Held : goal.returns-in-Held
 returns-in-Held c =
     let a = c.args in
     c.count_held.ensures
-    ∙ sym (ap (λ (f : Option Refusal). counting_by f a.seen a.ssrc a.width a.records.now) (by_held (fault_seen a.seen) a.seen.held (sym c.in-Held.is ∙ c.judged.ensures)))
+    ∙ sym (ap (λ (f : Option Refusal). counting_by f a.seen a.ssrc a.width a.records.now)
+    (by_held (fault_seen a.seen) a.seen.held (sym c.in-Held.is ∙ c.judged.ensures)))

@@ -11,4 +11,5 @@ pub returns : goal.returns
 unfolding settled
 returns c =
     let a = c.args in
-    rw (was_true c.has_room.ensures c.if-not-has_room.false) (λ i. record { answer = Block a.seen.stand a.jumps a.restarts; change = c.change_of-change.ensures i })
+    rw (was_true c.has_room.ensures c.if-not-has_room.false)
+    (λ i. record { answer = Block a.seen.stand a.jumps a.restarts; change = c.change_of-change.ensures i })

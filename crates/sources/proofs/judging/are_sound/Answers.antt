@@ -17,14 +17,18 @@ returns-then-not-is_sound c =
     let ts = c.args.tallies in
     let l = c.loop-i in
     let h = c.loop-i-test.true in
-    sym (sym l.invariant.1 ∙ tallies_turn ts l.i (omega (arith, l.invariant.0, h)) ∙ ap (λ (b : Bool). b && all_tallied (drop (l.i + 1) ts)) (was_false c.is_sound.ensures c.if-not-is_sound.true))
+    sym (sym l.invariant.1 ∙ tallies_turn ts l.i (omega (arith, l.invariant.0, h))
+    ∙ ap (λ (b : Bool). b && all_tallied (drop (l.i + 1) ts)) (was_false c.is_sound.ensures c.if-not-is_sound.true))
 
 pub loop-i-preserved : goal.loop-i-preserved
 loop-i-preserved c =
     let ts = c.args.tallies in
     let l = c.loop-i in
-    let h = c.loop-i-test.true in
-    (l.invariant.0, sym (tallies_turn ts l.i (omega (arith, l.invariant.0, h)) ∙ ap (λ (b : Bool). b && all_tallied (drop (l.i + 1) ts)) (was_true c.is_sound.ensures c.if-not-is_sound.false)) ∙ l.invariant.1)
+    let h = c.loop-i-test.true in (
+      l.invariant.0,
+      sym (tallies_turn ts l.i (omega (arith, l.invariant.0, h))
+          ∙ ap (λ (b : Bool). b && all_tallied (drop (l.i + 1) ts)) (was_true c.is_sound.ensures c.if-not-is_sound.false)) ∙ l.invariant.1,
+    )
 
 pub returns : goal.returns
 returns c =

@@ -72,7 +72,8 @@ loop-at-preserved c =
     let i = c.place_of-i.result in
     let octets : Octets piece = λ j. omega (arith, c.shared_slice_known-1.given j) in
     loop_turn l.invariant c.loop-at-test.true octets i
-    (subst (Renews a.start.form (get_or l.table.places i empty_place) (get_or l.tallies i no_tally) (take (l.at + 512 - l.at) (drop l.at piece))) c.in-Held.is c.renewed.ensures)
+    (subst (Renews a.start.form (get_or l.table.places i empty_place) (get_or l.tallies i no_tally) (take (l.at + 512 - l.at) (drop l.at piece)))
+    c.in-Held.is c.renewed.ensures)
 
 pub returns : goal.returns
 returns c = let l = c.loop-at in (l.invariant.onward, run_good _ l.invariant.whole.good)

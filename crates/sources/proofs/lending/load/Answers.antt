@@ -38,7 +38,8 @@ returns c =
     let ps = c.args.places.now in
     let n = c.in_use-n.result in
     (λ j. record {
-      places = (sym (sets-none ps n l.i l.t.places c.loop-i-test.false) ∙ l.invariant.left ∙ ap (λ (k : ℕ). sets (replicate 16 empty_place) 0 (take k ps)) c.in_use-n.ensures) j;
+      places = (sym (sets-none ps n l.i l.t.places c.loop-i-test.false) ∙ l.invariant.left
+          ∙ ap (λ (k : ℕ). sets (replicate 16 empty_place) 0 (take k ps)) c.in_use-n.ensures) j;
       count = l.invariant.count j;
     })
     ∙ loaded_is ps

@@ -1,4 +1,3 @@
-use borrow.Enum.Refused.{opened}
 use borrow.Author.Rules.{rules}
 use Prim.Native.Nat.{◌+◌, ◌-◌, ◌≤◌}
 use native.Mathlib.Omega.{arith}
@@ -35,7 +34,9 @@ pub overflow_sub-piece-in-loop-at : goal.overflow_sub-piece-in-loop-at
 overflow_sub-piece-in-loop-at c = (taken (goal.at.overflow_sub-piece-in-loop-at c).After-take-known).within
 
 pub returns-then-piece-from-lt-BLOCK : goal.returns-then-piece-from-lt-BLOCK
-returns-then-piece-from-lt-BLOCK c = taking_last (bytes (goal.at.returns-then-piece-from-lt-BLOCK c).After-shared_slice_known-1) (taken (goal.at.returns-then-piece-from-lt-BLOCK c).After-take-known) c.if-piece-from-lt-BLOCK.true
+returns-then-piece-from-lt-BLOCK c =
+    taking_last (bytes (goal.at.returns-then-piece-from-lt-BLOCK c).After-shared_slice_known-1)
+    (taken (goal.at.returns-then-piece-from-lt-BLOCK c).After-take-known) c.if-piece-from-lt-BLOCK.true
 
 pub overflow_add-end : goal.overflow_add-end
 overflow_add-end c = omega (arith, (taken (goal.at.overflow_add-end c).After-take-known).within, c.if-piece-from-lt-BLOCK.false, c.well_formed)
@@ -51,19 +52,23 @@ returns-in-Refused c =
     let a = c.args in
     let run = c.take-known.result.run in
     let at = c.take-known.result.at in
-    taking_refused (bytes (goal.at.returns-in-Refused c).After-shared_slice_known-1) (taken (goal.at.returns-in-Refused c).After-take-known) (omega (arith, c.if-piece-from-lt-BLOCK.false))
+    taking_refused (bytes (goal.at.returns-in-Refused c).After-shared_slice_known-1) (taken (goal.at.returns-in-Refused c).After-take-known)
+    (omega (arith, c.if-piece-from-lt-BLOCK.false))
     (told_refuses run (next_of run (take (at + 512 - at) (drop at a.piece.now))) c.step-next.result c.step-next.ensures c.in-Refused.is)
 
 pub loop-at-smaller : goal.loop-at-smaller
-loop-at-smaller c = omega (arith, c.loop-at.invariant.within, c.loop-at-test.true, onward_at (goal.at.loop-at-smaller c).After-take-known, (taken (goal.at.loop-at-smaller c).After-take-known).within, c.if-piece-from-lt-BLOCK.false)
+loop-at-smaller c =
+    let p = (goal.at.loop-at-smaller c).After-take-known in
+    omega (arith, c.loop-at.invariant.within, c.loop-at-test.true, onward_at p, (taken p).within, c.if-piece-from-lt-BLOCK.false)
 
 pub loop-at-preserved : goal.loop-at-preserved
 loop-at-preserved c =
     let a = c.args in
     let run = c.take-known.result.run in
     let at = c.take-known.result.at in
-    taking_more (bytes (goal.at.loop-at-preserved c).After-shared_slice_known-1) (taken (goal.at.loop-at-preserved c).After-take-known) (omega (arith, c.if-piece-from-lt-BLOCK.false))
-    (told_goes run (next_of run (take (at + 512 - at) (drop at a.piece.now))) c.step-next.result c.step-next.ensures (opened c.in_default.in_default-own.keys2))
+    taking_more (bytes (goal.at.loop-at-preserved c).After-shared_slice_known-1) (taken (goal.at.loop-at-preserved c).After-take-known)
+    (omega (arith, c.if-piece-from-lt-BLOCK.false))
+    (told_goes run (next_of run (take (at + 512 - at) (drop at a.piece.now))) c.step-next.result c.step-next.ensures c.in_default.not-Refused)
 
 pub returns : goal.returns
 returns c = let l = c.loop-at in taking_last (bytes (goal.at.returns c).After-shared_slice_known-1) l.invariant (omega (arith, c.loop-at-test.false))

@@ -1,4 +1,3 @@
-use borrow.Enum.Refused.{opened}
 use mathlib.Core.Path.{sym, ap, ◌∙◌}
 use native.Mathlib.Omega.{arith}
 use Rattle.answers.specs.Writers.{length_in}
@@ -24,4 +23,4 @@ returns-in_default c =
     let a = c.args in
     let row = row_of a.run a.i a.zeroth.now in
     let w = c.write_held.ensures.0 in
-    absurd (never_other _ (put_size a.out.now row _ a.at _ c.requires.2 w) (opened c.in_default.in_default-own.keys2))
+    absurd (never_other _ (put_size a.out.now row _ a.at _ c.requires.2 w) c.in_default.not-Length)

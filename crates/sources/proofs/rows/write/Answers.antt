@@ -8,7 +8,8 @@ pub returns-then-n-i : goal.returns-then-n-i
 returns-then-n-i c =
     let a = c.args in
     let zeroth = a.zeroth.now in
-    wrote_refused (row_of a.run a.i zeroth) a.out.now (row_behind a.run zeroth a.i (told_held a.run zeroth (sym c.in-Held.is ∙ c.judge_with.ensures)) c.if-n-i.true)
+    wrote_refused (row_of a.run a.i zeroth) a.out.now
+    (row_behind a.run zeroth a.i (told_held a.run zeroth (sym c.in-Held.is ∙ c.judge_with.ensures)) c.if-n-i.true)
 
 pub write_held-requires : goal.write_held-requires
 write_held-requires c =

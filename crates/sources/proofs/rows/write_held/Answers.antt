@@ -34,14 +34,16 @@ write_line-requires c =
     let run = c.args.run in
     let zeroth = c.args.zeroth.now in
     let same : 8 + run.length - 8 ≡ run.length = omega arith in
-    ap (λ (k : ℕ). row_fault (take k (drop 8 zeroth)) (totals run zeroth c.args.n c.requires.0 c.args.i c.requires.1)) same ∙ not_refused run zeroth c.args.n c.requires.0 c.args.i c.requires.1
+    ap (λ (k : ℕ). row_fault (take k (drop 8 zeroth)) (totals run zeroth c.args.n c.requires.0 c.args.i c.requires.1)) same
+    ∙ not_refused run zeroth c.args.n c.requires.0 c.args.i c.requires.1
 
 pub returns : goal.returns
 returns c =
     let run = c.args.run in
     let zeroth = c.args.zeroth.now in
     let same : 8 + run.length - 8 ≡ run.length = omega arith in
-    let row = ap (λ (k : ℕ). row_bytes (take k (drop 8 zeroth)) (p run zeroth c.args.n c.requires.0 c.args.i c.requires.1).ssrc (totals run zeroth c.args.n c.requires.0 c.args.i c.requires.1)) same
+    let row = ap (λ (k : ℕ). row_bytes (take k (drop 8 zeroth)) (p run zeroth c.args.n c.requires.0 c.args.i c.requires.1).ssrc
+    (totals run zeroth c.args.n c.requires.0 c.args.i c.requires.1)) same
     ∙ sym (row_is run zeroth c.args.n c.requires.0 c.args.i c.requires.1) in
     let w = c.write_line.ensures in
     (wrote_same refl row w.0, omega (arith, ap length row, w.1))

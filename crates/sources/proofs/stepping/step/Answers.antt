@@ -1,4 +1,3 @@
-use borrow.Enum.Refused.{opened}
 use mathlib.Core.Path.{sym, ap, subst, ◌∙◌}
 use Rattle.answers.proofs.Conditions.{was_true, was_false}
 use Rattle.walk.specs.Steps.{refuses}
@@ -12,14 +11,15 @@ returns-in_default c =
     let b = a.block.now in
     let r = c.read_block-read in
     subst (TakesBlock a.run (next_of a.run b)) (sym c.refused.ensures)
-    (takes_refuses a.run (next_other a.run b r.result (sym r.ensures.value) (opened c.in_default.in_default-own.keys2) ∙ ap refuses (sym c.fault_of.ensures)))
+    (takes_refuses a.run (next_other a.run b r.result (sym r.ensures.value) c.in_default.not-Arrivals ∙ ap refuses (sym c.fault_of.ensures)))
 
 pub returns-then-not-is_of_trace : goal.returns-then-not-is_of_trace
 returns-then-not-is_of_trace c =
     let a = c.args in
     let b = a.block.now in
     subst (TakesBlock a.run (next_of a.run b)) (sym c.refused-then-not-is_of_trace.ensures)
-    (takes_refuses a.run (next_foreign a.run b (sym c.read_block-read.ensures.value ∙ c.in-Arrivals.is) (was_false c.is_of_trace.ensures c.if-not-is_of_trace.true)))
+    (takes_refuses a.run
+    (next_foreign a.run b (sym c.read_block-read.ensures.value ∙ c.in-Arrivals.is) (was_false c.is_of_trace.ensures c.if-not-is_of_trace.true)))
 
 pub count_in-requires : goal.count_in-requires
 count_in-requires c =
@@ -31,4 +31,5 @@ returns c =
     let a = c.args in
     let b = a.block.now in
     subst (λ n. TakesBlock a.run n c.count_in.result)
-    (sym (next_goes a.run b (sym c.read_block-read.ensures.value ∙ c.in-Arrivals.is) (was_true c.is_of_trace.ensures c.if-not-is_of_trace.false))) c.count_in.ensures
+    (sym (next_goes a.run b (sym c.read_block-read.ensures.value ∙ c.in-Arrivals.is) (was_true c.is_of_trace.ensures c.if-not-is_of_trace.false)))
+    c.count_in.ensures

@@ -14,7 +14,8 @@ unfolding tallied
 returns-then-stand c =
     let a = c.args in
     rw c.if-stand.true
-    (c.shifted.ensures ∙ ap (λ (t : Tally). shifted a.stand.at (16 - a.stand.at) t a.tallies) (c.raised-first.ensures ∙ ap (λ (t : Tally). raised t a.jumps a.restarts) c.fresh.ensures))
+    (c.shifted.ensures ∙ ap (λ (t : Tally). shifted a.stand.at (16 - a.stand.at) t a.tallies)
+    (c.raised-first.ensures ∙ ap (λ (t : Tally). raised t a.jumps a.restarts) c.fresh.ensures))
 
 pub returns-then-at-lt16 : goal.returns-then-at-lt16
 unfolding tallied

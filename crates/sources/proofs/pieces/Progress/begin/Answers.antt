@@ -1,4 +1,3 @@
-use borrow.Enum.Refused.{opened}
 use mathlib.Core.Path.{sym, ap, ◌∙◌}
 use Rattle.sources.specs.Pieces.{begun_in}
 use Rattle.sources.proofs.PieceCalls.{begun_none}
@@ -13,4 +12,4 @@ pub returns-in_default : goal.returns-in_default
 returns-in_default c =
     let b = c.args.zeroth.now in
     let head = c.write_head-answer in
-    record { wrote = head.ensures; progress = c.not_begun.ensures ∙ sym (begun_none b head.result (opened c.in_default.in_default-own.keys2)) }
+    record { wrote = head.ensures; progress = c.not_begun.ensures ∙ sym (begun_none b head.result c.in_default.not-Length) }

@@ -1,4 +1,3 @@
-use borrow.Enum.Refused.{opened}
 use mathlib.Core.Path.{sym, ◌∙◌}
 use Rattle.answers.specs.declared.Written.TheVariants.{Length, Refused}
 use Rattle.sources.proofs.RunSteps.{start_other, start_by_lem}
@@ -8,7 +7,7 @@ pub returns-in_default : goal.returns-in_default
 returns-in_default c =
     let r = c.read_block-read in
     c.refused.ensures ∙ (λ i. record { answer = Refused (c.fault_of.ensures i); run = c.empty-run.ensures i })
-    ∙ sym (start_other c.args.zeroth.now r.result (sym r.ensures.value) (opened c.in_default.in_default-own.keys2))
+    ∙ sym (start_other c.args.zeroth.now r.result (sym r.ensures.value) c.in_default.not-Label)
 
 pub returns : goal.returns
 returns c =
