@@ -1,6 +1,5 @@
 use mathlib.Core.Path.{refl, sym, ◌∙◌}
 use native.Mathlib.Omega.{arith}
-use Prim.Native.Nat.{◌-◌}
 use Rattle.answers.proofs.Conditions.{was_true, was_false}
 use Rattle.lent.proofs.AttributeLaws.{place_ends, place_goes, places_done}
 use Rattle.lent.proofs.attribute_words.places_fit.Goals as goal
