@@ -46,8 +46,10 @@ returns c =
     let made = c.counted-totals.ensures
     ∙ ap count c.fresh.ensures in
     let size : 13 * lower.result + 13 - 13 * lower.result ≡ 13 = omega arith in
-    let more : n + 1 ≡ length (added_by ssrc_in (line_words a.ssrc (count fresh_totals)) (lines_in n ws)) = omega (arith, length-lines n ws, length-added ssrc_in (line_words a.ssrc (count fresh_totals)) (lines_in n ws)) in
+    let more : n + 1 ≡ length (added_by ssrc_in (line_words a.ssrc (count fresh_totals)) (lines_in n ws)) =
+    omega (arith, length-lines n ws, length-added ssrc_in (line_words a.ssrc (count fresh_totals)) (lines_in n ws)) in
     let long = (is_sound_lem c.requires.0).room in
     takes_goes a.run ws (new_goes count a.ssrc n ws room) more
-    (line_added ws n lower.result (13 * lower.result + 13 - 13 * lower.result) a.ssrc (count fresh_totals) store.new.line size (store.ensures ∙ ap (line_words a.ssrc) made)
+    (line_added ws n lower.result (13 * lower.result + 13 - 13 * lower.result) a.ssrc (count fresh_totals) store.new.line size
+    (store.ensures ∙ ap (line_words a.ssrc) made)
     push.new.lines lower.ensures.0 lower.ensures.1 (omega (arith, room, long)) push.ensures)

@@ -21,7 +21,8 @@ pub overflow_add-end : goal.overflow_add-end
 overflow_add-end c = omega (arith, few (goal.at.overflow_add-end c).After-width-width)
 
 pub slice_bounds-count_block-end : goal.slice_bounds-count_block-end
-slice_bounds-count_block-end c = omega (arith, few (goal.at.slice_bounds-count_block-end c).After-width-width, (accepted c.args.block.now c.requires).block.whole)
+slice_bounds-count_block-end c =
+    omega (arith, few (goal.at.slice_bounds-count_block-end c).After-width-width, (accepted c.args.block.now c.requires).block.whole)
 
 pub returns : goal.returns
 unfolding counted

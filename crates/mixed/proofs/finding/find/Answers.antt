@@ -24,7 +24,8 @@ returns-then-lines-i c =
     let ws = a.lines.now in
     let line = take 13 (drop (13 * l.i) ws) in
     let rest = lines_in (a.n - (l.i + 1)) (drop (13 * (l.i + 1)) ws) in
-    let e = ap (place_by ssrc_in a.ssrc) (lines_turn a.n l.i ws c.loop-i-test.true) ∙ place_ends ssrc_in a.ssrc line rest (ssrc_at_lem l.i ws ∙ c.if-lines-i.true) in
+    let e = ap (place_by ssrc_in a.ssrc) (lines_turn a.n l.i ws c.loop-i-test.true)
+    ∙ place_ends ssrc_in a.ssrc line rest (ssrc_at_lem l.i ws ∙ c.if-lines-i.true) in
     (omega (arith, e, l.invariant.1), omega arith)
 
 pub loop-i-preserved : goal.loop-i-preserved
@@ -34,7 +35,8 @@ loop-i-preserved c =
     let ws = a.lines.now in
     let line = take 13 (drop (13 * l.i) ws) in
     let rest = lines_in (a.n - (l.i + 1)) (drop (13 * (l.i + 1)) ws) in
-    let e = ap (place_by ssrc_in a.ssrc) (lines_turn a.n l.i ws c.loop-i-test.true) ∙ place_goes ssrc_in a.ssrc line rest (λ z. c.if-lines-i.false (sym (ssrc_at_lem l.i ws) ∙ z)) in
+    let e = ap (place_by ssrc_in a.ssrc) (lines_turn a.n l.i ws c.loop-i-test.true)
+    ∙ place_goes ssrc_in a.ssrc line rest (λ z. c.if-lines-i.false (sym (ssrc_at_lem l.i ws) ∙ z)) in
     (omega arith, omega (arith, e, l.invariant.1))
 
 pub returns : goal.returns

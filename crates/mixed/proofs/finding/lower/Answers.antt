@@ -24,7 +24,8 @@ returns-then-sought-lines c =
     let ws = a.lines.now in
     let line = take 13 (drop (13 * l.i) ws) in
     let rest = lines_in (a.n - (l.i + 1)) (drop (13 * (l.i + 1)) ws) in
-    let e = ap (lower_by ssrc_in a.ssrc) (lines_turn a.n l.i ws c.loop-i-test.true) ∙ lower_ends ssrc_in a.ssrc line rest (omega (arith, ssrc_at_lem l.i ws, c.if-sought-lines.true)) in
+    let e = ap (lower_by ssrc_in a.ssrc) (lines_turn a.n l.i ws c.loop-i-test.true)
+    ∙ lower_ends ssrc_in a.ssrc line rest (omega (arith, ssrc_at_lem l.i ws, c.if-sought-lines.true)) in
     (omega (arith, e, l.invariant.1), omega arith)
 
 pub loop-i-preserved : goal.loop-i-preserved
@@ -34,7 +35,8 @@ loop-i-preserved c =
     let ws = a.lines.now in
     let line = take 13 (drop (13 * l.i) ws) in
     let rest = lines_in (a.n - (l.i + 1)) (drop (13 * (l.i + 1)) ws) in
-    let e = ap (lower_by ssrc_in a.ssrc) (lines_turn a.n l.i ws c.loop-i-test.true) ∙ lower_goes ssrc_in a.ssrc line rest (omega (arith, ssrc_at_lem l.i ws, c.if-sought-lines.false)) in
+    let e = ap (lower_by ssrc_in a.ssrc) (lines_turn a.n l.i ws c.loop-i-test.true)
+    ∙ lower_goes ssrc_in a.ssrc line rest (omega (arith, ssrc_at_lem l.i ws, c.if-sought-lines.false)) in
     (omega arith, omega (arith, e, l.invariant.1))
 
 pub returns : goal.returns

@@ -81,6 +81,9 @@ returns c =
     let same : 8 + a.run.length - 8 ≡ a.run.length = omega arith in
     let label = ap (λ (k : ℕ). take k (drop 8 zeroth)) same in
     wrote_same
-    (ap (λ (l : List ℕ). lines.row_fault l t) label ∙ fault_none (label_of a.run zeroth) t sound.good own.label sound.jumped sound.restarts ∙ sym (row_goes a.run a.i ws zeroth c.requires.0 c.requires.1 c.requires.2 few t found))
-    (ap (λ (l : List ℕ). lines.row_bytes l (get_or ws (13 * a.i) 0) t) label ∙ sym (row_is a.run a.i ws zeroth c.requires.0 c.requires.1 c.requires.2 few t found))
+    (ap (λ (l : List ℕ). lines.row_fault l t) label
+    ∙ fault_none (label_of a.run zeroth) t sound.good own.label sound.jumped sound.restarts
+    ∙ sym (row_goes a.run a.i ws zeroth c.requires.0 c.requires.1 c.requires.2 few t found))
+    (ap (λ (l : List ℕ). lines.row_bytes l (get_or ws (13 * a.i) 0) t) label
+    ∙ sym (row_is a.run a.i ws zeroth c.requires.0 c.requires.1 c.requires.2 few t found))
     c.write_row.ensures

@@ -13,7 +13,8 @@ use Rattle.mixed.proofs.soundness.is_own.Goals as goal
 
 pub returns-then-zeroth-ne-BLOCK : goal.returns-then-zeroth-ne-BLOCK
 unfolding own_label
-returns-then-zeroth-ne-BLOCK c = let a = c.args in all_false (own_conditions a.run a.zeroth.now) 0 (ne_eqb (length a.zeroth.now) block_bytes c.if-zeroth-ne-BLOCK.true)
+returns-then-zeroth-ne-BLOCK c =
+    let a = c.args in all_false (own_conditions a.run a.zeroth.now) 0 (ne_eqb (length a.zeroth.now) block_bytes c.if-zeroth-ne-BLOCK.true)
 
 pub returns-then-read16-label : goal.returns-then-read16-label
 unfolding own_label
@@ -28,7 +29,8 @@ unfolding own_label
 returns-then-read16-length c =
     let a = c.args in
     let count = c.read16-2 in
-    all_false (own_conditions a.run a.zeroth.now) 2 (ap (λ (n : ℕ). eqb n a.run.length) (sym count.ensures) ∙ ne_eqb count.result a.run.length c.if-read16-length.true)
+    all_false (own_conditions a.run a.zeroth.now) 2 (ap (λ (n : ℕ). eqb n a.run.length) (sym count.ensures)
+    ∙ ne_eqb count.result a.run.length c.if-read16-length.true)
 
 pub returns-then-length-gt-BODY_BYTES : goal.returns-then-length-gt-BODY_BYTES
 unfolding own_label
@@ -45,4 +47,5 @@ returns c =
     let same : 8 + a.run.length - 8 ≡ a.run.length = omega arith in
     c.is_label.ensures
     ∙ ap (λ (k : ℕ). label_ok (take k (drop 8 a.zeroth.now))) same
-    ∙ own_last a.run a.zeroth.now c.if-zeroth-ne-BLOCK.false (sym kind.ensures ∙ c.if-read16-label.false ∙ form.ensures) (sym count.ensures ∙ c.if-read16-length.false) c.if-length-gt-BODY_BYTES.false
+    ∙ own_last a.run a.zeroth.now c.if-zeroth-ne-BLOCK.false (sym kind.ensures ∙ c.if-read16-label.false ∙ form.ensures)
+    (sym count.ensures ∙ c.if-read16-length.false) c.if-length-gt-BODY_BYTES.false

@@ -33,4 +33,5 @@ returns-then-not-is_sound c =
 pub returns : goal.returns
 returns c =
     let line = c.args.line.now in
-    totals_some line c.in-Held.source (sym c.load.ensures ∙ c.in-Held.is) (was_true c.is_sound.ensures c.if-not-is_sound.false) c.if-jumped-gt-MOST.false c.if-restarts-gt-MOST.false
+    totals_some line c.in-Held.source (sym c.load.ensures ∙ c.in-Held.is)
+    (was_true c.is_sound.ensures c.if-not-is_sound.false) c.if-jumped-gt-MOST.false c.if-restarts-gt-MOST.false

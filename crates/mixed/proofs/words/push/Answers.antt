@@ -25,8 +25,12 @@ pub loop-i-preserved : goal.loop-i-preserved
 loop-i-preserved c =
     let l = c.loop-i in
     let a = c.args in
-    let turn = c.loop-i-test.true in
-    (omega arith, omega arith, length-set l.lines (l.i - 1 + 13) (get_or l.lines (l.i - 1) 0) ∙ l.invariant.2, push_turn l.lines (13 * a.at) l.i turn (omega arith) ∙ l.invariant.3)
+    let turn = c.loop-i-test.true in (
+      omega arith,
+      omega arith,
+      length-set l.lines (l.i - 1 + 13) (get_or l.lines (l.i - 1) 0) ∙ l.invariant.2,
+      push_turn l.lines (13 * a.at) l.i turn (omega arith) ∙ l.invariant.3,
+    )
 
 pub shape_of-lines : goal.shape_of-lines
 shape_of-lines c = c.loop-i.invariant.2

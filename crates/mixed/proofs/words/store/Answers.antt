@@ -34,12 +34,19 @@ pub bounds-line-11 : goal.bounds-line-11
 bounds-line-11 c = omega (arith, longer (goal.at.bounds-line-11 c).After-slice_known-2-1)
 
 pub bounds-line-12 : goal.bounds-line-12
-bounds-line-12 c = omega (arith, length-set (second (goal.at.bounds-line-12 c).After-slice_known-2-1) 11 c.args.totals.jumped, longer (goal.at.bounds-line-12 c).After-slice_known-2-1)
+bounds-line-12 c =
+    omega (
+      arith,
+      length-set (second (goal.at.bounds-line-12 c).After-slice_known-2-1) 11 c.args.totals.jumped,
+      longer (goal.at.bounds-line-12 c).After-slice_known-2-1,
+    )
 
 pub shape_of-line : goal.shape_of-line
 shape_of-line c =
     let t = c.args.totals in
-    length-set (set (second (goal.at.shape_of-line c).After-slice_known-2-1) 11 t.jumped) 12 t.restarts ∙ length-set (second (goal.at.shape_of-line c).After-slice_known-2-1) 11 t.jumped ∙ omega (arith, longer (goal.at.shape_of-line c).After-slice_known-2-1, c.requires)
+    length-set (set (second (goal.at.shape_of-line c).After-slice_known-2-1) 11 t.jumped) 12 t.restarts
+    ∙ length-set (second (goal.at.shape_of-line c).After-slice_known-2-1) 11 t.jumped
+    ∙ omega (arith, longer (goal.at.shape_of-line c).After-slice_known-2-1, c.requires)
 
 pub returns : goal.returns
 returns c =
