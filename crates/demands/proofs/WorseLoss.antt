@@ -214,6 +214,8 @@ data Outcomes (b c : Breaker) (xs ys : List Call) : Type 0 where
 run : (b c : Breaker) (xs ys : List Call) → InStep b c → Held b → Held c → b.settings.reduce ≡ false → NoBetterCalls xs ys → Outcomes b c xs ys
 unfolding answers_of after
 run b c [] [] i h k never q = Outcomes.together refl i
+run b c [] (y ∷ ys) i h k never q = elim q [ ]
+run b c (x ∷ xs) [] i h k never q = elim q [ ]
 run b c (x ∷ xs) (y ∷ ys) i h k never (NoBetterCalls.more q qs) =
     one (step b c i h.is_sound k.is_sound never q)
     (λ j. run (called b x).breaker (called c y).breaker xs ys j (call_held b x h) (call_held c y k) (ap (λ (s : Settings). s.reduce) (settings_kept b x) ∙ never) qs)
