@@ -55,12 +55,7 @@ fn put_back(step: Step, words: &mut [u64]) -> i64
 
 // Takes a later block, and writes the blocks that are full. Gives their length and the next conversion in the place of the last, or minus refusal 9, 1, 13,
 // 14, 17 or 12.
-pub fn flasknib_forms_block(
-    words: &mut [u64],
-    part: &mut [u8],
-    block: &[u8],
-    out: &mut [u8],
-) -> i64
+pub fn flasknib_forms_block(words: &mut [u64], part: &mut [u8], block: &[u8], out: &mut [u8]) -> i64
     ensures { TakesForms words.old part.old block.now out.old result words.new part.new out.new }
 {
     let Loaded::Held(given) = conversion_words::load(words) else {

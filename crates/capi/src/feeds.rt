@@ -67,12 +67,7 @@ fn put_closed(fed: Fed, words: &mut [u64]) -> u8
 
 // Takes a stretch of a trace, and writes the rows of the blocks that it completes. Gives their length and the upload in the place of the last, or minus refusal
 // 9, the kept one, 10, 12 or a block's.
-pub fn flasknib_feed(
-    upload: &mut [u64],
-    kept: &mut [u8],
-    stretch: &[u8],
-    out: &mut [u8],
-) -> i64
+pub fn flasknib_feed(upload: &mut [u64], kept: &mut [u8], stretch: &[u8], out: &mut [u8]) -> i64
     ensures { FeedsWords upload.old kept.old stretch.now out.old result upload.new kept.new out.new }
 {
     let Loaded::Held(given) = feed_words::load(upload) else {

@@ -54,12 +54,7 @@ pub fn flasknib_count_block(words: &mut [u64], records: &[u8], width: usize) -> 
 }
 
 // Writes the ECN feedback packet. Gives its length, or minus refusal 9 or 12.
-pub fn flasknib_write_feedback(
-    words: &[u64],
-    sender: u32,
-    media: u32,
-    out: &mut [u8],
-) -> i64
+pub fn flasknib_write_feedback(words: &[u64], sender: u32, media: u32, out: &mut [u8]) -> i64
     ensures { WritesFeedback words.now sender media out.old result out.new }
 {
     let Loaded::Held(source) = load(words) else {

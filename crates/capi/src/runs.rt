@@ -45,12 +45,7 @@ fn put_back(step: Step, run: &mut [u64]) -> i64
 }
 
 // Takes a later block, and writes the row after it. Gives the row's length and the next run in the place of the last, or minus refusal 9, 1, 13, 14 or 12.
-pub fn flasknib_run_block(
-    run: &mut [u64],
-    zeroth: &[u8],
-    block: &[u8],
-    out: &mut [u8],
-) -> i64
+pub fn flasknib_run_block(run: &mut [u64], zeroth: &[u8], block: &[u8], out: &mut [u8]) -> i64
     ensures { TakesBlock run.old zeroth.now block.now out.old result run.new out.new }
 {
     let Loaded::Held(given) = run_words::load(run) else {
