@@ -32,11 +32,11 @@ use Rattle.breaker.specs.Answers.{answers, stops}
 use Rattle.breaker.specs.Limits.{within, settings_ok, time_ok, counts_ok, loss_ok, report_ok}
 use Rattle.breaker.specs.FractionLost.{fraction_of, counts_fraction}
 use Rattle.breaker.specs.Windows.{zero_interval, empty_window, W, P}
-use Rattle.breaker.specs.Condition.{condition, condition_by}
+use Rattle.breaker.specs.Condition.{condition_by}
 use Rattle.breaker.specs.Soundness.{sound}
 use Rattle.breaker.specs.Rules.{stored, late, run_after, window_after, last_intervals, holds, ruled_by, ruled}
 use Rattle.breaker.specs.Calls.{unless_stopped, opened, unstarted, start_of, report_of, early, timed, tick_of, holding, heard_of}
-use Rattle.breaker.specs.Runs.{Call, heard, called, answers_of, after}
+use Rattle.breaker.specs.Runs.{Call, called, answers_of, after}
 use Rattle.breaker.specs.Theorems.{with_loss}
 use Rattle.breaker.proofs.Chains.{by_test}
 use Rattle.breaker.proofs.Calls.{Held, Halted}
