@@ -15,18 +15,18 @@ OTHERS = {
         ("const MOST: usize = BLOCK + BLOCK / 4;", "const MOST: usize = 1228;"),
         ("close(s: State, part: &[u8], piece", "close(s: State, piece"),
         ("progress.end(part, transfer", "progress.end(transfer"),
-        ("finish(s: State, name: &[u8], part: &[u8], piece", "finish(s: State, name: &[u8], piece"),
+        ("finish(s: State, streams: &mut Streams, name: &[u8], part: &[u8], piece", "finish(s: State, streams: &mut Streams, name: &[u8], piece"),
         ("close(s, part, piece", "close(s, piece"),
-        ("finish(s, name, kept, piece", "finish(s, name, piece"),
+        ("finish(s, streams, name, kept, piece", "finish(s, streams, name, piece"),
     ),
     "ecnstreams": (
         ("ecnstreams", "ecntable"),
         ("sources::pieces::Progress", "convert::pieces::Progress"),
         ("close(s: State, label: &[u8], piece", "close(s: State, piece"),
         ("progress.end(label, transfer", "progress.end(transfer"),
-        ("finish(s: State, name: &[u8], label: &[u8], piece", "finish(s: State, name: &[u8], piece"),
+        ("finish(s: State, streams: &mut Streams, name: &[u8], label: &[u8], piece", "finish(s: State, streams: &mut Streams, name: &[u8], piece"),
         ("close(s, label, piece", "close(s, piece"),
-        ("finish(s, name, kept, piece", "finish(s, name, piece"),
+        ("finish(s, streams, name, kept, piece", "finish(s, streams, name, piece"),
     ),
 }
 
@@ -69,13 +69,13 @@ def functions(text):
 
 def unlike(first, other):
     """The functions of a program that copies which are not the first one's, but for what its call on blocks is lent."""
-    one, two = functions(first), functions(other.replace("take(s, name, kept, piece)", "take(s, name, kept, piece, errors)"))
+    one, two = functions(first), functions(other.replace("take(s, streams, name, kept, piece)", "take(s, streams, name, kept, piece, errors)"))
     return [f"has another '{name}' than {COPYING[0]}" for name in ALIKE if one[name] != two[name]]
 
 
 def decisions(text):
     """What a main decides: each test and each sum outside its constants."""
-    text = re.sub(r'b"(?:\\.|[^"\\])*"|const [^;]*;', "", code(text).split("\n")[-1])
+    text = re.sub(r'b"(?:\\.|[^"\\])*"|const [^;]*;|#!\[[^\]]*\]', "", code(text).split("\n")[-1])
     for allowed in ALLOWED:
         if text.count(allowed) != 1:
             return [f"has '{allowed}' {text.count(allowed)} times"]
@@ -88,7 +88,7 @@ TURNED = (
     ("transfer.rest(piece)", "transfer.left(piece)"),
     ("Turn::Read => State", "Turn::Print => State"),
     (".with_kept(answer, lines);\n    State {\n", ";\n    State {\n"),
-    ("finish(s, name, ", "close(s, name, "),
+    ("finish(s, streams, name, ", "close(s, streams, name, "),
 )
 DECIDING = (
     ("let used = out.end(lines.len());\n    let taken", "let used = out.used + 1;\n    let taken"),

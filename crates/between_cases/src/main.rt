@@ -16,10 +16,10 @@ use between::{Call, Kept, MaybeKept, call_for};
 use breaker::{Answer, Breaker, EcnCounts, Loss, Report, Step};
 use cases::{number, number8, number16, number32};
 use format::Wire;
-use libc::STDIN_FILENO;
 use rtcp::{Compound, Profile, Reading, read_compound};
 use source::{Arrival, Source};
 use sources::{Place, Table};
+use std::io::Stdout;
 
 // The sender of our compounds, and the source that they are about.
 const SENDER: u32 = 9;
@@ -34,58 +34,58 @@ struct Path {
     kept: MaybeKept,
 }
 
-fn show_counts(c: EcnCounts) {
-    show::text(b" counts");
-    show::signed(c.lost);
-    show::number(c.marked);
-    show::number(c.expected);
+fn show_counts(to: Stdout, c: EcnCounts) {
+    show::text(to, b" counts");
+    show::signed(to, c.lost);
+    show::number(to, c.marked);
+    show::number(to, c.expected);
 }
 
-fn show_loss(loss: Loss) {
+fn show_loss(to: Stdout, loss: Loss) {
     match loss {
         Loss::Fraction(f) => {
-            show::text(b" fraction");
-            show::number(f);
+            show::text(to, b" fraction");
+            show::number(to, f);
         }
-        Loss::Counts(c) => show_counts(c),
+        Loss::Counts(c) => show_counts(to, c),
     }
 }
 
-fn show_call(call: Call) {
+fn show_call(to: Stdout, call: Call) {
     match call {
         Call::Report(highest, loss) => {
-            show::text(b" : report");
-            show::number(highest as u64);
-            show_loss(loss);
+            show::text(to, b" : report");
+            show::number(to, highest as u64);
+            show_loss(to, loss);
         }
-        Call::Heard => show::text(b" : heard"),
+        Call::Heard => show::text(to, b" : heard"),
     }
 }
 
-fn show_kept(kept: MaybeKept) {
-    show::text(b", kept");
+fn show_kept(to: Stdout, kept: MaybeKept) {
+    show::text(to, b", kept");
     match kept {
         MaybeKept::Present(k) => {
-            show::number(k.highest as u64);
-            show::number(k.ce as u64);
-            show::number(k.lost as u64);
+            show::number(to, k.highest as u64);
+            show::number(to, k.ce as u64);
+            show::number(to, k.lost as u64);
         }
-        MaybeKept::Absent => show::text(b" none"),
+        MaybeKept::Absent => show::text(to, b" none"),
     }
 }
 
 // An answer, with document 01's number.
-fn show_answer(answer: Answer) {
+fn show_answer(to: Stdout, answer: Answer) {
     match answer {
-        Answer::Go => show::text(b", go"),
-        Answer::Reduce => show::text(b", reduce"),
+        Answer::Go => show::text(to, b", go"),
+        Answer::Reduce => show::text(to, b", reduce"),
         Answer::Stop(reason) => {
-            show::text(b", stop");
-            show::number(reason.number() as u64);
+            show::text(to, b", stop");
+            show::number(to, reason.number() as u64);
         }
         Answer::Refused(refusal) => {
-            show::text(b",");
-            show::refused(refusal);
+            show::text(to, b",");
+            show::refused(to, refusal);
         }
     }
 }
@@ -111,7 +111,7 @@ fn kept_of(line: &[u8]) -> MaybeKept {
 }
 
 // The compound of a line.
-fn compound(p: Path, line: &[u8]) -> Path {
+fn compound(to: Stdout, p: Path, line: &[u8]) -> Path {
     let mut space = [0u8; 512];
     let n = cases::bytes(line, 2, &mut space).len();
     let kept = p.kept;
@@ -124,13 +124,13 @@ fn compound(p: Path, line: &[u8]) -> Path {
             let next = call_for(found, kept);
             let call = next.call;
             let then = next.kept;
-            show_call(call);
-            show_kept(then);
+            show_call(to, call);
+            show_kept(to, then);
             keeping(p, then)
         }
         Reading::Refused(refusal) => {
-            show::text(b" :");
-            show::refused(refusal);
+            show::text(to, b" :");
+            show::refused(to, refusal);
             p
         }
     }
@@ -223,17 +223,17 @@ fn kept_by(answer: Answer, before: MaybeKept, then: MaybeKept) -> MaybeKept {
 }
 
 // What our compound does that was read back.
-fn reported(p: Path, found: Compound, line: &[u8]) -> Path {
+fn reported(to: Stdout, p: Path, found: Compound, line: &[u8]) -> Path {
     let before = p.kept;
     let next = call_for(found, before);
     let call = next.call;
     let then = next.kept;
-    show_call(call);
+    show_call(to, call);
     let step = stepped(p.breaker, call, line);
     let answer = step.answer;
-    show_answer(answer);
+    show_answer(to, answer);
     let kept = kept_by(answer, before, then);
-    show_kept(kept);
+    show_kept(to, kept);
     let breaker = step.breaker;
     let source = p.source;
     Path {
@@ -244,53 +244,53 @@ fn reported(p: Path, found: Compound, line: &[u8]) -> Path {
 }
 
 // Our compound at the time of a line.
-fn own(p: Path, line: &[u8]) -> Path {
+fn own(to: Stdout, p: Path, line: &[u8]) -> Path {
     let mut space = [0u8; 40];
     let source = p.source;
     let written = write_own(source, &mut space);
     let Written::Length(_) = written else {
-        show::text(b" :");
-        show::written(written);
+        show::text(to, b" :");
+        show::written(to, written);
         return p;
     };
     match read_compound(&space, MEDIA, Profile::Compound) {
-        Reading::Read(found) => reported(p, found, line),
+        Reading::Read(found) => reported(to, p, found, line),
         Reading::Refused(refusal) => {
-            show::text(b" :");
-            show::refused(refusal);
+            show::text(to, b" :");
+            show::refused(to, refusal);
             p
         }
     }
 }
 
 // What a line does.
-fn done(p: Path, line: &[u8]) -> Path {
+fn done(to: Stdout, p: Path, line: &[u8]) -> Path {
     match cases::letter(line) {
         b'a' => arrivals(p, line),
-        b'c' => compound(p, line),
+        b'c' => compound(to, p, line),
         b'd' => begun(number(line, 1)),
         b'k' => keeping(p, kept_of(line)),
         b'n' => keeping(p, MaybeKept::Absent),
-        b'o' => own(p, line),
+        b'o' => own(to, p, line),
         _ => p,
     }
 }
 
 // All lines in turn.
-fn run(text: &[u8]) {
+fn run(to: Stdout, text: &[u8]) {
     let mut p = begun(0);
     let mut at = 0;
     while at < text.len() {
         let line = cases::line(text, at);
-        show::text(line);
-        p = done(p, line);
-        show::end();
+        show::text(to, line);
+        p = done(to, p, line);
+        show::end(to);
         at += line.len() + 1;
     }
 }
 
-fn main() {
-    let mut text = io::large_buffer();
-    let n = io::read_full(STDIN_FILENO, &mut text);
-    run(&text[..n]);
+fn main(rt: HostRuntime) {
+    let mut text = [0u8; 65536];
+    let n = show::read_full(rt.stdin(), &mut text);
+    run(rt.stdout(), &text[..n]);
 }

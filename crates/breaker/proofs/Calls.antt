@@ -2,7 +2,7 @@
 -- Assumes nothing.
 use mathlib.Core.Path.{◌≡◌, refl}
 use mathlib.Core.Bool.{Bool, true, false, not, ◌&&◌}
-use Prim.Native.Nat.{ℕ, ◌-◌, ◌<◌}
+use Prim.Native.Nat.{ℕ, ◌<◌}
 use borrow.Author.Tests.{leb-false, ltb-true, ltb-false, not-false}
 use lib.Dec.{leb, ltb, eqb}
 use Rattle.answers.specs.declared.Refusal.TheVariants.{Malformed, Limits, Time}

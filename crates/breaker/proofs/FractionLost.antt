@@ -1,5 +1,5 @@
 -- The fraction that ECN counts give: where it is the greatest, its bound and its order. Assumes nothing.
-use mathlib.Core.Path.{◌≡◌, refl, sym, ◌∙◌, ap}
+use mathlib.Core.Path.{◌≡◌, ◌∙◌, ap}
 use mathlib.Core.Bool.{Bool, true, cond}
 use mathlib.Core.List.{[], ◌∷◌}
 use Prim.Native.Nat.{ℕ, zero, suc, ◌+◌, ◌*◌, ◌/◌, ◌^◌, ◌≤◌, ◌<◌, min, zero-le}
@@ -12,7 +12,6 @@ use lib.ListN.{get_or}
 use lib.Signed.{◌≤ℤ◌}
 use Rattle.answers.proofs.Conditions.{all_true}
 use Rattle.breaker.specs.declared.EcnCounts.{EcnCounts}
-use Rattle.breaker.specs.declared.Loss.{Loss}
 use Rattle.breaker.specs.declared.Loss.TheVariants.{Fraction, Counts}
 use Rattle.breaker.specs.Limits.{counts_ok}
 use Rattle.breaker.specs.FractionLost.{at_least_zero, counts_fraction}

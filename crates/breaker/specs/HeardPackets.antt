@@ -1,5 +1,5 @@
 -- Document 02, request L4: what a heard packet changes, and what it does not.
-use Rattle.std.specs.Prelude.{◌≡◌, Bool, true, false, not, ◌||◌, List, [], ◌∷◌, ◌++◌, map, ℕ, ◌+◌, ◌-◌, ◌*◌, ◌≤◌, eqb, length, get_or}
+use Rattle.std.specs.Prelude.{◌≡◌, Bool, true, false, not, ◌||◌, List, [], ◌∷◌, ◌++◌, map, ℕ, ◌-◌, ◌*◌, ◌≤◌, eqb, length, get_or}
 use Rattle.answers.specs.Conditions.{all}
 use Rattle.answers.specs.Refusals.{number_of}
 use Rattle.breaker.specs.declared.Settings.{Settings}

@@ -13,7 +13,7 @@
 
 use breaker::{Answer, Breaker, EcnCounts, Interval, Loss, Report, Settings, State, Step, Window};
 use cases::{number, number32, signed};
-use libc::STDIN_FILENO;
+use std::io::Stdout;
 
 // 1 for true, 0 for false.
 fn bit(b: bool) -> u64 {
@@ -21,17 +21,17 @@ fn bit(b: bool) -> u64 {
 }
 
 // An answer, with document 01's number.
-fn show_answer(answer: Answer) {
+fn show_answer(to: Stdout, answer: Answer) {
     match answer {
-        Answer::Go => show::text(b" : go"),
-        Answer::Reduce => show::text(b" : reduce"),
+        Answer::Go => show::text(to, b" : go"),
+        Answer::Reduce => show::text(to, b" : reduce"),
         Answer::Stop(reason) => {
-            show::text(b" : stop");
-            show::number(reason.number() as u64);
+            show::text(to, b" : stop");
+            show::number(to, reason.number() as u64);
         }
         Answer::Refused(refusal) => {
-            show::text(b" : refused");
-            show::number(refusal.number() as u64);
+            show::text(to, b" : refused");
+            show::number(to, refusal.number() as u64);
         }
     }
 }
@@ -45,29 +45,29 @@ fn reason_of(state: State) -> u64 {
 }
 
 // The record: reason, time of the last report or start, time held, number of the last report, whether there was one, media run, trial, intervals in use, the newest interval.
-fn show_record(b: Breaker) {
+fn show_record(to: Stdout, b: Breaker) {
     let state = b.state;
     let window = b.window;
     let newest = window.intervals[0];
-    show::text(b" |");
-    show::number(reason_of(state));
-    show::number(b.last);
-    show::number(b.heard);
-    show::number(b.highest as u64);
-    show::number(bit(b.reported));
-    show::number(b.run);
-    show::number(bit(b.trial));
-    show::number(window.used as u64);
-    show::number(newest.length);
-    show::number(newest.fraction);
+    show::text(to, b" |");
+    show::number(to, reason_of(state));
+    show::number(to, b.last);
+    show::number(to, b.heard);
+    show::number(to, b.highest as u64);
+    show::number(to, bit(b.reported));
+    show::number(to, b.run);
+    show::number(to, bit(b.trial));
+    show::number(to, window.used as u64);
+    show::number(to, newest.length);
+    show::number(to, newest.fraction);
 }
 
 // A step shown, and its breaker.
-fn shown(step: Step) -> Breaker {
+fn shown(to: Stdout, step: Step) -> Breaker {
     let answer = step.answer;
     let b = step.breaker;
-    show_answer(answer);
-    show_record(b);
+    show_answer(to, answer);
+    show_record(to, b);
     b
 }
 
@@ -171,14 +171,14 @@ fn placed(b: Breaker, place: u64, length: u64, fraction: u64) -> Breaker {
 }
 
 // What a line does.
-fn done(b: Breaker, line: &[u8]) -> Breaker {
+fn done(to: Stdout, b: Breaker, line: &[u8]) -> Breaker {
     match cases::letter(line) {
-        b'd' => shown(Breaker::start_preset(number(line, 1))),
-        b's' => shown(start_of(line)),
-        b'e' => shown(b.report(ecn_report_of(line))),
-        b'r' => shown(b.report(report_of(line))),
-        b't' => shown(b.tick(number(line, 1))),
-        b'h' => shown(b.heard(number(line, 1))),
+        b'd' => shown(to, Breaker::start_preset(number(line, 1))),
+        b's' => shown(to, start_of(line)),
+        b'e' => shown(to, b.report(ecn_report_of(line))),
+        b'r' => shown(to, b.report(report_of(line))),
+        b't' => shown(to, b.tick(number(line, 1))),
+        b'h' => shown(to, b.heard(number(line, 1))),
         b'f' => changed(b, number(line, 1), number(line, 2)),
         b'p' => placed(b, number(line, 1), number(line, 2), number(line, 3)),
         _ => b,
@@ -186,20 +186,20 @@ fn done(b: Breaker, line: &[u8]) -> Breaker {
 }
 
 // All lines in turn.
-fn run(text: &[u8]) {
+fn run(to: Stdout, text: &[u8]) {
     let mut b = Breaker::start_preset(0).breaker;
     let mut at = 0;
     while at < text.len() {
         let line = cases::line(text, at);
-        show::text(line);
-        b = done(b, line);
-        show::end();
+        show::text(to, line);
+        b = done(to, b, line);
+        show::end(to);
         at += line.len() + 1;
     }
 }
 
-fn main() {
-    let mut text = io::large_buffer();
-    let n = io::read_full(STDIN_FILENO, &mut text);
-    run(&text[..n]);
+fn main(rt: HostRuntime) {
+    let mut text = [0u8; 65536];
+    let n = show::read_full(rt.stdin(), &mut text);
+    run(rt.stdout(), &text[..n]);
 }

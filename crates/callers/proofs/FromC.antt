@@ -104,6 +104,6 @@ used =
     let feedback = end.feedback 1 2 [] _ _ (gave length_code _ _ []) in
     let summary = end.summary 2 [] _ _ (gave length_code _ _ []) in
     let lost = end.lost [] _ _ (gave refusal_code _ _ []) in
-    let row = end.row text 1 3 2 [] _ _ met.label-ok met.few_jumped met.few_restarts (gave length_code _ _ []) in
+    let row = end.row text 1 3 2 [] _ _ met.label_ok_lem met.few_jumped met.few_restarts (gave length_code _ _ []) in
     let order = end.order reordered met.again.0 met.again.1 met.again.2 in
     tt

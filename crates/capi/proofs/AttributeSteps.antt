@@ -1,9 +1,9 @@
 -- A line, a record and an offer in lent words, or their refusals; and what is written, read. Assumes nothing.
 use mathlib.Core.Path.{◌≡◌, refl, sym, ap, ◌∙◌, subst}
-use mathlib.Core.Bool.{Bool, true, false, cond, ◌&&◌}
+use mathlib.Core.Bool.{Bool, true, false, cond}
 use mathlib.Core.List.{List, [], ◌∷◌, ◌++◌}
-use mathlib.Core.Option.{Option, none, some}
-use Prim.Native.Nat.{ℕ, ◌+◌, ◌≤◌, ◌<◌}
+use mathlib.Core.Option.{none, some}
+use Prim.Native.Nat.{ℕ, ◌≤◌, ◌<◌}
 use native.Mathlib.Omega.{arith}
 use borrow.Author.Tests.{ltb-false}
 use lib.Dec.{ltb, eqb}
@@ -12,7 +12,7 @@ use lib.Seq.{sets}
 use Rattle.answers.specs.declared.Refusal.{Refusal}
 use Rattle.answers.specs.declared.Refusal.TheVariants as refusal
 use Rattle.answers.specs.declared.Written.{Written}
-use Rattle.answers.specs.declared.Written.TheVariants.{Length, Room, Refused}
+use Rattle.answers.specs.declared.Written.TheVariants.{Length, Refused}
 use Rattle.answers.specs.Refusals.{number_of}
 use Rattle.answers.specs.Writers.{written, stored, size_in, Wrote}
 use Rattle.answers.proofs.Stores.{wrote_refused, wrote_short, wrote_all, wrote_same, wrote_size, sets-front}
@@ -25,7 +25,6 @@ use Rattle.sdp.specs.declared.Negotiated.{Negotiated}
 use Rattle.sdp.specs.Reading.{Reads, listed, attribute_of, nothing}
 use Rattle.sdp.specs.Writing.{attribute_bytes, write_fault, methods_in}
 use Rattle.sdp.specs.Answers.{answered, answer_of}
-use Rattle.sdp.specs.Theorems.{Writable}
 use Rattle.sdp.proofs.Answering.{reads_once}
 use Rattle.sdp.proofs.Backs.{written_fits, reads_back}
 use Rattle.lent.specs.declared.attribute_words.Loaded.{Loaded}
@@ -33,7 +32,7 @@ use Rattle.lent.specs.declared.attribute_words.Answer.TheVariants.{Held, Malform
 use Rattle.lent.specs.AttributeWords.{method_number, mode_number, ect_number, attribute_in, is_attribute, loaded, attribute_words, cleared, some_attribute}
 use Rattle.lent.proofs.AttributeLaws as laws
 use Rattle.lent.proofs.AttributeLaws.{attribute_back, attribute_words_back, length-attribute}
-use Rattle.capi.specs.Codes.{refusal_code, Gives, Leaves}
+use Rattle.capi.specs.Codes.{refusal_code}
 use Rattle.capi.specs.AttributeCalls.{verdict_fault, ReadsAttribute, record_fault, negotiated, Tells, WordsReadBack}
 use Rattle.capi.proofs.Answers.{gives}
 

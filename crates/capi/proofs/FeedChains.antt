@@ -1,17 +1,16 @@
 -- Calls of flasknib_feed in turn, from words that are all zero: they are the feeds of the upload in the words. Assumes nothing.
 use mathlib.Core.Path.{◌≡◌, refl, sym, ap, ◌∙◌, subst}
-use mathlib.Core.Bool.{Bool, true, false, cond, not, ◌&&◌}
+use mathlib.Core.Bool.{Bool, true, false, cond, not}
 use mathlib.Core.List.{List, [], ◌∷◌, ◌++◌, append-nil}
 use mathlib.Core.Option.{Option, none, some}
 use Prim.Native.Nat.{ℕ, zero, suc, ◌+◌, ◌*◌, ◌/◌, ◌^◌, ◌≤◌, ◌<◌}
 use native.Mathlib.Omega.{arith}
 use borrow.Author.Tests.{eq-eqb, ne_eqb}
-use lib.Dec.{T, eqb, ltb, lt→ltb}
+use lib.Dec.{eqb, ltb, lt→ltb}
 use lib.IntN.{ℤ, pos}
-use lib.ListN.{length, get_or, take, drop, replicate, length-append}
+use lib.ListN.{length, get_or, take, drop, length-append}
 use lib.Seq.{take_at, drop_at}
 use Rattle.answers.specs.declared.Refusal.{Refusal}
-use Rattle.answers.specs.Refusals.{number_of}
 use Rattle.answers.specs.declared.Refusal.TheVariants as refusal
 use Rattle.answers.proofs.Conditions.{and_left, and_right, all_true, true_is}
 use Rattle.format.specs.Blocks.{block_bytes, body_at}
@@ -26,7 +25,7 @@ use Rattle.source.specs.declared.Source.{Source}
 use Rattle.source.specs.Record.{arrivals, distinct, zeros, fresh, sound, wire_number}
 use Rattle.source.specs.Arrivals.{arrival, after}
 use Rattle.source.specs.Blocks.{Packet, packets, jump, restart, count_all, block_count}
-use Rattle.source.specs.Totals.{fresh_totals, with_block}
+use Rattle.source.specs.Totals.{with_block}
 use Rattle.source.proofs.Afresh.{typed_stays}
 use Rattle.source.proofs.Facts.{facts, sound_has_counted}
 use Rattle.source.proofs.Totalled.{block_counted}
@@ -42,32 +41,28 @@ use Rattle.walk.specs.Blocks.{blocks_of, joined}
 use Rattle.walk.specs.Pieces.{Octets, whole_in}
 use Rattle.walk.specs.Programs.{Ending, to_output, walked}
 use Rattle.walk.specs.Fitting.{Took, one_more, front}
-use Rattle.walk.specs.Steps.{Next, goes, refuses}
 use Rattle.walk.specs.declared.Ended.{Ended}
 use Rattle.walk.specs.declared.Ended.TheVariants as ended
 use Rattle.walk.proofs.Cuts.{Each}
 use Rattle.walk.proofs.Pieces.{octets_wholes}
 use Rattle.convert.specs.declared.Run.{Run}
-use Rattle.convert.specs.declared.Begin.{Begin}
-use Rattle.convert.specs.declared.Begin.TheVariants as begin
 use Rattle.convert.specs.declared.feeds.Upload.{Upload}
-use Rattle.convert.specs.declared.feeds.FeedAnswer.{FeedAnswer}
 use Rattle.convert.specs.declared.feeds.FeedAnswer.TheVariants as answer
 use Rattle.convert.specs.Runs.{start_by, start_of, arrived, next_by, next_of, sound_totals}
 use Rattle.table.specs.Lines.{head_bytes}
 use Rattle.convert.specs.Tables.{Kept, taken, closing, ecntable, no_run}
-use Rattle.convert.specs.Feeds.{fresh_upload, TakenBy, most_fed, zeroth_in, part_in, kept_in, is_no_run, own_by, run_ok, keepable, sound_upload, labelled, turn_at, feeding, through, held_by, completed, rest_in, fed_by, in_room, bytes_at, in_limits, feed_by, feed_of, ends_whole, broken, close_by, close_of, Given, unchanged, repeated}
-use Rattle.convert.specs.FeedTheorems.{FeedRefused, FreshLent, Enough, unfed, and_fed, feed_all, ending_in, closed_as}
-use Rattle.convert.proofs.SoundUploads.{WellFormed, well_formed}
+use Rattle.convert.specs.Feeds.{TakenBy, most_fed, zeroth_in, part_in, kept_in, is_no_run, own_by, run_ok, keepable, sound_upload, labelled, feeding, through, held_by, completed, rest_in, fed_by, in_room, bytes_at, feed_by, feed_of, ends_whole, broken, close_by, close_of, Given, unchanged}
+use Rattle.convert.specs.FeedTheorems.{FeedRefused, FreshLent, unfed, and_fed, feed_all, ending_in, closed_as}
+use Rattle.convert.proofs.SoundUploads.{well_formed}
 use Rattle.convert.proofs.FeedRefusals.{refused_is_unchanged}
 use Rattle.convert.proofs.FeedAll.{Ongoing, feed_ongoing, fresh_ongoing, cuts_agree}
 use Rattle.convert.proofs.FeedPrints.{feeds_print}
 use Rattle.lent.specs.SourceWords.{source_words, FitsWord}
-use Rattle.lent.specs.FeedWords.{upload_of, is_upload, loaded, feed_words}
+use Rattle.lent.specs.FeedWords.{upload_of, loaded, feed_words}
 use Rattle.lent.specs.declared.feed_words.Loaded.{Loaded}
 use Rattle.lent.specs.declared.feed_words.Loaded.TheVariants.{Held, Malformed}
 use Rattle.lent.proofs.FeedLaws.{held, other, feed_back, feed_words_back, fresh_is_zeros}
-use Rattle.capi.specs.Feeds.{words_by, fed_of, closed_of, close_code}
+use Rattle.capi.specs.Feeds.{fed_of, closed_of, close_code}
 use Rattle.capi.specs.FeedChains.{Holding, zero_words, and_fed_words, feed_chain, closed_words, end_number, WordsInOne, WordsPrint, WordsAgree, RefusedLeavesWords}
 use Rattle.capi.proofs.FeedSteps.{fed_is, closed_is, words_after_lem}
 

@@ -1,11 +1,11 @@
 -- An upload in lent words, or refusal 9, and how long the rows of a feed are. Assumes nothing.
-use mathlib.Core.Path.{◌≡◌, refl, sym, ap, ◌∙◌, subst, subst⁻¹}
-use mathlib.Core.Bool.{Bool, true, false, cond, not}
+use mathlib.Core.Path.{◌≡◌, refl, sym, ap, ◌∙◌, subst⁻¹}
+use mathlib.Core.Bool.{Bool, true, false, cond}
 use mathlib.Core.List.{List, ◌++◌}
 use mathlib.Core.Option.{Option, none, some}
-use Prim.Native.Nat.{ℕ, ◌+◌, ◌-◌, ◌*◌, ◌/◌, ◌^◌, ◌≤◌, ◌<◌}
+use Prim.Native.Nat.{ℕ, ◌+◌, ◌-◌, ◌^◌, ◌≤◌, ◌<◌}
 use native.Mathlib.Omega.{arith}
-use borrow.Author.Tests.{ltb-true, ltb-false, lt-ltb, le-ltb}
+use borrow.Author.Tests.{ltb-true, ltb-false}
 use lib.Dec.{ltb}
 use lib.IntN.{ℤ, pos, neg_ℤ}
 use lib.ListN.{length, get_or, take, drop, replicate, length-take, length-drop}
@@ -14,25 +14,22 @@ use Rattle.answers.specs.declared.Refusal.{Refusal}
 use Rattle.answers.specs.declared.Refusal.TheVariants as refusal
 use Rattle.format.specs.Blocks.{block_bytes}
 use Rattle.numbers.proofs.Octets.{octets_append, octets_take, octets_drop, octets_zeros}
-use Rattle.table.specs.Theorems.{row_most}
 use Rattle.walk.specs.Fitting.{Took}
 use Rattle.walk.specs.Pieces.{Octets, wholes}
 use Rattle.walk.specs.declared.Ended.{Ended}
 use Rattle.walk.specs.declared.Ended.TheVariants as ended
-use Rattle.convert.specs.declared.Run.{Run}
 use Rattle.convert.specs.declared.feeds.Upload.{Upload}
-use Rattle.convert.specs.declared.feeds.FeedAnswer.{FeedAnswer}
 use Rattle.convert.specs.declared.feeds.FeedAnswer.TheVariants as answer
 use Rattle.convert.specs.declared.feeds.Fed.{Fed}
 use Rattle.convert.specs.Tables.{Kept}
-use Rattle.convert.specs.Feeds.{most_fed, TakenBy, lent_of, zeroth_in, part_in, kept_in, sound_upload, rest_in, in_limits, feed_by, feed_of, close_of, Given, unchanged, answer_by, fed_by, Feeds, Closes}
+use Rattle.convert.specs.Feeds.{most_fed, TakenBy, zeroth_in, part_in, kept_in, sound_upload, rest_in, in_limits, feed_by, feed_of, close_of, Given, unchanged, answer_by, fed_by, Feeds, Closes}
 use Rattle.convert.specs.Passes.{done_by, added_by, kept_more}
 use Rattle.convert.proofs.Lents.{more_kept}
 use Rattle.convert.proofs.SoundUploads.{WellFormed, well_formed, feed_malformed, feed_sound}
-use Rattle.convert.proofs.Completing.{missing, rest, filled, added_is, can_add, past_most, within_most, kept_more_lem}
+use Rattle.convert.proofs.Completing.{rest, filled, added_is, can_add, past_most, within_most, kept_more_lem}
 use Rattle.convert.proofs.Longest.{done_few}
 use Rattle.lent.specs.RunWords.{run_with}
-use Rattle.lent.specs.FeedWords.{upload_with, upload_of, is_upload, loaded, feed_words}
+use Rattle.lent.specs.FeedWords.{upload_with, upload_of, loaded, feed_words}
 use Rattle.lent.specs.declared.feed_words.Loaded.TheVariants.{Held, Malformed}
 use Rattle.lent.proofs.FeedLaws.{held, other, words_of}
 use Rattle.capi.specs.Codes.{Leaves}

@@ -2,17 +2,16 @@
 use mathlib.Core.Path.{◌≡◌, refl, ap}
 use mathlib.Core.Bool.{Bool, true, false, cond}
 use mathlib.Core.List.{List}
-use mathlib.Core.Option.{Option, none, some}
-use Prim.Native.Nat.{ℕ, ◌*◌, ◌≤◌}
+use mathlib.Core.Option.{none, some}
+use Prim.Native.Nat.{ℕ, ◌≤◌}
 use native.Mathlib.Omega.{arith}
 use lib.ListN.{length, take}
 use Rattle.answers.specs.Writers.{written, size_in}
-use Rattle.answers.specs.declared.Refusal.{Refusal}
 use Rattle.answers.specs.declared.Refusal.TheVariants.{Limits}
 use Rattle.answers.specs.declared.Written.{Written}
 use Rattle.answers.specs.declared.Written.TheVariants.{Length, Room, Refused}
 use Rattle.answers.proofs.Stores.{wrote_size}
-use Rattle.format.specs.Forms.{Shape, shape_of, width}
+use Rattle.format.specs.Forms.{Shape, shape_of}
 use Rattle.format.specs.declared.Form.{Form}
 use Rattle.format.proofs.Fits.{fits, records_fit}
 use Rattle.trace.specs.Layout.{label_block, arrivals_block, records_block, body_of}

@@ -1,19 +1,18 @@
 -- A call for the SSRC of a place that a walk has told: the record there is the table's, and the next table has another one there. Assumes nothing.
-use mathlib.Core.Path.{◌≡◌, refl, sym, ap, ap₂, ◌∙◌}
+use mathlib.Core.Path.{◌≡◌, refl, sym, ap, ◌∙◌}
 use mathlib.Core.Bool.{Bool, true, false, cond, not, ◌&&◌}
 use mathlib.Core.List.{List, [], ◌∷◌, ◌++◌}
 use mathlib.Core.Option.{Option, none, some}
 use Prim.Native.Nat.{ℕ, zero, suc, ◌+◌, ◌*◌, ◌^◌, ◌≤◌, ◌<◌, min}
 use native.Mathlib.Omega.{arith}
-use borrow.Author.Tests.{eq-eqb, ne_eqb, le-ltb, lt-ltb, ltb-true, ltb-false}
-use lib.Dec.{eqb, ltb}
+use borrow.Author.Tests.{eq-eqb, ne_eqb, le-ltb, lt-ltb, ltb-true}
+use lib.Dec.{ltb}
 use lib.IntN.{ℤ}
 use lib.ListN.{length, get_or, set, take, drop, length-set}
 use lib.Seq.{get_or-take, get_or-drop, drop-drop, take_all, set-append_left}
 use Rattle.answers.specs.Conditions.{all}
 use Rattle.answers.specs.declared.Refusal.{Refusal}
 use Rattle.answers.specs.declared.Refusal.TheVariants.{Malformed, Rules, Limits}
-use Rattle.answers.specs.Refusals.{number_of}
 use Rattle.answers.proofs.Conditions.{and_left, and_right, all_true}
 use Rattle.format.specs.declared.Wire.{Wire}
 use Rattle.numbers.specs.Since.{signed}
@@ -28,9 +27,9 @@ use Rattle.source.specs.Record.{sound}
 use Rattle.sources.specs.declared.Place.{Place}
 use Rattle.sources.specs.declared.Counted.{Counted}
 use Rattle.sources.specs.Places.{empty_place, held_of, rest_of}
-use Rattle.sources.specs.Rules.{most_places, rising, rules, all_sound, fault}
+use Rattle.sources.specs.Rules.{rising, rules, all_sound, fault}
 use Rattle.sources.specs.Stands.{stands_at, found, is_new, record_in, put, record_of, new_to, with_place}
-use Rattle.sources.specs.Answers.{full, or_else, seatless, refusal, kept, told, told_unless, arrive_answer, arrive_places, outside, behind, told_block, block_unless, count_answer, count_places}
+use Rattle.sources.specs.Answers.{refusal, kept, told, told_unless, arrive_answer, arrive_places, outside, behind, told_block, block_unless, count_answer, count_places}
 use Rattle.sources.specs.Tables as table
 use Rattle.sources.proofs.Found.{rising_first, rising_rest}
 use Rattle.sources.proofs.Fronts.{front_is, front_rest, front_le}
@@ -44,7 +43,7 @@ use Rattle.lent.proofs.PlaceRuns.{length-places_by}
 use Rattle.lent.proofs.Taking.{whole, few, taken}
 use Rattle.lent.proofs.TableLaws.{table_words_back}
 use Rattle.capi.specs.Codes.{Leaves}
-use Rattle.capi.specs.Tables.{arrived_unless, table_arrived, arrived_code, arrived_words, CountsTableArrival, table_counted, counted_code, counted_words, CountsTableBlock}
+use Rattle.capi.specs.Tables.{table_arrived, arrived_code, arrived_words, CountsTableArrival, table_counted, counted_code, counted_words, CountsTableBlock}
 use Rattle.capi.specs.TableWalks.{Told, put_at}
 use Rattle.capi.proofs.Walked.{nth_place}
 

@@ -25,7 +25,7 @@ use Rattle.sources.specs.Answers.{or_else}
 use Rattle.sources.specs.Runs.{call_next, TakesBlock}
 use Rattle.sources.specs.Rows.{rows_fault, row_fault, row_of}
 use Rattle.sources.proofs.LineLaws as lines
-use Rattle.lent.specs.StreamWords.{run_words, stored_lines, run_of, words_fault, loaded}
+use Rattle.lent.specs.StreamWords.{run_words, stored_lines, run_of, loaded}
 use Rattle.lent.specs.declared.stream_words.Answer.TheVariants.{Taken, Refused}
 use Rattle.lent.proofs.StreamTaking.{none_sound, taken, not_taken}
 use Rattle.lent.proofs.StreamLaws.{ssrc_fits}

@@ -11,7 +11,6 @@ use lib.Seq.{get_or-drop, drop-drop}
 use Rattle.answers.specs.Conditions.{all}
 use Rattle.numbers.specs.Since.{signed}
 use Rattle.numbers.proofs.Differences.{signed_low}
-use Rattle.source.specs.declared.Source.{Source}
 use Rattle.source.specs.Places.{place, marks}
 use Rattle.source.specs.Record.{fresh, has_counted, sound}
 use Rattle.source.proofs.Facts.{facts, facts_count}

@@ -10,8 +10,7 @@ use sdp::reader::read;
 use sdp::writer::write;
 
 // Reads a line, from `a=` to before its CR LF. Gives 0 and 11 words at the front of `found`, or refusal 10, 18 or 10, or 12 where `found` has fewer words.
-#[unsafe(no_mangle)]
-pub extern "C" fn flasknib_read_attribute(line: &[u8], found: &mut [u64]) -> u8
+pub fn flasknib_read_attribute(line: &[u8], found: &mut [u64]) -> u8
     ensures { ReadsAttribute line.now found.old result found.new }
 {
     let reading = read(line);
@@ -31,8 +30,7 @@ pub extern "C" fn flasknib_read_attribute(line: &[u8], found: &mut [u64]) -> u8
 
 // Writes the line of 11 words at the front of `out`. Gives its length, or minus refusal 9 for words that are no record, 10 for no method or over 8, or 12
 // with its size.
-#[unsafe(no_mangle)]
-pub extern "C" fn flasknib_write_attribute(attribute: &[u64], out: &mut [u8]) -> i64
+pub fn flasknib_write_attribute(attribute: &[u64], out: &mut [u8]) -> i64
     ensures { WritesAttribute attribute.now out.old result out.new }
 {
     let loaded = attribute_words::load(attribute);

@@ -65,8 +65,7 @@ fn put_back(step: Step, words: &mut [u64]) -> u16
 }
 
 // Starts a breaker: Go and the record in the 77 words of `breaker`, or refusal 9 for another number of words, or 10.
-#[unsafe(no_mangle)]
-pub extern "C" fn flasknib_breaker_start(
+pub fn flasknib_breaker_start(
     k: u64,
     m: u64,
     timeout: u64,
@@ -108,8 +107,7 @@ fn put_start(step: Step, place: &mut [u64]) -> u16
 }
 
 // Starts a breaker with the preset settings: Go and the record in the 77 words of `breaker`, or refusal 9 for another number of words, or 10.
-#[unsafe(no_mangle)]
-pub extern "C" fn flasknib_breaker_start_preset(time: u64, breaker: &mut [u64]) -> u16
+pub fn flasknib_breaker_start_preset(time: u64, breaker: &mut [u64]) -> u16
     ensures { StartsPreset time breaker.old result breaker.new }
 {
     put_start(Breaker::start_preset(time), breaker)
@@ -144,8 +142,7 @@ fn take_report(
 }
 
 // A report with the fraction lost.
-#[unsafe(no_mangle)]
-pub extern "C" fn flasknib_breaker_report(
+pub fn flasknib_breaker_report(
     breaker: &mut [u64],
     time: u64,
     highest: u32,
@@ -161,8 +158,7 @@ pub extern "C" fn flasknib_breaker_report(
 }
 
 // A report with ECN counts in the place of the fraction lost.
-#[unsafe(no_mangle)]
-pub extern "C" fn flasknib_breaker_report_ecn(
+pub fn flasknib_breaker_report_ecn(
     breaker: &mut [u64],
     time: u64,
     highest: u32,
@@ -185,8 +181,7 @@ pub extern "C" fn flasknib_breaker_report_ecn(
 }
 
 // A tick on the record in `breaker`: the answer, and the next record in its place.
-#[unsafe(no_mangle)]
-pub extern "C" fn flasknib_breaker_tick(breaker: &mut [u64], time: u64) -> u16
+pub fn flasknib_breaker_tick(breaker: &mut [u64], time: u64) -> u16
     ensures { TakesTick breaker.old time result breaker.new }
 {
     let given = record_in(breaker);
@@ -198,8 +193,7 @@ pub extern "C" fn flasknib_breaker_tick(breaker: &mut [u64], time: u64) -> u16
 }
 
 // A heard packet on the record in `breaker`: the answer, and the next record in its place.
-#[unsafe(no_mangle)]
-pub extern "C" fn flasknib_breaker_heard(breaker: &mut [u64], time: u64) -> u16
+pub fn flasknib_breaker_heard(breaker: &mut [u64], time: u64) -> u16
     ensures { TakesHeard breaker.old time result breaker.new }
 {
     let given = record_in(breaker);

@@ -7,8 +7,7 @@ use lent::ecn_words;
 
 // What came between two ECN reports, the later and the earlier one. Gives 0 and 3 words at the front of `counts`, or refusal 10, or 12 where
 // `counts` has fewer words.
-#[unsafe(no_mangle)]
-pub extern "C" fn flasknib_ecn_between(
+pub fn flasknib_ecn_between(
     later_highest: u32,
     later_ce: u16,
     later_lost: u16,

@@ -67,13 +67,7 @@ fn put_closed(fed: Fed, words: &mut [u64]) -> u8
 
 // Takes a stretch of a trace, and writes the rows of the blocks that it completes. Gives their length and the upload in the place of the last, or minus refusal
 // 9, the kept one, 10, 12 or a block's.
-#[unsafe(no_mangle)]
-pub extern "C" fn flasknib_feed(
-    upload: &mut [u64],
-    kept: &mut [u8],
-    stretch: &[u8],
-    out: &mut [u8],
-) -> i64
+pub fn flasknib_feed(upload: &mut [u64], kept: &mut [u8], stretch: &[u8], out: &mut [u8]) -> i64
     ensures { FeedsWords upload.old kept.old stretch.now out.old result upload.new kept.new out.new }
 {
     let Loaded::Held(given) = feed_words::load(upload) else {
@@ -83,8 +77,7 @@ pub extern "C" fn flasknib_feed(
 }
 
 // Ends a trace, or asks how it would end. Gives 0, or refusal 9, the kept one or 1, which is kept.
-#[unsafe(no_mangle)]
-pub extern "C" fn flasknib_feed_close(upload: &mut [u64], kept: &[u8]) -> u8
+pub fn flasknib_feed_close(upload: &mut [u64], kept: &[u8]) -> u8
     ensures { ClosesWords upload.old kept.now result upload.new }
 {
     let Loaded::Held(given) = feed_words::load(upload) else {

@@ -1,5 +1,5 @@
-// The functions of include/flasknib.h. A slice is a pointer and then its length; each function takes what it was lent apart, calls the proved
-// call of another crate, and puts the answer back.
+// The functions of include/flasknib.h, which `capi_c` exports. Each takes what it was lent apart, calls the proved call of another crate, and puts the
+// answer back.
 #![tactic(auto)]
 
 pub mod about;

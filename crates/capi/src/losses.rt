@@ -7,8 +7,7 @@ use lent::source_words::{Loaded, load};
 use source::Lost;
 
 // The packets lost. Gives 0 and 1 word at the front of `found`, or refusal 9, or 12 where `found` has no word.
-#[unsafe(no_mangle)]
-pub extern "C" fn flasknib_lost(words: &[u64], found: &mut [u64]) -> u8
+pub fn flasknib_lost(words: &[u64], found: &mut [u64]) -> u8
     ensures { TellsLost words.now found.old result found.new }
 {
     let Loaded::Held(source) = load(words) else {

@@ -8,16 +8,14 @@ use source::Totals;
 use table::{write_head, write_refused, write_row};
 
 // Writes the table's head line. Gives its length, or minus refusal 12.
-#[unsafe(no_mangle)]
-pub extern "C" fn flasknib_write_head(out: &mut [u8]) -> i64
+pub fn flasknib_write_head(out: &mut [u8]) -> i64
     ensures { WritesHead out.old result out.new }
 {
     codes::length(write_head(out))
 }
 
 // Writes a row of the table. Gives its length, or minus refusal 9, 10 or 12.
-#[unsafe(no_mangle)]
-pub extern "C" fn flasknib_write_row(
+pub fn flasknib_write_row(
     label: &[u8],
     ssrc: u32,
     words: &[u64],
@@ -39,8 +37,7 @@ pub extern "C" fn flasknib_write_row(
 }
 
 // Writes the line `refused N block I`. Gives its length, or minus refusal 12.
-#[unsafe(no_mangle)]
-pub extern "C" fn flasknib_write_refused(number: u8, block: u64, out: &mut [u8]) -> i64
+pub fn flasknib_write_refused(number: u8, block: u64, out: &mut [u8]) -> i64
     ensures { WritesRefused number block out.old result out.new }
 {
     codes::length(write_refused(number, block, out))

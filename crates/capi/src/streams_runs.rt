@@ -39,8 +39,7 @@ fn put_lines(step: Step, lines: &mut [u64])
 }
 
 // Takes block 0. Gives 0 and the run in 3 words, or refusal 9, 1, 13 or 14.
-#[unsafe(no_mangle)]
-pub extern "C" fn flasknib_streams_start(zeroth: &[u8], run: &mut [u64]) -> u8
+pub fn flasknib_streams_start(zeroth: &[u8], run: &mut [u64]) -> u8
     ensures { StartsStreams zeroth.now run.old result run.new }
 {
     if run.len() != WORDS {
@@ -51,8 +50,7 @@ pub extern "C" fn flasknib_streams_start(zeroth: &[u8], run: &mut [u64]) -> u8
 
 // Takes a later block, and counts its arrivals in the line of their SSRC. Gives 0, the next run in the place of the last and the lines, or refusal 16, 9, 1,
 // 13, 14 or 15.
-#[unsafe(no_mangle)]
-pub extern "C" fn flasknib_streams_block(run: &mut [u64], lines: &mut [u64], block: &[u8]) -> u8
+pub fn flasknib_streams_block(run: &mut [u64], lines: &mut [u64], block: &[u8]) -> u8
     ensures { TakesStreams run.old lines.old block.now result run.new lines.new }
 {
     let loaded = load(run, lines);
@@ -69,8 +67,7 @@ pub extern "C" fn flasknib_streams_block(run: &mut [u64], lines: &mut [u64], blo
 }
 
 // Writes the row of line i. Gives its length, or minus refusal 16, 9, 10 or 12.
-#[unsafe(no_mangle)]
-pub extern "C" fn flasknib_streams_row(
+pub fn flasknib_streams_row(
     run: &[u64],
     i: usize,
     lines: &[u64],

@@ -58,8 +58,7 @@ fn arrive_in(words: &mut [u64], ssrc: u32, wire: u16, mark: u8) -> u8
 }
 
 // Counts one arrival of an SSRC. Gives 0 or 128, for a restart, and the next table; or refusal 16, 9, 10, 15, 8 or 7. A jump (7) leaves its table too.
-#[unsafe(no_mangle)]
-pub extern "C" fn flasknib_sources_arrive(words: &mut [u64], ssrc: u32, wire: u16, mark: u8) -> u8
+pub fn flasknib_sources_arrive(words: &mut [u64], ssrc: u32, wire: u16, mark: u8) -> u8
     ensures { CountsTableArrival words.old ssrc wire mark result words.new }
 {
     let at = place_of(words, ssrc);
@@ -102,8 +101,7 @@ fn count_in(words: &mut [u64], ssrc: u32, records: &[u8], width: usize) -> i64
 }
 
 // Counts the records of one arrivals block of an SSRC. Gives 256 * restarts + jumps and the next table, or minus refusal 16, 9, 10 or 15.
-#[unsafe(no_mangle)]
-pub extern "C" fn flasknib_sources_count_block(
+pub fn flasknib_sources_count_block(
     words: &mut [u64],
     ssrc: u32,
     records: &[u8],
@@ -119,8 +117,7 @@ pub extern "C" fn flasknib_sources_count_block(
 }
 
 // Writes the compound: an RR and the feedback of the held places. Gives its length, or minus refusal 16, 9 or 12.
-#[unsafe(no_mangle)]
-pub extern "C" fn flasknib_sources_write_compound(words: &[u64], sender: u32, out: &mut [u8]) -> i64
+pub fn flasknib_sources_write_compound(words: &[u64], sender: u32, out: &mut [u8]) -> i64
     ensures { WritesTableCompound words.now sender out.old result out.new }
 {
     let loaded = load(words);
@@ -155,8 +152,7 @@ fn put_held(t: Table, place: usize, found: &mut [u64]) -> u8
 }
 
 // The words of a held place, counted from 0. Gives 0 and 11 words at the front of found, or refusal 16, 9, 10 or 12.
-#[unsafe(no_mangle)]
-pub extern "C" fn flasknib_sources_place(words: &[u64], place: usize, found: &mut [u64]) -> u8
+pub fn flasknib_sources_place(words: &[u64], place: usize, found: &mut [u64]) -> u8
     ensures { GivesPlace words.now place found.old result found.new }
 {
     let loaded = load(words);
@@ -181,8 +177,7 @@ fn held_in(t: Table) -> i64
 }
 
 // How many places are held, all in front. Gives their number, or minus refusal 16 or 9.
-#[unsafe(no_mangle)]
-pub extern "C" fn flasknib_sources_held(words: &[u64]) -> i64
+pub fn flasknib_sources_held(words: &[u64]) -> i64
     ensures { TellsHeld words.now result }
 {
     let loaded = load(words);

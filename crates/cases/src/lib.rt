@@ -3,13 +3,13 @@
 #![tactic(auto)]
 
 mod hex;
-mod numbers;
+mod numerals;
 pub mod record;
 
 ghost use Rattle.std.specs.Prelude.{◌-◌, ◌≤◌, length};
 
 pub use hex::bytes;
-pub use numbers::{number, number8, number16, number32, signed, size};
+pub use numerals::{number, number8, number16, number32, signed, size};
 
 // The first n bytes of s, all of them where it has fewer.
 pub fn front(s: &[u8], n: usize) -> &[u8]

@@ -2,7 +2,6 @@
 use mathlib.Core.Path.{◌≡◌, refl, sym, ap, ap₂, ◌∙◌, subst}
 use mathlib.Core.Bool.{Bool, cond}
 use mathlib.Core.List.{List, ◌∷◌, ◌++◌, append-nil, append_assoc}
-use mathlib.Core.Option.{some}
 use Prim.Native.Nat.{ℕ, ◌+◌, ◌-◌, ◌*◌, ◌/◌, ◌≤◌, ◌<◌}
 use native.Mathlib.Omega.{arith}
 use borrow.Author.Tests.{lt-ltb, le-ltb}
@@ -11,19 +10,17 @@ use lib.ListN.{length, take, drop, replicate, length-append, length-take, length
 use lib.Seq.{sets, length-sets, take_at, drop_at, drop-append-add}
 use Rattle.answers.specs.declared.Refusal.TheVariants.{Limits}
 use Rattle.format.specs.Blocks.{block_bytes}
-use Rattle.trace.specs.declared.Zeroth.TheVariants as zeroth
 use Rattle.walk.specs.Pieces.{wholes, whole_in}
 use Rattle.walk.specs.Fitting.{Took, none_taken, front}
 use Rattle.walk.specs.Endings.{ended_by}
-use Rattle.walk.specs.declared.Ended.TheVariants.{Going, Refused}
+use Rattle.walk.specs.declared.Ended.TheVariants.{Going}
 use Rattle.walk.proofs.Pieces.{whole_first, whole_none}
 use Rattle.convert.specs.declared.feeds.Upload.{Upload}
 use Rattle.convert.specs.declared.feeds.FeedAnswer.TheVariants as answer
 use Rattle.convert.specs.declared.feeds.Fed.{Fed}
-use Rattle.convert.specs.Tables.{Kept, taken}
+use Rattle.convert.specs.Tables.{Kept}
 use Rattle.convert.specs.Feeds.{lent_bytes, zeroth_in, part_in, kept_in, padded, lent_of, most_fed, TakenBy, feeding, through, held_by, completed, rest_in, Given, unchanged, answer_by, left_by, fed_by, in_room, bytes_at, in_limits, Feeds}
 use Rattle.convert.specs.Passes.{done_by, CanAdd, added_by, room_of, kept_more}
-use Rattle.convert.proofs.Fitted.{kept}
 use Rattle.convert.proofs.Lents.{zeroth_long, part_long, lent_zeroth, lent_part, lent_behind, sets-again, clear_same, more_kept}
 use Rattle.convert.proofs.SoundUploads.{WellFormed, run_sound}
 

@@ -22,7 +22,6 @@ use Rattle.walk.proofs.Pieces.{whole_none, octets_wholes}
 use Rattle.convert.specs.declared.Begin.{Begin}
 use Rattle.convert.specs.declared.Begin.TheVariants as begin
 use Rattle.convert.specs.declared.feeds.Upload.{Upload}
-use Rattle.convert.specs.declared.feeds.FeedAnswer.TheVariants as answer
 use Rattle.convert.specs.Runs.{start_of}
 use Rattle.convert.specs.Tables.{Kept}
 use Rattle.convert.specs.Feeds.{fresh_upload, lent_bytes, most_fed, TakenBy, zeroth_in, part_in, kept_in, padded, sound_upload, feeding, through, held_by, completed, rest_in, left_by, Given, fed_by, bytes_at, feed_of}

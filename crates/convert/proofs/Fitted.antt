@@ -1,5 +1,5 @@
 -- The loop over the blocks of a piece: its turns, and its ways out. Assumes nothing.
-use mathlib.Core.Path.{◌≡◌, refl, sym, ap, ◌∙◌, subst}
+use mathlib.Core.Path.{◌≡◌, sym, ap, ◌∙◌, subst}
 use mathlib.Core.Bool.{true}
 use mathlib.Core.List.{List}
 use mathlib.Core.Option.{none, some}
@@ -11,8 +11,8 @@ use Rattle.answers.specs.declared.Refusal.{Refusal}
 use Rattle.format.specs.Blocks.{block_bytes}
 use Rattle.numbers.proofs.BigEndian.{Octets}
 use Rattle.numbers.proofs.Octets.{octets_take, octets_drop}
-use Rattle.walk.specs.Programs.{nothing, to_output, Turn}
-use Rattle.walk.specs.Steps.{Next, goes, refuses}
+use Rattle.walk.specs.Programs.{nothing, to_output}
+use Rattle.walk.specs.Steps.{goes, refuses}
 use Rattle.walk.specs.Puts.{WasPut, NoRoom, WasRefused}
 use Rattle.walk.specs.declared.Ended.TheVariants as ended
 use Rattle.walk.proofs.Loops.{Going, going_first, going_last, going_taken, going_pauses, going_refused}

@@ -1,37 +1,35 @@
 -- The calls over a trace follow the program ecntable. Assumes nothing.
 use mathlib.Core.Path.{◌≡◌, refl, sym, ap, ◌∙◌, subst}
-use mathlib.Core.Bool.{Bool, true, false, cond}
+use mathlib.Core.Bool.{true}
 use mathlib.Core.List.{List, []}
-use mathlib.Core.Option.{Option, none, some}
-use Prim.Native.Nat.{ℕ, ◌+◌, ◌*◌, ◌^◌, ◌≤◌, ◌<◌}
+use mathlib.Core.Option.{some}
+use Prim.Native.Nat.{ℕ, ◌+◌, ◌^◌, ◌≤◌, ◌<◌}
 use native.Mathlib.Omega.{arith}
 use lib.ListN.{length}
-use Rattle.answers.specs.declared.Refusal.{Refusal}
 use Rattle.answers.specs.declared.Refusal.TheVariants.{Incomplete}
 use Rattle.format.specs.Blocks.{block_bytes}
 use Rattle.trace.proofs.Placed.{later_short}
-use Rattle.walk.specs.Programs.{Printed, nothing, to_output, Turn}
+use Rattle.walk.specs.Programs.{nothing, to_output}
 use Rattle.walk.specs.Steps.{Next, goes, refuses}
 use Rattle.walk.specs.Pieces.{Octets, wholes, whole_in}
 use Rattle.walk.specs.Fitting.{Took, fitting}
-use Rattle.walk.specs.Endings.{refusal_in, ended_by, is_going, number_after}
-use Rattle.walk.specs.Machines.{Standing, begun_by, fitting_by, stood_by, ending_by, goes_on, Gives, Follows}
+use Rattle.walk.specs.Endings.{refusal_in, is_going}
+use Rattle.walk.specs.Machines.{Standing, begun_by, fitting_by, ending_by, goes_on, Gives, Follows}
 use Rattle.walk.specs.declared.Ended.{Ended}
 use Rattle.walk.specs.declared.Ended.TheVariants as ended
 use Rattle.walk.proofs.Pieces.{whole_many, octets_wholes}
 use Rattle.walk.proofs.Fits.{fitting_fits, fitting_keeps, fitting_quiet, room_is_enough}
-use Rattle.walk.proofs.Standing.{ended_back, going_of, number_small}
+use Rattle.walk.proofs.Standing.{ended_back, number_small}
 use Rattle.walk.proofs.Sessions.{fitting_gives, session_prints}
 use Rattle.convert.specs.declared.Run.{Run}
 use Rattle.convert.specs.declared.Begin.{Begin}
 use Rattle.convert.specs.declared.Begin.TheVariants as begin
-use Rattle.convert.specs.declared.pieces.Progress.{Progress}
-use Rattle.convert.specs.Runs.{sound_run, row_of, start_of, next_of}
+use Rattle.convert.specs.Runs.{sound_run, start_of, next_of}
 use Rattle.convert.specs.Tables.{Kept, begun, taken, ecntable, printed}
 use Rattle.table.specs.Lines.{head_bytes}
-use Rattle.convert.specs.Pieces.{begin_by, begin_of, standing, took_of, after_taking, piece_fault, end_of, Held, gave_by, calls, TracePrints, RowsHaveRoom}
+use Rattle.convert.specs.Pieces.{begin_by, begin_of, standing, took_of, piece_fault, end_of, Held, gave_by, calls, TracePrints, RowsHaveRoom}
 use Rattle.table.specs.Theorems.{row_most}
-use Rattle.convert.proofs.Kept.{Good, good, sound_good, next_good, next_ssrc, row_long, start_good}
+use Rattle.convert.proofs.Kept.{good, sound_good, next_good, next_ssrc, row_long, start_good}
 use Rattle.convert.proofs.Taking.{took_going}
 use Rattle.convert.proofs.Steps.{next_by_lem}
 

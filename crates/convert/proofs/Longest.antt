@@ -2,7 +2,7 @@
 use mathlib.Core.Path.{◌≡◌, refl, ap}
 use mathlib.Core.List.{List, [], ◌∷◌}
 use mathlib.Core.Option.{Option, none, some}
-use Prim.Native.Nat.{ℕ, zero, suc, ◌-◌, ◌*◌, ◌^◌, ◌≤◌, ◌<◌}
+use Prim.Native.Nat.{ℕ, zero, suc, ◌*◌, ◌^◌, ◌≤◌, ◌<◌}
 use native.Mathlib.Omega.{arith}
 use lib.ListN.{length, drop, length-append}
 use Rattle.answers.specs.declared.Refusal.{Refusal}
@@ -17,7 +17,6 @@ use Rattle.trace.proofs.Accepted.{accepted}
 use Rattle.trace.proofs.Placed.{zeroth_label}
 use Rattle.walk.specs.Pieces.{Octets, wholes, whole_in}
 use Rattle.walk.specs.Fitting.{Took, one_more, front}
-use Rattle.walk.specs.declared.Ended.TheVariants.{Refused}
 use Rattle.walk.proofs.Cuts.{Each}
 use Rattle.walk.proofs.Pieces.{whole_many, octets_wholes}
 use Rattle.convert.specs.declared.Run.{Run}

@@ -174,7 +174,7 @@ module _ (u : Upload) (lent stretch : List ℕ) (f : WellFormed u lent) (o : Oct
   zeroth_whole = go (u.blocks + done.taken) refl
     where
       go : (n : ℕ) → u.blocks + done.taken ≡ n → length done.state.zeroth ≡ block_bytes
-      go zero e = ap (λ (k : Kept). length k.zeroth) (leaves.none-taken e) ∙ zeroth_long lent f.long
+      go zero e = ap (λ (k : Kept). length k.zeroth) (leaves.none_taken_lem e) ∙ zeroth_long lent f.long
       go (suc n) e = whole (good (leaves.owned (omega (arith, e))).1)
 
   run_ok_lem : run_ok done.state.run done.state.zeroth (eqb (u.blocks + done.taken) 0) ≡ true
@@ -182,7 +182,7 @@ module _ (u : Upload) (lent stretch : List ℕ) (f : WellFormed u lent) (o : Oct
     where
       go : (n : ℕ) → u.blocks + done.taken ≡ n → run_ok done.state.run done.state.zeroth (eqb n 0) ≡ true
       go zero e =
-          let same = leaves.none-taken e in
+          let same = leaves.none_taken_lem e in
           let early : eqb u.blocks 0 ≡ true = eq-eqb u.blocks 0 (omega (arith, e)) in
           ap (λ (k : Kept). run_ok k.run k.zeroth true) same ∙ sym (ap (run_ok u.run (zeroth_in lent)) early) ∙ f.run
       go (suc n) e =

@@ -2,8 +2,8 @@
 use mathlib.Core.Path.{◌≡◌, refl, sym, ap, ◌∙◌}
 use mathlib.Core.Bool.{true, false}
 use mathlib.Core.List.{List, []}
-use mathlib.Core.Option.{Option, none, some}
-use Prim.Native.Nat.{ℕ, ◌+◌, ◌*◌, ◌/◌, ◌^◌, ◌≤◌, ◌<◌}
+use mathlib.Core.Option.{Option}
+use Prim.Native.Nat.{ℕ, ◌/◌, ◌^◌, ◌<◌}
 use native.Mathlib.Omega.{arith}
 use lib.ListN.{length}
 use Rattle.answers.specs.Writers.{Wrote}
@@ -25,7 +25,7 @@ use Rattle.convert.specs.declared.pieces.Progress.{Progress}
 use Rattle.convert.specs.declared.pieces.Taken.{Taken}
 use Rattle.convert.specs.Runs.{sound_run}
 use Rattle.convert.specs.Tables.{Kept, ecntable}
-use Rattle.convert.specs.Pieces.{standing, took_of, after_taking, piece_fault, TakenBy, Takes, Fitted}
+use Rattle.convert.specs.Pieces.{standing, took_of, piece_fault, TakenBy, Takes, Fitted}
 
 pub took_going : (p : Progress) (zeroth piece : List ℕ) (room : ℕ) → p.ended ≡ ended.Going
     → took_of p zeroth piece room ≡ fitting ecntable p.block (whole_in piece) (record { run = p.run; zeroth = zeroth }) room

@@ -12,11 +12,10 @@ use Rattle.format.specs.Blocks.{block_bytes}
 use Rattle.walk.specs.Pieces.{blocks_in, wholes, whole_in}
 use Rattle.walk.specs.Programs.{Printed, nothing, both, Turn, Ending, Run as Walked, ending_at, turned, onward, walk}
 use Rattle.walk.specs.Fitting.{Took, one_more, front, run_of}
-use Rattle.walk.specs.declared.Ended.TheVariants as ended
 use Rattle.walk.proofs.Fits.{front_walks}
 use Rattle.walk.proofs.Pieces.{blocks_none, blocks_first, piece_blocks, wholes_small}
 use Rattle.walk.proofs.Walks.{onward_ended}
-use Rattle.convert.specs.Tables.{Kept, ecntable, printed}
+use Rattle.convert.specs.Tables.{Kept, ecntable}
 use Rattle.convert.specs.Feeds.{through, rest_in}
 use Rattle.convert.proofs.Cutting.{all_taken}
 use Rattle.convert.proofs.Followed.{short_turn, turn_quiet}

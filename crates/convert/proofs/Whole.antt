@@ -1,7 +1,6 @@
 -- What the whole run prints, block by block, and that the calls for one block each print it. Assumes nothing.
 use mathlib.Core.Path.{◌≡◌, refl, ap, ◌∙◌, subst, subst⁻¹}
 use mathlib.Core.List.{List, ◌∷◌}
-use mathlib.Core.Option.{none}
 use Prim.Native.Nat.{ℕ, suc}
 use Rattle.table.specs.Lines.{head_bytes}
 use Rattle.walk.specs.Blocks.{blocks_of}

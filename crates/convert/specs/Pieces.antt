@@ -1,5 +1,5 @@
 -- The three calls of a run of ecntable over pieces of a trace: what each gives, by the program of specs/Tables.
-use Rattle.std.specs.Prelude.{◌≡◌, Bool, true, cond, List, [], ℕ, ◌+◌, ◌*◌, ◌^◌, ◌≤◌, ◌<◌, length}
+use Rattle.std.specs.Prelude.{◌≡◌, true, cond, List, ℕ, ◌*◌, ◌^◌, ◌≤◌, ◌<◌, length}
 use Rattle.std.proofs.Math.Option.{Option, none, some}
 use Rattle.answers.specs.Writers.{Wrote}
 use Rattle.answers.specs.declared.Refusal.{Refusal}

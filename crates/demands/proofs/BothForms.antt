@@ -3,12 +3,11 @@ use mathlib.Core.Path.{◌≡◌, refl, sym, ap, ap₂, ◌∙◌, subst}
 use mathlib.Core.List.{List, [], ◌∷◌, ◌++◌}
 use Prim.Native.Nat.{ℕ, ◌≤◌}
 use native.Mathlib.Omega.{arith}
-use lib.ListN.{length, take, drop, length-append}
+use lib.ListN.{length, drop, length-append}
 use Rattle.format.specs.Blocks.{block_bytes}
 use Rattle.format.specs.Forms.{other_form}
 use Rattle.format.specs.declared.Form.{Form}
 use Rattle.numbers.proofs.BigEndian.{Octets}
-use Rattle.trace.specs.Layout.{body_of}
 use Rattle.trace.specs.Reading.{block_of}
 use Rattle.trace.specs.declared.Block.TheVariants.{Label}
 use Rattle.trace.specs.declared.Record.{Record}

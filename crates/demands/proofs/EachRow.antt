@@ -46,7 +46,7 @@ use Rattle.mixed.proofs.Rises.{lines_rise}
 use Rattle.mixed.proofs.Witnesses.{met as sources-met}
 use Rattle.demands.specs.PrintedTable.{records_by, together, AllArrivals, EndsIn}
 use Rattle.demands.specs.BothForms.{records_totals}
-use Rattle.demands.specs.EachRow.{named_by, naming, kept_behind, own_trace, EachLine, EachRow}
+use Rattle.demands.specs.EachRow.{named_by, naming, EachLine, EachRow}
 use Rattle.demands.proofs.AsPlaces.{ssrc_of}
 use Rattle.demands.proofs.LastRow.{last_row_lem}
 use Rattle.demands.proofs.OneStream.{none_counted, counts_own, still_good}

@@ -1,21 +1,20 @@
 -- Demand 3 over a trace that arrives bit by bit. Assumes nothing.
 use mathlib.Core.Path.{◌≡◌, refl, sym, ap, ap₂, ◌∙◌}
 use mathlib.Core.List.{List, [], ◌∷◌, ◌++◌, append-nil}
-use mathlib.Core.Option.{Option, none}
-use Prim.Native.Nat.{ℕ, suc, ◌≤◌}
+use mathlib.Core.Option.{none}
+use Prim.Native.Nat.{ℕ, suc}
 use Rattle.format.specs.declared.Form.{Form}
 use Rattle.table.specs.Lines.{head_bytes}
 use Rattle.trace.specs.Places.{later_of}
 use Rattle.trace.proofs.Placed.{own_later}
 use Rattle.walk.specs.Blocks.{blocks_of, joined}
-use Rattle.walk.specs.Programs.{to_output, Ending, turned, onward, walk, walked}
+use Rattle.walk.specs.Programs.{to_output, turned, onward, walk, walked}
 use Rattle.walk.specs.Steps.{Next, goes}
 use Rattle.convert.specs.declared.Run.{Run}
 use Rattle.convert.specs.declared.Begin.{Begin}
 use Rattle.convert.specs.declared.feeds.FeedAnswer.{FeedAnswer}
 use Rattle.convert.specs.Runs.{arrived, next_of}
 use Rattle.convert.specs.Tables.{Kept, begun, taken, closing, ecntable, printed}
-use Rattle.convert.specs.Feeds.{close_of}
 use Rattle.convert.specs.FeedTheorems.{unfed, feed_all, ending_in, closed_as}
 use Rattle.convert.proofs.FeedPrints.{feeds_print}
 use Rattle.convert.proofs.Steps.{start_label, next_by_lem}

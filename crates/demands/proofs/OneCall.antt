@@ -21,7 +21,6 @@ use Rattle.source.specs.Blocks.{Packet, packets, marks_fit, count_all, block_cou
 use Rattle.source.proofs.Packets.{limits as within}
 use Rattle.source.proofs.Totalled.{packets_wires, length-packets, all_counted}
 use Rattle.sources.specs.declared.Place.{Place}
-use Rattle.sources.specs.declared.Counted.{Counted}
 use Rattle.sources.specs.Places.{held_of}
 use Rattle.sources.specs.Rules.{fault}
 use Rattle.sources.specs.Stands.{stands_at, found, put, record_in, record_of, new_to}

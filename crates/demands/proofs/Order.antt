@@ -12,7 +12,7 @@ use Rattle.numbers.specs.Integers.{eq_z}
 use Rattle.answers.proofs.Conditions.{is_true, is_false, true_is, false_not, both}
 use Rattle.numbers.proofs.Integers.{eq_z_refl, eq_z_eq, eq_eq_z, le_z_antisym}
 use Rattle.source.specs.declared.Remembered.TheVariants.{Nothing}
-use Rattle.source.specs.Places.{bit, history}
+use Rattle.source.specs.Places.{bit}
 use Rattle.source.specs.Arrivals.{extended}
 use Rattle.source.proofs.Rows.{history_ext}
 use Rattle.demands.specs.Calls.{TruePacket}

@@ -11,7 +11,7 @@ use lib.Signed.{◌≤ℤ◌}
 use Rattle.answers.proofs.Conditions.{is_true}
 use Rattle.numbers.proofs.Integers.{minus_zero}
 use Rattle.source.specs.declared.Source.{Source}
-use Rattle.source.specs.Places.{bit, history, marks}
+use Rattle.source.specs.Places.{bit, marks}
 use Rattle.source.specs.Record as Record
 use Rattle.source.specs.Record.{sound}
 use Rattle.source.proofs.Rows.{marked_ext, pack_lt, marks_history, places_history}

@@ -28,7 +28,6 @@ use Rattle.trace.specs.Contents.{is_zero, is_mark, good_records}
 use Rattle.trace.specs.Reading.{block_of}
 use Rattle.trace.specs.Theorems.{records_in}
 use Rattle.trace.specs.declared.Block.TheVariants.{Arrivals}
-use Rattle.trace.specs.declared.Record.{Record}
 use Rattle.trace.proofs.Accepted.{accepted}
 use Rattle.demands.specs.Calls.{TruePacket, call, run_from, AnsweredFrom, arrivals, SteadyAfter, Steady, max_z}
 use Rattle.demands.specs.PrintedTable.{in_record, of_arrival}

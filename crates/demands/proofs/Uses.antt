@@ -42,17 +42,17 @@ used : Unit {0}
 used =
     let d = demand3 wrapped met.described in
     let order = d.order reordered met.again.0 met.again.1 met.again.2 in
-    let row = d.row text 1 3 2 met.label-ok met.few_jumped met.few_restarts in
+    let row = d.row text 1 3 2 met.label_ok_lem met.few_jumped met.few_restarts in
     let table = table_holds_count whole text 1 c1_packets met.c1_described met.held in
     let table-last = table.last (omega arith) in
     let last = same_last_row whole cut text 1 c1_packets c1_packets met.c1_described met.c1_described met.held met.recut (λ p. refl) refl (omega arith) in
     let follows = nothing_follows _ ecntable 1 (record { run = begun; zeroth = label }) ([] ∷ []) (c1_block ∷ []) _ met.ends in
-    let label-back = label_reads_back One text 1 met.label-ok met.ssrcs.1 in
+    let label-back = label_reads_back One text 1 met.label_ok_lem met.ssrcs.1 in
     let label_written = label_is_written One label (length text) 1 met.label_bytes met.label_reads in
     let label-spaced = spaced_reads One label (length text) 1 met.label_bytes met.label_reads in
-    let Label-same = label-spaced.same met.label_new in
+    let label_same = label-spaced.same met.label_new in
     let check = one_check label label met.label_bytes met.label_bytes met.label_long met.label_long met.label_right met.label_right refl in
-    let splits = row_splits text 1 (record { source = run c1_packets; jumped = 3; restarts = 2 }) [] met.label-ok in
+    let splits = row_splits text 1 (record { source = run c1_packets; jumped = 3; restarts = 2 }) [] met.label_ok_lem in
     let line = line_splits text (codes "a \"b\"" ∷ []) [] met.plain in
     let arrivals-back = arrivals_read_back One (0 ∷ 20 ∷ []) (65534 ∷ 65535 ∷ []) (2 ∷ 2 ∷ []) 1 met.lists_fit met.numbers_fit_lem met.ssrcs.1 in
     let arrivals-written = arrivals_are_written One c1_block 5 1 met.arrivals_bytes met.arrivals_read in

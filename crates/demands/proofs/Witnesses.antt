@@ -4,7 +4,7 @@ use mathlib.Core.Bool.{true}
 use mathlib.Core.List.{[], ◌∷◌, flat_map}
 use mathlib.Core.Option.{none}
 use Prim.Native.Nat.{◌^◌, ◌≤◌}
-use lib.ListN.{length, take, drop, replicate}
+use lib.ListN.{length, take, replicate}
 use native.Mathlib.Omega.{arith}
 use lib.Count.{ones, ones_in}
 use lib.Dec.{leb→le}
@@ -13,8 +13,6 @@ use Rattle.answers.specs.Writers.{written}
 use Rattle.answers.specs.declared.Refusal.TheVariants.{PacketSize}
 use Rattle.answers.specs.declared.Written.TheVariants.{Room}
 use Rattle.numbers.specs.BigEndian.{word, bytes}
-use Rattle.numbers.specs.Since.{since}
-use Rattle.format.specs.Blocks.{block_bytes}
 use Rattle.format.specs.declared.Form.TheVariants.{One}
 use Rattle.source.specs.Arrivals.{arrival, first, counted, distance, ahead, behind}
 use Rattle.source.specs.Blocks.{packets, count_all, block_count}
@@ -32,7 +30,7 @@ use Rattle.trace.specs.Checksum.{words, ones_add, ones_sum}
 use Rattle.trace.specs.Contents.{every, label_byte, label_ok, label_body, count_ok, good_records, arrivals_body}
 use Rattle.trace.specs.Layout.{record_bytes, records_bytes, record_at, header, filled, checked, label_block, arrivals_block}
 use Rattle.trace.specs.Reading.{right_check, contents_of, block_of}
-use Rattle.trace.specs.Places.{zeroth_of, later_of}
+use Rattle.trace.specs.Places.{later_of}
 use Rattle.trace.specs.Retired.{retired, retired_in}
 use Rattle.trace.specs.Writing.{records_of, arrivals_ok, arrivals_fault}
 use Rattle.trace.specs.Theorems.{records_in}

@@ -32,11 +32,11 @@ use Rattle.breaker.specs.Answers.{answers, stops}
 use Rattle.breaker.specs.Limits.{within, settings_ok, time_ok, counts_ok, loss_ok, report_ok}
 use Rattle.breaker.specs.FractionLost.{fraction_of, counts_fraction}
 use Rattle.breaker.specs.Windows.{zero_interval, empty_window, W, P}
-use Rattle.breaker.specs.Condition.{condition, condition_by}
+use Rattle.breaker.specs.Condition.{condition_by}
 use Rattle.breaker.specs.Soundness.{sound}
 use Rattle.breaker.specs.Rules.{stored, late, run_after, window_after, last_intervals, holds, ruled_by, ruled}
 use Rattle.breaker.specs.Calls.{unless_stopped, opened, unstarted, start_of, report_of, early, timed, tick_of, holding, heard_of}
-use Rattle.breaker.specs.Runs.{Call, heard, called, answers_of, after}
+use Rattle.breaker.specs.Runs.{Call, called, answers_of, after}
 use Rattle.breaker.specs.Theorems.{with_loss}
 use Rattle.breaker.proofs.Chains.{by_test}
 use Rattle.breaker.proofs.Calls.{Held, Halted}
@@ -214,6 +214,8 @@ data Outcomes (b c : Breaker) (xs ys : List Call) : Type 0 where
 run : (b c : Breaker) (xs ys : List Call) → InStep b c → Held b → Held c → b.settings.reduce ≡ false → NoBetterCalls xs ys → Outcomes b c xs ys
 unfolding answers_of after
 run b c [] [] i h k never q = Outcomes.together refl i
+run b c [] (y ∷ ys) i h k never q = elim q [ ]
+run b c (x ∷ xs) [] i h k never q = elim q [ ]
 run b c (x ∷ xs) (y ∷ ys) i h k never (NoBetterCalls.more q qs) =
     one (step b c i h.is_sound k.is_sound never q)
     (λ j. run (called b x).breaker (called c y).breaker xs ys j (call_held b x h) (call_held c y k) (ap (λ (s : Settings). s.reduce) (settings_kept b x) ∙ never) qs)

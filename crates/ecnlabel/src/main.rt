@@ -8,8 +8,10 @@ use labels::Progress;
 use shell::copying::copied;
 use shell::failures::has_arguments;
 use shell::reading::{Input, fill, may_wait};
+use shell::streams::Streams;
 use shell::transfers::Transfer;
 use shell::turns::{Turn, next_turn};
+use std::fs::Files;
 
 // At most so many blocks are read at a time: what is copied of them is one write, or a few, and the larger a write, the less time the system takes for it.
 const BLOCKS: usize = 1024;
@@ -28,25 +30,32 @@ struct State {
 }
 
 // Takes block 0, which stands in a buffer of its own, and prints it anew.
-fn begin(zeroth: Input, prompt: bool, name: &[u8], read: &[u8], kept: &mut [u8]) -> State {
+fn begin(
+    zeroth: Input,
+    prompt: bool,
+    streams: &mut Streams,
+    name: &[u8],
+    read: &[u8],
+    kept: &mut [u8],
+) -> State {
     let begun = Progress::begin(zeroth.front(read), kept);
     let progress = begun.progress;
     let answer = begun.answer;
     let ended = progress.ended;
     let mut transfer = Transfer::begun(zeroth, ended, prompt).with_kept(answer, kept);
     let out = transfer.out;
-    transfer.out = out.with_printed(out.used, name, kept);
+    transfer.out = out.with_printed(out.used, streams, name, kept);
     State { progress, transfer }
 }
 
 // Takes the blocks that are read, and prints those that are copied.
-fn take(s: State, name: &[u8], kept: &mut [u8], piece: &[u8]) -> State {
+fn take(s: State, streams: &mut Streams, name: &[u8], kept: &mut [u8], piece: &[u8]) -> State {
     let before = s.progress;
     let transfer = s.transfer;
     let taken = before.blocks(transfer.left(piece));
     let progress = taken.progress;
     let ended = progress.ended;
-    let next = copied(transfer, taken.bytes, name, piece, kept).with_taken(
+    let next = copied(transfer, taken.bytes, streams, name, piece, kept).with_taken(
         ended,
         taken.bytes,
         piece,
@@ -68,14 +77,22 @@ fn close(s: State, piece: &[u8], errors: &mut [u8]) -> Transfer {
 }
 
 // Ends the run, and prints what is kept.
-fn finish(s: State, name: &[u8], kept: &mut [u8], piece: &[u8], errors: &mut [u8]) {
-    close(s, piece, errors).finished(name, kept, errors);
+fn finish(
+    s: State,
+    streams: &mut Streams,
+    name: &[u8],
+    kept: &mut [u8],
+    piece: &[u8],
+    errors: &mut [u8],
+) {
+    close(s, piece, errors).finished(streams, name, kept, errors);
 }
 
 // Takes, prints or reads.
 fn step(
     s: State,
     turn: Turn,
+    streams: &mut Streams,
     name: &[u8],
     kept: &mut [u8],
     piece: &mut [u8],
@@ -84,21 +101,28 @@ fn step(
     let progress = s.progress;
     let transfer = s.transfer;
     match turn {
-        Turn::Take => take(s, name, kept, piece),
+        Turn::Take => take(s, streams, name, kept, piece),
         Turn::Print => State {
             progress,
-            transfer: transfer.with_printed(name, kept, errors),
+            transfer: transfer.with_printed(streams, name, kept, errors),
         },
         Turn::Read => State {
             progress,
-            transfer: transfer.with_read(piece),
+            transfer: transfer.with_read(streams, piece),
         },
         _ => s,
     }
 }
 
 // Goes on from block 0 as it is told.
-fn run(start: State, name: &[u8], kept: &mut [u8], piece: &mut [u8], errors: &mut [u8]) {
+fn run(
+    start: State,
+    streams: &mut Streams,
+    name: &[u8],
+    kept: &mut [u8],
+    piece: &mut [u8],
+    errors: &mut [u8],
+) {
     let mut s = start;
     let mut turns: u64 = 0xffff_ffff_ffff_ffff;
     while 0 < turns {
@@ -106,14 +130,14 @@ fn run(start: State, name: &[u8], kept: &mut [u8], piece: &mut [u8], errors: &mu
         let turn = next_turn(transfer, piece);
         match turn {
             Turn::Finish => {
-                finish(s, name, kept, piece, errors);
+                finish(s, streams, name, kept, piece, errors);
                 return;
             }
             Turn::Stop => {
                 return;
             }
             _ => {
-                s = step(s, turn, name, kept, piece, errors);
+                s = step(s, turn, streams, name, kept, piece, errors);
             }
         }
         turns -= 1;
@@ -121,20 +145,37 @@ fn run(start: State, name: &[u8], kept: &mut [u8], piece: &mut [u8], errors: &mu
 }
 
 // Copies the trace.
-fn copy(name: &[u8], read: &mut [u8], kept: &mut [u8], piece: &mut [u8], errors: &mut [u8]) {
-    let prompt = may_wait();
-    let zeroth = fill(read);
-    let start = begin(zeroth, prompt, name, read, kept);
-    run(start, name, kept, piece, errors);
+fn copy(
+    files: &impl Files,
+    streams: &mut Streams,
+    name: &[u8],
+    read: &mut [u8],
+    kept: &mut [u8],
+    piece: &mut [u8],
+    errors: &mut [u8],
+) {
+    let prompt = may_wait(files);
+    let zeroth = fill(streams, read);
+    let start = begin(zeroth, prompt, streams, name, read, kept);
+    run(start, streams, name, kept, piece, errors);
 }
 
-fn main() {
-    if has_arguments(b"usage: ecnlabel <TRACE >TRACE\n") {
+fn main(rt: HostRuntime) {
+    let mut streams = Streams::new(rt.stdin(), rt.stdout(), rt.stderr());
+    if has_arguments(&rt, &streams, b"usage: ecnlabel <TRACE >TRACE\n") {
         return;
     }
     let mut read = [0u8; BLOCK];
     let mut kept = [0u8; BLOCK];
     let mut piece = [0u8; PIECE];
     let mut errors = [0u8; ERRORS];
-    copy(b"ecnlabel", &mut read, &mut kept, &mut piece, &mut errors);
+    copy(
+        &rt,
+        &mut streams,
+        b"ecnlabel",
+        &mut read,
+        &mut kept,
+        &mut piece,
+        &mut errors,
+    );
 }

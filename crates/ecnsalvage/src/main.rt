@@ -8,8 +8,10 @@ use salvage::Progress;
 use shell::copying::copied;
 use shell::failures::has_arguments;
 use shell::reading::{Ahead, Input, fill, may_wait};
+use shell::streams::Streams;
 use shell::transfers::{PRINTED, Transfer};
 use shell::turns::{Turn, next_turn};
+use std::fs::Files;
 
 // The most that a block lists (salvage, `line_has_room`), and the end (`end_has_room`).
 const MOST: usize = 64;
@@ -31,7 +33,7 @@ struct State {
 }
 
 // Takes block 0, which stands in a buffer of its own, and prints what is copied of it.
-fn begin(zeroth: Input, prompt: bool, name: &[u8], read: &[u8]) -> State {
+fn begin(zeroth: Input, prompt: bool, streams: &mut Streams, name: &[u8], read: &[u8]) -> State {
     let begun = Progress::begin(zeroth.front(read));
     let progress = begun.progress;
     let ended = progress.ended;
@@ -41,12 +43,19 @@ fn begin(zeroth: Input, prompt: bool, name: &[u8], read: &[u8]) -> State {
     };
     let mut transfer = Transfer::begun(zeroth, ended, prompt);
     let out = transfer.out;
-    transfer.out = out.printed_now(name, label.front(read));
+    transfer.out = out.printed_now(streams, name, label.front(read));
     State { progress, transfer }
 }
 
 // Takes the blocks that are read, to one that is left out, and prints those that are copied.
-fn take(s: State, name: &[u8], kept: &mut [u8], piece: &[u8], errors: &mut [u8]) -> State {
+fn take(
+    s: State,
+    streams: &mut Streams,
+    name: &[u8],
+    kept: &mut [u8],
+    piece: &[u8],
+    errors: &mut [u8],
+) -> State {
     let before = s.progress;
     let transfer = s.transfer;
     let err = transfer.err;
@@ -55,7 +64,7 @@ fn take(s: State, name: &[u8], kept: &mut [u8], piece: &[u8], errors: &mut [u8])
     let progress = taken.progress;
     let answer = taken.answer;
     let ended = progress.ended;
-    let next = copied(transfer, taken.copied, name, piece, kept)
+    let next = copied(transfer, taken.copied, streams, name, piece, kept)
         .with_taken(ended, taken.bytes, piece)
         .with_reported(answer, errors);
     State {
@@ -75,14 +84,22 @@ fn close(s: State, piece: &[u8], errors: &mut [u8]) -> Transfer {
 }
 
 // Ends the run, and prints what is kept.
-fn finish(s: State, name: &[u8], kept: &mut [u8], piece: &[u8], errors: &mut [u8]) {
-    close(s, piece, errors).finished(name, kept, errors);
+fn finish(
+    s: State,
+    streams: &mut Streams,
+    name: &[u8],
+    kept: &mut [u8],
+    piece: &[u8],
+    errors: &mut [u8],
+) {
+    close(s, piece, errors).finished(streams, name, kept, errors);
 }
 
 // Takes, prints or reads.
 fn step(
     s: State,
     turn: Turn,
+    streams: &mut Streams,
     name: &[u8],
     kept: &mut [u8],
     piece: &mut [u8],
@@ -91,21 +108,28 @@ fn step(
     let progress = s.progress;
     let transfer = s.transfer;
     match turn {
-        Turn::Take => take(s, name, kept, piece, errors),
+        Turn::Take => take(s, streams, name, kept, piece, errors),
         Turn::Print => State {
             progress,
-            transfer: transfer.with_printed(name, kept, errors),
+            transfer: transfer.with_printed(streams, name, kept, errors),
         },
         Turn::Read => State {
             progress,
-            transfer: transfer.with_read(piece),
+            transfer: transfer.with_read(streams, piece),
         },
         _ => s,
     }
 }
 
 // Goes on from block 0 as it is told.
-fn run(start: State, name: &[u8], kept: &mut [u8], piece: &mut [u8], errors: &mut [u8]) {
+fn run(
+    start: State,
+    streams: &mut Streams,
+    name: &[u8],
+    kept: &mut [u8],
+    piece: &mut [u8],
+    errors: &mut [u8],
+) {
     let mut s = start;
     let mut turns: u64 = 0xffff_ffff_ffff_ffff;
     while 0 < turns {
@@ -113,14 +137,14 @@ fn run(start: State, name: &[u8], kept: &mut [u8], piece: &mut [u8], errors: &mu
         let turn = next_turn(transfer, piece);
         match turn {
             Turn::Finish => {
-                finish(s, name, kept, piece, errors);
+                finish(s, streams, name, kept, piece, errors);
                 return;
             }
             Turn::Stop => {
                 return;
             }
             _ => {
-                s = step(s, turn, name, kept, piece, errors);
+                s = step(s, turn, streams, name, kept, piece, errors);
             }
         }
         turns -= 1;
@@ -128,20 +152,37 @@ fn run(start: State, name: &[u8], kept: &mut [u8], piece: &mut [u8], errors: &mu
 }
 
 // Copies the trace.
-fn copy(name: &[u8], read: &mut [u8], kept: &mut [u8], piece: &mut [u8], errors: &mut [u8]) {
-    let prompt = may_wait();
-    let zeroth = fill(read);
-    let start = begin(zeroth, prompt, name, read);
-    run(start, name, kept, piece, errors);
+fn copy(
+    files: &impl Files,
+    streams: &mut Streams,
+    name: &[u8],
+    read: &mut [u8],
+    kept: &mut [u8],
+    piece: &mut [u8],
+    errors: &mut [u8],
+) {
+    let prompt = may_wait(files);
+    let zeroth = fill(streams, read);
+    let start = begin(zeroth, prompt, streams, name, read);
+    run(start, streams, name, kept, piece, errors);
 }
 
-fn main() {
-    if has_arguments(b"usage: ecnsalvage <TRACE >TRACE\n") {
+fn main(rt: HostRuntime) {
+    let mut streams = Streams::new(rt.stdin(), rt.stdout(), rt.stderr());
+    if has_arguments(&rt, &streams, b"usage: ecnsalvage <TRACE >TRACE\n") {
         return;
     }
     let mut read = [0u8; BLOCK];
     let mut kept = [0u8; BLOCK];
     let mut piece = [0u8; PIECE];
     let mut errors = [0u8; ERRORS];
-    copy(b"ecnsalvage", &mut read, &mut kept, &mut piece, &mut errors);
+    copy(
+        &rt,
+        &mut streams,
+        b"ecnsalvage",
+        &mut read,
+        &mut kept,
+        &mut piece,
+        &mut errors,
+    );
 }

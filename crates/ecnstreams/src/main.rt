@@ -6,9 +6,11 @@
 use format::block::BLOCK;
 use shell::failures::has_arguments;
 use shell::reading::{Input, fill, may_wait};
+use shell::streams::Streams;
 use shell::transfers::{PRINTED, Transfer};
 use shell::turns::{Turn, next_turn};
 use sources::pieces::Progress;
+use std::fs::Files;
 
 // The longest row (table, `row_fits`). The blocks print nothing, and the end at most 16 rows (sources, `end_has_room`).
 const MOST: usize = 1228;
@@ -82,14 +84,23 @@ fn close(s: State, label: &[u8], piece: &[u8], lines: &mut [u8], errors: &mut [u
 }
 
 // Ends the run, and prints what is kept.
-fn finish(s: State, name: &[u8], label: &[u8], piece: &[u8], lines: &mut [u8], errors: &mut [u8]) {
-    close(s, label, piece, lines, errors).finished(name, lines, errors);
+fn finish(
+    s: State,
+    streams: &mut Streams,
+    name: &[u8],
+    label: &[u8],
+    piece: &[u8],
+    lines: &mut [u8],
+    errors: &mut [u8],
+) {
+    close(s, label, piece, lines, errors).finished(streams, name, lines, errors);
 }
 
 // Takes, prints or reads.
 fn step(
     s: State,
     turn: Turn,
+    streams: &mut Streams,
     name: &[u8],
     kept: &mut [u8],
     piece: &mut [u8],
@@ -102,11 +113,11 @@ fn step(
         Turn::Take => take(s, kept, piece, lines),
         Turn::Print => State {
             progress,
-            transfer: transfer.with_printed(name, lines, errors),
+            transfer: transfer.with_printed(streams, name, lines, errors),
         },
         Turn::Read => State {
             progress,
-            transfer: transfer.with_read(piece),
+            transfer: transfer.with_read(streams, piece),
         },
         _ => s,
     }
@@ -115,6 +126,7 @@ fn step(
 // Goes on from block 0 as it is told.
 fn run(
     start: State,
+    streams: &mut Streams,
     name: &[u8],
     kept: &mut [u8],
     piece: &mut [u8],
@@ -128,14 +140,14 @@ fn run(
         let turn = next_turn(transfer, piece);
         match turn {
             Turn::Finish => {
-                finish(s, name, kept, piece, lines, errors);
+                finish(s, streams, name, kept, piece, lines, errors);
                 return;
             }
             Turn::Stop => {
                 return;
             }
             _ => {
-                s = step(s, turn, name, kept, piece, lines, errors);
+                s = step(s, turn, streams, name, kept, piece, lines, errors);
             }
         }
         turns -= 1;
@@ -143,15 +155,24 @@ fn run(
 }
 
 // Converts the trace.
-fn convert(name: &[u8], kept: &mut [u8], piece: &mut [u8], lines: &mut [u8], errors: &mut [u8]) {
-    let prompt = may_wait();
-    let zeroth = fill(kept);
+fn convert(
+    files: &impl Files,
+    streams: &mut Streams,
+    name: &[u8],
+    kept: &mut [u8],
+    piece: &mut [u8],
+    lines: &mut [u8],
+    errors: &mut [u8],
+) {
+    let prompt = may_wait(files);
+    let zeroth = fill(streams, kept);
     let start = begin(zeroth, prompt, kept, lines);
-    run(start, name, kept, piece, lines, errors);
+    run(start, streams, name, kept, piece, lines, errors);
 }
 
-fn main() {
-    if has_arguments(b"usage: ecnstreams <TRACE >TABLE\n") {
+fn main(rt: HostRuntime) {
+    let mut streams = Streams::new(rt.stdin(), rt.stdout(), rt.stderr());
+    if has_arguments(&rt, &streams, b"usage: ecnstreams <TRACE >TABLE\n") {
         return;
     }
     let mut kept = [0u8; BLOCK];
@@ -159,6 +180,8 @@ fn main() {
     let mut lines = [0u8; KEPT];
     let mut errors = [0u8; ERRORS];
     convert(
+        &rt,
+        &mut streams,
         b"ecnstreams",
         &mut kept,
         &mut piece,

@@ -33,7 +33,7 @@ module _ (width : ℕ) (s : List ℕ) (first : ℕ) where
     pub few_threes : threes + 255 * left.k ≤ 7905
     pub few_fours : fours + 255 * left.k ≤ 7905
     pub few_off : off + left.k ≤ 31
-    pub few_expected_lem : expected + 256 * left.k ≤ 73471
+    pub few_expected : expected + 256 * left.k ≤ 73471
 
   pub adding_start : {n : ℕ} → Held width s n → first < 65536 → Adding 0 0 0 0 0 0 first
   unfolding all_left
@@ -51,7 +51,7 @@ module _ (width : ℕ) (s : List ℕ) (first : ℕ) where
         few_threes = omega arith;
         few_fours = omega arith;
         few_off = omega arith;
-        few_expected_lem = omega arith;
+        few_expected = omega arith;
       }
 
   -- one value more, and those that are left
@@ -78,7 +78,7 @@ module _ (width : ℕ) (s : List ℕ) (first : ℕ) where
       omega (arith, c.few_threes, next.one_less),
       omega (arith, c.few_fours, next.one_less),
       omega (arith, c.few_off, next.one_less),
-      omega (arith, c.few-expected, next.one_less),
+      omega (arith, c.few_expected, next.one_less),
     )
 
     pub adding_next : (word d : ℕ) → Ending word (packet width s at).wire.0 (packet width s at).mark → d ≡ bit (not (eqb (word % 65536) expected))
@@ -101,7 +101,7 @@ module _ (width : ℕ) (s : List ℕ) (first : ℕ) where
           few_threes = less threes ((mark_in word + 1) / 4) c.left.k next.after.k next.one_less (omega (arith, m)) c.few_threes;
           few_fours = less fours (mark_in word / 4) c.left.k next.after.k next.one_less (omega (arith, m)) c.few_fours;
           few_off = omega (arith, c.few_off, next.one_less, one);
-          few_expected_lem = omega (arith, c.few-expected, next.one_less);
+          few_expected = omega (arith, c.few_expected, next.one_less);
         }
       where
         less : (x m k j : ℕ) → k ≡ suc j → m ≤ 255 → x + 255 * k ≤ 7905 → x + m + 255 * j ≤ 7905

@@ -1,13 +1,13 @@
 -- Packets whose numbers follow each other: the places at which they lie. Assumes nothing.
-use mathlib.Core.Path.{◌≡◌, refl, sym, ap, ap₂, ◌∙◌}
+use mathlib.Core.Path.{◌≡◌, refl, sym, ap, ◌∙◌}
 use mathlib.Core.Logic.{⊎_elim}
-use mathlib.Core.Bool.{Bool, true, false, not, cond, ◌&&◌, ◌||◌}
+use mathlib.Core.Bool.{Bool, true, false, not, ◌&&◌, ◌||◌}
 use mathlib.Core.List.{List, [], ◌∷◌}
 use Prim.Native.Nat.{ℕ, zero, suc, ◌+◌, ◌-◌, ◌*◌, ◌/◌, ◌%◌, ◌^◌, ◌≤◌, ◌<◌}
 use native.Mathlib.Nat.{pow-suc, mod-lt}
 use native.Mathlib.Decide.{dec_le}
 use native.Mathlib.Omega.{arith}
-use borrow.Author.Tests.{lt-ltb, le-ltb, le-leb, lt-leb, ltb-true, leb-true, eq-eqb, ne_eqb, eqb-true}
+use borrow.Author.Tests.{lt-ltb, le-ltb, le-leb, lt-leb, ltb-true, leb-true, eq-eqb, eqb-true}
 use lib.Dec.{T, eqb, eqb→eq, leb, ltb}
 use lib.ListN.{length, drop}
 use lib.Seq.{get_or-drop}
@@ -18,9 +18,8 @@ use Rattle.numbers.specs.BigEndian.{word}
 use Rattle.numbers.proofs.BigEndian.{Octets, word_lt}
 use Rattle.source.specs.Blocks.{Packet, packets}
 use Rattle.source.proofs.Rows.{pack_ext, pack_unique, place_low, place_next}
-use Rattle.source.proofs.Shifts.{place_zero, place_mod, place_mul, one_shl}
-use Rattle.engine.specs.declared.window.Found.{Found}
-use Rattle.engine.specs.declared.window.Found.TheVariants.{At, Outside}
+use Rattle.source.proofs.Shifts.{place_zero, place_mod, place_mul}
+use Rattle.engine.specs.declared.window.Found.TheVariants.{At}
 use Rattle.engine.specs.Limits.{Held}
 use Rattle.engine.specs.Windows.{held, below, within, hits, wired, turned, strays, found_in, row_from}
 

@@ -1,22 +1,21 @@
 -- The places of a part's packets, one after the other: what is left of them. Assumes nothing.
-use mathlib.Core.Path.{◌≡◌, refl, sym, ap, ap₂, ◌∙◌}
-use mathlib.Core.Bool.{Bool, true, false, ◌&&◌, ◌||◌, or_assoc, or-false, and_assoc, and-true}
-use mathlib.Core.List.{List, [], ◌∷◌}
-use Prim.Native.Nat.{ℕ, zero, suc, ◌+◌, ◌-◌, ◌*◌, ◌%◌, ◌^◌, ◌≤◌, ◌<◌}
-use native.Mathlib.Nat.{add-zero, mod-lt}
+use mathlib.Core.Path.{◌≡◌, refl, sym, ap, ◌∙◌}
+use mathlib.Core.Bool.{Bool, true, ◌&&◌, ◌||◌, or_assoc, or-false, and_assoc, and-true}
+use mathlib.Core.List.{List}
+use Prim.Native.Nat.{ℕ, ◌+◌, ◌-◌, ◌*◌, ◌%◌, ◌^◌, ◌≤◌, ◌<◌}
+use native.Mathlib.Nat.{mod-lt}
 use native.Mathlib.Omega.{arith}
 use borrow.Author.Tests.{lt-ltb, ltb-true}
-use lib.Bits.{bit_or, bit_and, or_mod, or_lt, or_add_and, and_le_l, and_le_r}
-use lib.Dec.{T, eqb, ltb}
+use lib.Bits.{bit_or, or_mod, or_lt, or_add_and, and_le_l, and_le_r}
+use lib.Dec.{eqb, ltb}
 use lib.ListN.{length}
-use lib.Pow.{pow-lt, pow_pos}
+use lib.Pow.{pow_pos}
 use Rattle.answers.proofs.Conditions.{same_test, is_true, true_is, and_left, and_right, both}
-use Rattle.source.specs.Places.{place, pack}
-use Rattle.source.specs.Blocks.{Packet, packets}
+use Rattle.source.specs.Places.{place}
+use Rattle.source.specs.Blocks.{Packet}
 use Rattle.source.proofs.Rows.{pack_unique}
 use Rattle.source.proofs.Shifts.{place_zero, place_or, place_bit, one_shl}
 use Rattle.source.proofs.Packets.{packet, Left, rest, all_left, none_left, Next, one_left}
-use Rattle.engine.specs.declared.window.Seen.{Seen}
 use Rattle.engine.specs.Limits.{Held}
 use Rattle.engine.specs.Windows.{held, below, within, hits, SeenIn}
 

@@ -1,6 +1,6 @@
 -- The packets of each mark, from sums. Assumes nothing.
 use mathlib.Core.Path.{◌≡◌, refl, sym, ap, ◌∙◌}
-use mathlib.Core.Bool.{Bool, true, false, ◌&&◌}
+use mathlib.Core.Bool.{true, false}
 use mathlib.Core.List.{List, [], ◌∷◌}
 use Prim.Native.Nat.{ℕ, zero, suc, ◌+◌, ◌-◌, ◌*◌, ◌/◌, ◌≤◌, ◌<◌}
 use native.Mathlib.Omega.{arith}
@@ -13,10 +13,9 @@ use Rattle.source.specs.Blocks.{Packet, marks_fit}
 use Rattle.source.proofs.Kept.{one_mark}
 use Rattle.source.proofs.Totalled.{length-packets}
 use Rattle.engine.specs.declared.scans.Sums.{Sums}
-use Rattle.engine.specs.declared.scans.Scan.{Scan}
 use Rattle.engine.specs.declared.scans.Scanned.TheVariants.{Fits}
 use Rattle.engine.specs.Limits.{Held}
-use Rattle.engine.specs.Windows.{held, strays}
+use Rattle.engine.specs.Windows.{held}
 use Rattle.engine.specs.Settled.{total, numbered}
 use Rattle.engine.specs.Scans.{SumsOf, scan_of}
 

@@ -1,15 +1,15 @@
 -- The record that a window's bits make is that behind the packets. Assumes nothing.
 use mathlib.Core.Path.{◌≡◌, refl, sym, ap, ap₂, ◌∙◌}
 use mathlib.Core.Logic.{⊎_elim}
-use mathlib.Core.Bool.{Bool, true, false, ◌&&◌, ◌||◌}
+use mathlib.Core.Bool.{Bool, true, false, ◌||◌}
 use mathlib.Core.List.{List, [], ◌∷◌}
-use Prim.Native.Nat.{ℕ, zero, suc, ◌+◌, ◌-◌, ◌/◌, ◌%◌, ◌^◌, ◌≤◌, ◌<◌, min}
-use native.Mathlib.Nat.{min-le_left, min-le_right, min-eq_left, min-eq_right, le_trans}
+use Prim.Native.Nat.{ℕ, ◌+◌, ◌-◌, ◌/◌, ◌^◌, ◌≤◌, ◌<◌, min}
+use native.Mathlib.Nat.{min-le_right, min-eq_left, min-eq_right}
 use native.Mathlib.Decide.{dec_le}
 use native.Mathlib.Omega.{arith}
 use borrow.Author.Tests.{ltb-true, eq-eqb, ne_eqb}
 use lib.Bits.{bit_or}
-use lib.Count.{ones, count_trailing_zeros}
+use lib.Count.{ones}
 use lib.Dec.{T, eqb, eqb→eq, ltb}
 use lib.IntN.{pos, ◌+ℤ◌}
 use lib.ListN.{length}
@@ -20,16 +20,14 @@ use Rattle.source.specs.declared.Remembered.{Remembered}
 use Rattle.source.specs.declared.Remembered.TheVariants.{Nothing}
 use Rattle.source.specs.Places.{place, pack, history, marks, moved}
 use Rattle.source.specs.Arrivals.{extended}
-use Rattle.source.specs.Blocks.{Packet, packets, marks_fit}
+use Rattle.source.specs.Blocks.{Packet, marks_fit}
 use Rattle.source.proofs.Rows.{pack_lt, pack_ext, place_pack, history_ext}
 use Rattle.source.proofs.Shifts.{place_above}
 use Rattle.source.proofs.Totalled.{length-packets}
 use Rattle.engine.specs.declared.scans.Scan.{Scan}
-use Rattle.engine.specs.declared.scans.Scanned.{Scanned}
 use Rattle.engine.specs.declared.scans.Scanned.TheVariants.{Fits, Misfit}
 use Rattle.engine.specs.declared.shifts.Shifted.{Shifted}
 use Rattle.engine.specs.Limits.{Held}
-use Rattle.engine.specs.declared.window.Found.{Found}
 use Rattle.engine.specs.declared.window.Found.TheVariants.{At, Outside}
 use Rattle.engine.specs.Windows.{held, below, within, hits, least, strays, found_in}
 use Rattle.engine.specs.Settled.{numbered, joined, forgotten, settled_at, settled, lowest, row_with, ShiftedBy, scanned_onto}

@@ -1,9 +1,9 @@
 -- Packets that all lie in the window of a record that has counted, in whatever order: counting them one by one is a union of places, and sums.
 -- Assumes nothing.
-use mathlib.Core.Path.{◌≡◌, refl, sym, ap, ap₂, subst, ◌∙◌}
-use mathlib.Core.Bool.{Bool, true, false, not, ◌&&◌, ◌||◌, or_assoc, or_comm, or-false}
-use mathlib.Core.List.{List, [], ◌∷◌, ◌++◌, map}
-use Prim.Native.Nat.{ℕ, zero, suc, ◌+◌, ◌-◌, ◌*◌, ◌^◌, ◌≤◌, ◌<◌, min}
+use mathlib.Core.Path.{◌≡◌, refl, sym, ap, ap₂, ◌∙◌}
+use mathlib.Core.Bool.{Bool, true, false, not, ◌||◌, or_assoc, or_comm, or-false}
+use mathlib.Core.List.{List, [], ◌∷◌, ◌++◌}
+use Prim.Native.Nat.{ℕ, suc, ◌+◌, ◌-◌, ◌*◌, ◌^◌, ◌≤◌, ◌<◌, min}
 use native.Mathlib.Nat.{min-le_left, min-le_right, add-zero}
 use native.Mathlib.Omega.{arith}
 use borrow.Author.Tests.{leb-true, ltb-true}
@@ -11,13 +11,11 @@ use lib.Count.{ones}
 use lib.Dec.{eqb, leb, ltb}
 use lib.IntN.{ℤ, pos, ◌+ℤ◌, +ℤ_idr, +ℤ_assoc}
 use lib.ListN.{length}
-use Rattle.answers.specs.Conditions.{all}
 use Rattle.answers.proofs.Conditions.{and_left, and_right}
 use Rattle.source.specs.declared.History.{History}
 use Rattle.source.specs.declared.Source.{Source}
 use Rattle.source.specs.declared.Arrival.{Arrival}
 use Rattle.source.specs.declared.Arrival.TheVariants.{Accepted}
-use Rattle.source.specs.declared.Remembered.{Remembered}
 use Rattle.source.specs.declared.Remembered.TheVariants.{Nothing}
 use Rattle.source.specs.Places.{bit, pack, history, marks, moved, added}
 use Rattle.source.specs.Record.{arrivals, sound}
@@ -26,7 +24,6 @@ use Rattle.source.specs.Blocks.{Packet, marks_fit, jump, restart, count_all}
 use Rattle.source.proofs.Rows.{pack_lt, pack_ext, history_ext, marks_recent, marks_older}
 use Rattle.source.proofs.Shifts.{moved_none, words_are}
 use Rattle.source.proofs.Kept.{counted_arrivals, sound_stays}
-use Rattle.source.proofs.Totalled.{Wires}
 use Rattle.engine.specs.Windows.{below, within, wired, hits, least}
 use Rattle.engine.specs.Settled.{total, numbered, joined, forgotten, settled_at, settled}
 use Rattle.engine.proofs.Near.{raised_by, near_accepted}

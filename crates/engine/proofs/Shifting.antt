@@ -7,11 +7,11 @@ use native.Mathlib.Decide.{dec_le}
 use native.Mathlib.Omega.{arith}
 use borrow.Author.Tests.{ne_eqb}
 use lib.Bits.{bit_or, or_lt}
-use lib.Count.{ones, ones-le, under, count_trailing_zeros, trailing_le}
+use lib.Count.{ones, ones-le, under, count_trailing_zeros}
 use lib.Dec.{eqb, leb}
 use lib.Pow.{pow_pos, shr_le}
 use Rattle.source.specs.declared.History.{History}
-use Rattle.source.specs.Places.{bit, place, pack, history, marks, moved, added}
+use Rattle.source.specs.Places.{place, pack, history, marks, moved, added}
 use Rattle.source.proofs.Rows.{place_low, place_next, pack_unique, marks_recent}
 use Rattle.source.proofs.Shifts.{place_or, place_bit, place_mod, place_mul, place_div, place_above, words_are, near_older}
 use Rattle.engine.specs.Settled.{lowest, row_with}

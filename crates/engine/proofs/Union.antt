@@ -1,19 +1,19 @@
 -- Rows with more places marked: moved twice, counted, and packed. Assumes nothing.
-use mathlib.Core.Path.{◌≡◌, refl, sym, ap, ap₂, subst, ◌∙◌}
-use mathlib.Core.Bool.{Bool, true, false, not, ◌&&◌, ◌||◌, or_assoc, or_comm, or-false}
+use mathlib.Core.Path.{◌≡◌, refl, sym, ap, ap₂, ◌∙◌}
+use mathlib.Core.Bool.{Bool, true, false, not, ◌&&◌, ◌||◌}
 use mathlib.Core.List.{List, [], ◌∷◌}
 use Prim.Native.Nat.{ℕ, zero, suc, ◌+◌, ◌-◌, ◌*◌, ◌/◌, ◌%◌, ◌≤◌, ◌<◌, min}
-use native.Mathlib.Nat.{min-le_left, min-le_right, le_trans, le_refl}
+use native.Mathlib.Nat.{min-le_left, le_trans, le_refl}
 use native.Mathlib.Decide.{dec_le}
 use native.Mathlib.Omega.{arith}
-use borrow.Author.Tests.{eq-eqb, ne_eqb, le-leb, lt-leb, eqb-true, eqb-false}
+use borrow.Author.Tests.{eq-eqb, ne_eqb, le-leb, lt-leb}
 use lib.Count.{ones, ones_step}
-use lib.Dec.{T, eqb, eqb→eq, leb, eqb-suc-zero, eqb-zero-suc, eqb-suc-suc}
+use lib.Dec.{eqb, eqb→eq, leb, eqb-suc-zero, eqb-zero-suc, eqb-suc-suc}
 use lib.ListN.{length}
 use Rattle.answers.proofs.Conditions.{same_test, true_is}
 use Rattle.source.specs.Places.{bit, pack, history, marks, moved, added}
 use Rattle.source.specs.Blocks.{Packet}
-use Rattle.source.proofs.Rows.{bit_le, pack_ext, marked, marked_or, marked_one, marked_none, ones-pack, marks_history, moved_low}
+use Rattle.source.proofs.Rows.{pack_ext, marked, marked_or, marked_one, marked_none, ones-pack, marks_history, moved_low}
 use Rattle.engine.specs.Windows.{below, hits, least}
 use Rattle.engine.specs.Settled.{joined}
 

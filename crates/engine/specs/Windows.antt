@@ -1,6 +1,6 @@
 -- The packets of a part of a block against a window of 64 numbers (document 02, L8): place k of the window stands for the number k below its top.
 -- For the contracts of private functions alone: what the crate promises is source's `block_count`.
-use Rattle.std.specs.Prelude.{ℕ, suc, ◌+◌, ◌-◌, ◌*◌, ◌/◌, ◌%◌, min, ◌≡◌, Bool, true, false, not, ◌&&◌, ◌||◌, cond, List, [], ◌∷◌, map, eqb, leb, ltb, length}
+use Rattle.std.specs.Prelude.{ℕ, ◌+◌, ◌-◌, ◌*◌, ◌/◌, ◌%◌, min, ◌≡◌, Bool, true, false, not, ◌&&◌, ◌||◌, cond, List, [], ◌∷◌, map, eqb, leb, ltb, length}
 use Rattle.answers.specs.Conditions.{all}
 use Rattle.source.specs.Places.{bit, pack}
 use Rattle.source.specs.Blocks.{Packet, packets}

@@ -15,7 +15,7 @@ use Rattle.numbers.proofs.BigEndian.{Octets}
 use Rattle.format.specs.Blocks.{block_bytes, body_bytes}
 use Rattle.format.specs.Forms.{Shape, shape_of, width, other_form}
 use Rattle.format.specs.declared.Form.{Form}
-use Rattle.format.proofs.Fits.{fits, records_fit}
+use Rattle.format.proofs.Fits.{fits}
 use Rattle.trace.specs.Contents.{count_ok, good_records}
 use Rattle.trace.specs.Layout.{records_bytes, arrivals_block, records_block}
 use Rattle.trace.specs.Theorems.{records_in}

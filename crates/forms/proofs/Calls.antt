@@ -1,11 +1,9 @@
 -- The calls for one block each give what the whole run prints. Assumes nothing.
-use mathlib.Core.Path.{◌≡◌, refl, sym, ap, ◌∙◌, subst, subst⁻¹}
+use mathlib.Core.Path.{◌≡◌, refl, ap, ◌∙◌, subst, subst⁻¹}
 use mathlib.Core.List.{List, [], ◌∷◌}
-use mathlib.Core.Option.{Option, none, some}
-use Prim.Native.Nat.{ℕ, ◌≤◌, ◌<◌}
+use Prim.Native.Nat.{ℕ, ◌≤◌}
 use native.Mathlib.Omega.{arith}
 use lib.ListN.{length}
-use Rattle.answers.specs.declared.Refusal.{Refusal}
 use Rattle.format.specs.Blocks.{block_bytes, body_bytes}
 use Rattle.format.specs.Forms.{shape_of}
 use Rattle.format.specs.declared.Form.{Form}
@@ -15,13 +13,13 @@ use Rattle.trace.specs.declared.Zeroth.{Zeroth}
 use Rattle.trace.specs.declared.Zeroth.TheVariants as zeroth
 use Rattle.trace.specs.declared.Record.{Record}
 use Rattle.trace.proofs.Layouts.{length-arrivals_block}
-use Rattle.walk.specs.Programs.{Printed, nothing, to_output, Turn}
+use Rattle.walk.specs.Programs.{to_output, Turn}
 use Rattle.walk.specs.Pieces.{Octets}
 use Rattle.walk.specs.Steps.{Next, goes, refuses}
 use Rattle.walk.specs.Singles.{Starts, Turns as TurnsAs, Mirrors}
 use Rattle.walk.proofs.Singles.{singles_print}
 use Rattle.forms.specs.Packing.{last_block}
-use Rattle.forms.specs.Conversions.{begin_bytes, next_of, bytes_in, Carried, carries, carried_by, call_next, close_fault}
+use Rattle.forms.specs.Conversions.{begin_bytes, next_of, bytes_in, Carried, carries, carried_by, call_next}
 use Rattle.forms.specs.Converted.{Kept, kept_of, begun, ecnforms, converted}
 use Rattle.forms.specs.Pieces.{end_by}
 use Rattle.forms.specs.Theorems.{started_on, block_calls, CallsConvert}

@@ -24,7 +24,7 @@ use Rattle.trace.specs.Writing.{label_fault}
 use Rattle.trace.proofs.Limits.{below}
 use Rattle.trace.specs.declared.Block.TheVariants.{Label}
 use Rattle.walk.specs.Blocks.{cut, blocks_of}
-use Rattle.walk.specs.Programs.{Printed, both, to_output, onward, walk, walked, closed, printed_by}
+use Rattle.walk.specs.Programs.{Printed, both, onward, walk, walked, closed, printed_by}
 use Rattle.walk.specs.Pieces.{wholes, whole_in}
 use Rattle.walk.specs.Fitting.{fitting}
 use Rattle.walk.specs.Steps.{goes}

@@ -1,6 +1,4 @@
 -- What a packing writes are bytes. Assumes nothing.
-use mathlib.Core.Path.{◌≡◌}
-use mathlib.Core.Bool.{true}
 use mathlib.Core.List.{List, [], ◌∷◌, ◌++◌}
 use Prim.Native.Nat.{ℕ, zero, suc, ◌-◌, ◌*◌}
 use lib.ListN.{length, take, drop, replicate}

@@ -1,5 +1,5 @@
 -- Request L10: what holds between the calls, the packing and the two forms.
-use Rattle.std.specs.Prelude.{◌≡◌, true, List, [], ◌∷◌, ◌++◌, ℕ, ◌*◌, ◌^◌, ◌≤◌, ◌<◌, length, take, drop}
+use Rattle.std.specs.Prelude.{◌≡◌, true, List, [], ◌∷◌, ◌++◌, ℕ, ◌*◌, ◌^◌, ◌≤◌, ◌<◌, length, take}
 use Rattle.std.proofs.Math.Option.{some}
 use Rattle.answers.specs.declared.Written.TheVariants as answer
 use Rattle.format.specs.Blocks.{block_bytes, body_bytes}
@@ -13,7 +13,7 @@ use Rattle.trace.specs.declared.Block.TheVariants.{Label, Arrivals}
 use Rattle.trace.specs.declared.Record.{Record}
 use Rattle.trace.specs.declared.Zeroth.{Zeroth}
 use Rattle.trace.specs.declared.Zeroth.TheVariants as zeroth
-use Rattle.walk.specs.Blocks.{Blocks, blocks_of}
+use Rattle.walk.specs.Blocks.{blocks_of}
 use Rattle.walk.specs.Programs.{Printed, ending_at}
 use Rattle.walk.specs.Pieces.{Octets}
 use Rattle.walk.specs.Steps.{Next, goes, refuses}
@@ -24,7 +24,6 @@ use Rattle.forms.specs.Conversions.{begin_bytes, begin_of, begin_stored, next_of
 use Rattle.forms.specs.Converted.{told, converted}
 use Rattle.forms.specs.Pieces.{end_by}
 use Rattle.forms.specs.declared.Conversion.{Conversion}
-use Rattle.forms.specs.declared.Begin.{Begin}
 use Rattle.forms.specs.declared.Begin.TheVariants as begin
 
 -- ---- what is printed is a packing

@@ -1,10 +1,10 @@
 -- An upload and its 18 words: taking out and putting back are inverse. Assumes nothing.
-use mathlib.Core.Path.{◌≡◌, refl, sym, ap, ap₂, ◌∙◌, subst}
+use mathlib.Core.Path.{◌≡◌, refl, sym, ap, ◌∙◌, subst}
 use mathlib.Core.Bool.{Bool, true, false, cond, ◌&&◌, ◌||◌}
 use mathlib.Core.List.{List, [], ◌∷◌, ◌++◌}
-use Prim.Native.Nat.{ℕ, zero, suc, ◌+◌, ◌^◌}
+use Prim.Native.Nat.{ℕ, ◌+◌, ◌^◌}
 use native.Mathlib.Omega.{arith}
-use borrow.Author.Tests.{eqb-true, eq-eqb, ne_eqb, lt-ltb}
+use borrow.Author.Tests.{eqb-true, lt-ltb}
 use lib.Dec.{eqb, ltb}
 use lib.IntN.{pos}
 use lib.ListN.{length, get_or, replicate}
@@ -16,17 +16,15 @@ use Rattle.answers.specs.declared.Refusal.TheVariants.{Incomplete, Version, Firs
 use Rattle.answers.proofs.Conditions.{and_left, and_right}
 use Rattle.answers.proofs.Stores.{sets-append}
 use Rattle.format.specs.declared.Form.{Form}
-use Rattle.source.specs.declared.Source.{Source}
 use Rattle.walk.specs.declared.Ended.{Ended}
 use Rattle.walk.specs.declared.Ended.TheVariants.{Going, Refused}
 use Rattle.convert.specs.declared.feeds.Upload.{Upload}
 use Rattle.convert.specs.Tables.{no_run}
 use Rattle.convert.specs.Feeds.{fresh_upload, keepable}
 use Rattle.lent.specs.FormWords.{form_number, is_form, form_of}
-use Rattle.lent.specs.SourceWords.{FitsWord, source_of, is_source, source_words, loaded as sourceLoaded}
+use Rattle.lent.specs.SourceWords.{FitsWord, source_of, is_source, source_words}
 use Rattle.lent.specs.RunWords.{record_in, run_with}
 use Rattle.lent.specs.FeedWords.{is_form_word, form_word, is_end, ended_of, end_word, upload_with, upload_of, is_upload, loaded, feed_words, FeedBack, FeedWordsBack, FreshIsZeros}
-use Rattle.lent.specs.declared.source_words.Loaded.TheVariants as source
 use Rattle.lent.specs.declared.feed_words.Loaded.TheVariants.{Held, Malformed}
 use Rattle.lent.proofs.SourceLaws.{record_back, words_back, held as source_held, elements, elements_are}
 use Rattle.lent.proofs.RunLaws.{form_fits, form_back, form_word_lem, length-record, source_again}

@@ -10,7 +10,6 @@ use lib.Dec.{leb, ltb, eqb}
 use mir.Val.{bool_byte}
 use lib.ListN.{length, length-drop, drop, get_or}
 use lib.Seq.{drop-cons}
-use Rattle.answers.specs.Conditions.{all}
 use Rattle.answers.proofs.Conditions.{all_true}
 use Rattle.breaker.specs.declared.Reason.TheVariants.{Timeout, Media, Congestion}
 use Rattle.breaker.specs.declared.State.{State}

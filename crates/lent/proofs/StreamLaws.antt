@@ -2,7 +2,7 @@
 use mathlib.Core.Path.{◌≡◌, refl, sym, ap, ap₂, ◌∙◌}
 use mathlib.Core.Bool.{Bool, true, false, cond, not, ◌&&◌, false≢true}
 use mathlib.Core.List.{List, [], ◌∷◌, ◌++◌, map, append_assoc}
-use mathlib.Core.Option.{Option, none, some}
+use mathlib.Core.Option.{none, some}
 use Prim.Native.Nat.{ℕ, zero, suc, ◌+◌, ◌-◌, ◌*◌, ◌^◌, ◌≤◌, ◌<◌}
 use native.Mathlib.Nat.{zero-add}
 use native.Mathlib.Omega.{arith}
@@ -24,7 +24,7 @@ use Rattle.sources.specs.declared.Table.{Table}
 use Rattle.sources.specs.declared.runs.Tally.{Tally}
 use Rattle.sources.specs.declared.runs.Run.{Run}
 use Rattle.sources.specs.Places.{held, empty, empty_place, sound_place, held_of, rest_of}
-use Rattle.sources.specs.Rules.{most_places, rising, rules, all_sound, fault}
+use Rattle.sources.specs.Rules.{most_places, rising, fault}
 use Rattle.sources.specs.Tables.{lent, over, fault_in}
 use Rattle.sources.specs.Tallies.{no_tally}
 use Rattle.sources.specs.Runs.{run_fault}
@@ -33,7 +33,6 @@ use Rattle.sources.proofs.Checking.{Kept, kept, kept_rises, kept_empties}
 use Rattle.sources.proofs.Fronts.{front_rest, front_le}
 use Rattle.sources.proofs.RunFaults.{GoodRun, good_run}
 use Rattle.sources.proofs.LineLaws.{lines_long}
-use Rattle.lent.specs.FormWords.{is_form}
 use Rattle.lent.specs.SourceWords.{remembered_word, source_with, source_words}
 use Rattle.lent.specs.StreamWords.{run_words, line_words, lines_words, stored_lines, place_in, tally_in, each_line, held_in, run_of, is_held, line_fits, are_ruled, are_fit, words_fault, loaded, typed, Lendable, StreamBack, StreamWordsBack, TakenRules}
 use Rattle.lent.specs.declared.stream_words.Answer.TheVariants.{Taken}

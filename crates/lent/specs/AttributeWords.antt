@@ -1,6 +1,6 @@
 -- What an attribute says (RFC 6679, section 6.1; document 02, request L12) in 11 words, in the order of include/flasknib.h: how many methods, eight methods, the
 -- mode and the ect.
-use Rattle.std.specs.Prelude.{◌≡◌, Bool, true, cond, ◌&&◌, ◌||◌, List, [], ◌∷◌, ℕ, ◌+◌, ◌≤◌, eqb, leb, ltb, length, get_or}
+use Rattle.std.specs.Prelude.{◌≡◌, Bool, cond, ◌&&◌, ◌||◌, List, [], ◌∷◌, ℕ, ◌+◌, ◌≤◌, eqb, leb, ltb, length, get_or}
 use Rattle.answers.specs.Conditions.{all}
 use Rattle.sdp.specs.declared.Method.{Method}
 use Rattle.sdp.specs.declared.Method.TheVariants.{Rtp, Ice, Leap}

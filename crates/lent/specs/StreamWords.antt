@@ -1,6 +1,6 @@
 -- A run of ecnstreams (document 02, request L1) in words of 64 bits, in the order of include/flasknib.h: 3 of the run, its form, the label's length and how many
 -- lines are held; and 13 for each line, its SSRC, the 10 words of its source's record, jumped and restarts. `ws` are the words of the lines.
-use Rattle.std.specs.Prelude.{◌≡◌, Bool, true, cond, not, ◌&&◌, List, [], ◌∷◌, ◌++◌, map, ℕ, zero, suc, ◌*◌, ◌^◌, ◌≤◌, ◌<◌, eqb, leb, ltb, length, get_or, drop, replicate}
+use Rattle.std.specs.Prelude.{◌≡◌, Bool, true, cond, not, ◌&&◌, List, [], ◌∷◌, ◌++◌, map, ℕ, zero, suc, ◌^◌, ◌≤◌, ◌<◌, eqb, leb, ltb, length, get_or, drop, replicate}
 use Rattle.std.proofs.Math.Option.{Option, none, some}
 use Rattle.std.proofs.lemmas.List.Edits.{sets}
 use Rattle.answers.specs.Conditions.{all}
@@ -8,7 +8,6 @@ use Rattle.answers.specs.declared.Refusal.{Refusal}
 use Rattle.answers.specs.declared.Refusal.TheVariants.{Malformed, Rules}
 use Rattle.source.specs.Record.{wire_number}
 use Rattle.sources.specs.declared.Place.{Place}
-use Rattle.sources.specs.declared.Table.{Table}
 use Rattle.sources.specs.declared.runs.Tally.{Tally}
 use Rattle.sources.specs.declared.runs.Run.{Run}
 use Rattle.sources.specs.Places.{held, empty_place, sound_place, held_of}

@@ -17,8 +17,7 @@ use Rattle.trace.specs.declared.Block.{Block}
 use Rattle.trace.specs.declared.Block.TheVariants as read
 use Rattle.trace.proofs.Decisions.{not_whole}
 use Rattle.table.specs.Lines.{head_bytes, row_bytes}
-use Rattle.walk.specs.Programs.{Printed, nothing, to_output, Ending}
-use Rattle.walk.specs.Pieces.{Octets}
+use Rattle.walk.specs.Programs.{nothing, to_output, Ending}
 use Rattle.walk.specs.Steps.{Next, goes, refuses}
 use Rattle.walk.specs.Singles.{Starts, Turns, Mirrors}
 use Rattle.walk.proofs.Singles.{singles_print}

@@ -1,5 +1,5 @@
 -- Laws of big-endian numbers, over the width. Assumes nothing.
-use Rattle.std.proofs.Common.{◌≡◌, ℕ, zero, suc, ◌+◌, ◌-◌, ◌*◌, ◌/◌, ◌%◌, ◌^◌, ◌<◌, ◌≤◌, List, [], ◌∷◌, ◌++◌, length, get_or, drop, sym, refl, ap, ◌∙◌, append_assoc, add-zero, add_assoc, add-suc, mul_assoc, mul_comm, pow-suc, zero-add, div-one, add-one, arith, length-append, get_or-drop, get_or-append-add}
+use Rattle.std.proofs.Common.{◌≡◌, ℕ, zero, suc, ◌+◌, ◌*◌, ◌/◌, ◌%◌, ◌^◌, ◌<◌, ◌≤◌, List, [], ◌∷◌, ◌++◌, length, get_or, drop, sym, refl, ap, ◌∙◌, append_assoc, add-zero, add_assoc, add-suc, mul_assoc, mul_comm, pow-suc, zero-add, div-one, add-one, arith, length-append, get_or-drop, get_or-append-add}
 use native.Mathlib.Nat.{one-le-pow, div-div-eq-div-mul, mod-one}
 use lib.Arith.{mod-mul, digits_div, digits_mod}
 use lib.ListN.{get_or-append, get_or-eq_default}

@@ -1,5 +1,5 @@
 -- What came between two reports, over the width. Assumes nothing.
-use Rattle.std.proofs.Common.{◌≡◌, ℕ, zero, suc, ◌+◌, ◌-◌, ◌%◌, ◌^◌, ◌<◌, ◌≤◌, ltb, leb, ℤ, pos, negsuc, ◌-ℤ◌, neg_ℤ, ◌≤ℤ◌, ◌<ℤ◌, sym, ap, ◌∙◌, mod-eq_of_lt, pow-suc, arith, ltb→lt, leb→le, pow_pos, le-ltb, lt-ltb}
+use Rattle.std.proofs.Common.{◌≡◌, ℕ, zero, suc, ◌+◌, ◌-◌, ◌%◌, ◌^◌, ◌<◌, ◌≤◌, ℤ, pos, negsuc, ◌-ℤ◌, neg_ℤ, ◌≤ℤ◌, ◌<ℤ◌, sym, ap, ◌∙◌, mod-eq_of_lt, pow-suc, arith, ltb→lt, leb→le, pow_pos, le-ltb, lt-ltb}
 use native.Mathlib.Nat.{mod-eq-sub-mod}
 use native.Mathlib.Decide.{dec_le}
 use Rattle.numbers.specs.Integers.{modulo}

@@ -1,5 +1,5 @@
 -- Laws of lists of octets, and of the numbers that stand in them, over the width. Assumes nothing.
-use Rattle.std.proofs.Common.{◌≡◌, ℕ, zero, suc, ◌+◌, ◌-◌, ◌/◌, ◌%◌, ◌^◌, ◌<◌, ◌≤◌, List, [], ◌∷◌, ◌++◌, length, take, drop, replicate, sym, refl, ap, ◌∙◌, add-zero, mod-eq_of_lt, arith, length-drop, get_or-drop, take-suc}
+use Rattle.std.proofs.Common.{◌≡◌, ℕ, zero, suc, ◌+◌, ◌/◌, ◌%◌, ◌^◌, ◌<◌, ◌≤◌, List, [], ◌∷◌, ◌++◌, length, take, drop, replicate, sym, refl, ap, ◌∙◌, add-zero, mod-eq_of_lt, arith, length-drop, get_or-drop, take-suc}
 use lib.Arith.{digits_div, digits_mod}
 use Rattle.numbers.specs.BigEndian.{word, bytes}
 use Rattle.numbers.proofs.BigEndian.{Octets, length-bytes, word_left, word_right, word_bytes}

@@ -11,61 +11,61 @@
 
 use answers::Written;
 use cases::record;
-use libc::STDIN_FILENO;
 use report::{write_feedback, write_summary};
 use source::Source;
+use std::io::Stdout;
 
 // A writer's answer and its output.
-fn show_answer(written: Written, out: &[u8]) {
-    show::text(b" :");
-    show::written(written);
-    show::bytes(out);
+fn show_answer(to: Stdout, written: Written, out: &[u8]) {
+    show::text(to, b" :");
+    show::written(to, written);
+    show::bytes(to, out);
 }
 
 // The feedback packet of a line.
-fn feedback(s: Source, line: &[u8]) {
+fn feedback(to: Stdout, s: Source, line: &[u8]) {
     let sender = cases::number32(line, 1);
     let media = cases::number32(line, 2);
     let size = cases::number(line, 3) as usize;
     let mut out = [170u8; 40];
     let written = write_feedback(s, sender, media, cases::room(&mut out, size));
-    show_answer(written, &out);
+    show_answer(to, written, &out);
 }
 
 // The summary block of a line.
-fn summary(s: Source, line: &[u8]) {
+fn summary(to: Stdout, s: Source, line: &[u8]) {
     let media = cases::number32(line, 1);
     let size = cases::number(line, 2) as usize;
     let mut out = [170u8; 40];
     let written = write_summary(s, media, cases::room(&mut out, size));
-    show_answer(written, &out);
+    show_answer(to, written, &out);
 }
 
 // What a line does, and the record behind it.
-fn done(s: Source, line: &[u8]) -> Source {
+fn done(to: Stdout, s: Source, line: &[u8]) -> Source {
     match cases::letter(line) {
-        b'f' => feedback(s, line),
-        b'x' => summary(s, line),
+        b'f' => feedback(to, s, line),
+        b'x' => summary(to, s, line),
         _ => {}
     }
     record::after(s, line)
 }
 
 // All lines in turn.
-fn run(text: &[u8]) {
+fn run(to: Stdout, text: &[u8]) {
     let mut s = Source::fresh();
     let mut at = 0;
     while at < text.len() {
         let line = cases::line(text, at);
-        show::text(line);
-        s = done(s, line);
-        show::end();
+        show::text(to, line);
+        s = done(to, s, line);
+        show::end(to);
         at += line.len() + 1;
     }
 }
 
-fn main() {
-    let mut text = io::large_buffer();
-    let n = io::read_full(STDIN_FILENO, &mut text);
-    run(&text[..n]);
+fn main(rt: HostRuntime) {
+    let mut text = [0u8; 65536];
+    let n = show::read_full(rt.stdin(), &mut text);
+    run(rt.stdout(), &text[..n]);
 }

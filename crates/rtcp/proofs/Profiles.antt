@@ -19,7 +19,7 @@ use Rattle.rtcp.specs.declared.Verdict.{Verdict}
 use Rattle.rtcp.specs.Header.{size, header_at}
 use Rattle.rtcp.specs.Packets.{Check, must, first_fault, is_report, may_stand, body_end}
 use Rattle.rtcp.specs.Compound.{begins, any, unless_faulty, packets, blocks, size_checks, block_check, checks_of, found, reading}
-use Rattle.rtcp.specs.Theorems.{Profiles, ProfilesAgree}
+use Rattle.rtcp.specs.Theorems.{ProfilesAgree}
 use Rattle.rtcp.proofs.Begins.{begins_next}
 use Rattle.rtcp.proofs.Whole.{tests, passed}
 

@@ -7,82 +7,82 @@
 // 3 setread); the ect (0 absent, 1 "1", 2 "0", 3 random). Any other line is a heading.
 #![tactic(auto)]
 
-use libc::STDIN_FILENO;
 use sdp::answerer::answer;
 use sdp::reader::read;
 use sdp::writer::write;
 use sdp::{Attribute, Ect, MaybeEct, MaybeMode, Method, Mode, Negotiated, Reading, Verdict};
+use std::io::Stdout;
 
-fn show_method(m: Method) {
+fn show_method(to: Stdout, m: Method) {
     match m {
-        Method::Rtp => show::text(b" rtp"),
-        Method::Ice => show::text(b" ice"),
-        Method::Leap => show::text(b" leap"),
+        Method::Rtp => show::text(to, b" rtp"),
+        Method::Ice => show::text(to, b" ice"),
+        Method::Leap => show::text(to, b" leap"),
     }
 }
 
-fn show_mode(mode: MaybeMode) {
+fn show_mode(to: Stdout, mode: MaybeMode) {
     match mode {
-        MaybeMode::Absent => show::text(b", no mode"),
+        MaybeMode::Absent => show::text(to, b", no mode"),
         MaybeMode::Present(m) => match m {
-            Mode::SetOnly => show::text(b", setonly"),
-            Mode::SetRead => show::text(b", setread"),
-            Mode::ReadOnly => show::text(b", readonly"),
+            Mode::SetOnly => show::text(to, b", setonly"),
+            Mode::SetRead => show::text(to, b", setread"),
+            Mode::ReadOnly => show::text(to, b", readonly"),
         },
     }
 }
 
-fn show_ect(ect: MaybeEct) {
+fn show_ect(to: Stdout, ect: MaybeEct) {
     match ect {
-        MaybeEct::Absent => show::text(b", no ect"),
+        MaybeEct::Absent => show::text(to, b", no ect"),
         MaybeEct::Present(e) => match e {
-            Ect::Zero => show::text(b", 0"),
-            Ect::One => show::text(b", 1"),
-            Ect::Random => show::text(b", random"),
+            Ect::Zero => show::text(to, b", 0"),
+            Ect::One => show::text(to, b", 1"),
+            Ect::Random => show::text(to, b", random"),
         },
     }
 }
 
 // The methods in use; a record that a call gives has at most eight.
-fn show_methods(a: Attribute) {
+fn show_methods(to: Stdout, a: Attribute) {
     let used = a.used;
     let mut i = 0;
     while i < 8 {
         let listed = a.methods[i];
         let m = listed.method;
         if i < used {
-            show_method(m);
+            show_method(to, m);
         }
         i += 1;
     }
 }
 
-fn show_attribute(a: Attribute) {
+fn show_attribute(to: Stdout, a: Attribute) {
     let mode = a.mode;
     let ect = a.ect;
-    show_methods(a);
-    show_mode(mode);
-    show_ect(ect);
+    show_methods(to, a);
+    show_mode(to, mode);
+    show_ect(to, ect);
 }
 
 // What reading gives.
-fn show_reading(reading: Reading) {
+fn show_reading(to: Stdout, reading: Reading) {
     let verdict = reading.verdict;
     let attribute = reading.attribute;
     match verdict {
-        Verdict::Read => show::text(b" : read"),
+        Verdict::Read => show::text(to, b" : read"),
         Verdict::Refused(refusal) => {
-            show::text(b" :");
-            show::refused(refusal);
+            show::text(to, b" :");
+            show::refused(to, refusal);
         }
     }
-    show_attribute(attribute);
+    show_attribute(to, attribute);
 }
 
-fn read_line(line: &[u8]) {
+fn read_line(to: Stdout, line: &[u8]) {
     let mut space = [0u8; 512];
     let bytes = cases::bytes(line, 1, &mut space);
-    show_reading(read(bytes));
+    show_reading(to, read(bytes));
 }
 
 fn with_digit(a: Attribute, digit: u64) -> Attribute {
@@ -140,61 +140,61 @@ fn record(line: &[u8], n: u32) -> Attribute {
 }
 
 // The record written, and the bytes of its room.
-fn show_line(attribute: Attribute, out: &mut [u8]) {
-    show::text(b" :");
-    show::written(write(attribute, out));
-    show::text(b" '");
-    show::text(out);
-    show::text(b"'");
+fn show_line(to: Stdout, attribute: Attribute, out: &mut [u8]) {
+    show::text(to, b" :");
+    show::written(to, write(attribute, out));
+    show::text(to, b" '");
+    show::text(to, out);
+    show::text(to, b"'");
 }
 
-fn write_line(line: &[u8]) {
+fn write_line(to: Stdout, line: &[u8]) {
     let mut space = [b'.'; 96];
     let room = cases::size(line, 1, 96);
     let attribute = record(line, 2);
-    show_line(attribute, cases::room(&mut space, room));
+    show_line(to, attribute, cases::room(&mut space, room));
 }
 
-fn answer_line(line: &[u8]) {
+fn answer_line(to: Stdout, line: &[u8]) {
     let offer = record(line, 1);
     let ours = record(line, 5);
     match answer(offer, ours) {
         Negotiated::Included(chosen) => {
-            show::text(b" : included");
-            show_attribute(chosen.attribute());
+            show::text(to, b" : included");
+            show_attribute(to, chosen.attribute());
         }
-        Negotiated::LeftOut => show::text(b" : left out"),
+        Negotiated::LeftOut => show::text(to, b" : left out"),
         Negotiated::Refused(refusal) => {
-            show::text(b" :");
-            show::refused(refusal);
+            show::text(to, b" :");
+            show::refused(to, refusal);
         }
     }
 }
 
 // What a line does.
-fn done(line: &[u8]) {
+fn done(to: Stdout, line: &[u8]) {
     match cases::letter(line) {
-        b'a' => answer_line(line),
-        b'r' => read_line(line),
-        b'w' => write_line(line),
+        b'a' => answer_line(to, line),
+        b'r' => read_line(to, line),
+        b'w' => write_line(to, line),
         _ => (),
     }
 }
 
 // All lines in turn.
-fn run(text: &[u8]) {
+fn run(to: Stdout, text: &[u8]) {
     let mut at = 0;
     while at < text.len() {
         let line = cases::line(text, at);
-        show::text(line);
-        done(line);
-        show::end();
+        show::text(to, line);
+        done(to, line);
+        show::end(to);
         at += line.len() + 1;
     }
 }
 
-fn main() {
-    let mut text = io::large_buffer();
-    let n = io::read_full(STDIN_FILENO, &mut text);
-    run(&text[..n]);
+fn main(rt: HostRuntime) {
+    let mut text = [0u8; 65536];
+    let n = show::read_full(rt.stdin(), &mut text);
+    run(rt.stdout(), &text[..n]);
 }

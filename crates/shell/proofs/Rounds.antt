@@ -10,7 +10,7 @@ use lib.IntN.{ℤ, pos}
 use lib.ListN.{length, replicate}
 use Rattle.walk.specs.Endings.{is_going}
 use Rattle.walk.specs.declared.Ended.TheVariants.{Going}
-use Rattle.shell.specs.Fills.{is_more, is_failure}
+use Rattle.shell.specs.Fills.{is_failure}
 use Rattle.shell.specs.Kept.{empty_of, Moved}
 use Rattle.shell.specs.Transfers.{left_of, begun_of, read_of, taken_of, put_of, ready_of, Brought}
 use Rattle.shell.specs.Turns.{is_due, turn_of}

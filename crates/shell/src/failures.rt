@@ -2,8 +2,9 @@
 ghost use Rattle.std.specs.Prelude.{◌≡◌, ◌+◌, min, leb};
 ghost use Rattle.shell.specs.Told.{Joined};
 
+use crate::streams::Streams;
 use answers::copy::put_bytes;
-use libc::STDERR_FILENO;
+use std::env::{Env, FillError};
 
 // Where so many bytes from a place on end, or the limit that they reach.
 fn end_of(at: usize, bytes: usize, limit: usize) -> usize
@@ -30,14 +31,13 @@ fn join(first: &[u8], second: &[u8], out: &mut [u8]) -> usize
     end_of(from, second.len(), out.len())
 }
 
-// Writes one line on standard error: the program, what failed, and the system's text for errno. No call of the system stands before that text is
-// asked for, so errno is still that of the call that failed.
-pub fn tell(program: &[u8], what: &[u8]) {
+// Writes one line on standard error: the program, what failed, and the system's text for the error with which a call last failed.
+pub fn tell(streams: &Streams, program: &[u8], what: &[u8]) {
     let mut space = [0u8; 64];
     let text: &mut [u8] = &mut space;
     let n = join(program, what, text);
     let line = &text[..];
-    os::fail(&line[..n]);
+    streams.fail(&line[..n]);
 }
 
 // Whether a program that was started with so many words, its own name among them, has an argument.
@@ -47,11 +47,32 @@ fn is_given(words: usize) -> bool
     2 <= words
 }
 
+// Whether the program was started with this word.
+fn has_word(env: &impl Env, i: usize) -> bool {
+    let mut space = [0u8; 1];
+    match env.arg(i, &mut space) {
+        Ok(_) => true,
+        Err(FillError::TooLong) => true,
+        Err(FillError::NotPresent) => false,
+    }
+}
+
+// With how many words the program was started, its own name among them; more than two count as two.
+fn word_count(env: &impl Env) -> usize {
+    if !has_word(env, 0) {
+        return 0;
+    }
+    if !has_word(env, 1) {
+        return 1;
+    }
+    2
+}
+
 // Whether the program was started with an argument. None takes one, so the usage line is then written on standard error.
-pub fn has_arguments(usage: &[u8]) -> bool {
-    let given = is_given(os::arg_count());
+pub fn has_arguments(env: &impl Env, streams: &Streams, usage: &[u8]) -> bool {
+    let given = is_given(word_count(env));
     if given {
-        io::write_all(STDERR_FILENO, usage);
+        streams.print_error(usage);
     }
     given
 }

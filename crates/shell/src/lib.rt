@@ -10,6 +10,7 @@ mod moving;
 pub mod printing;
 pub mod reading;
 mod retries;
+pub mod streams;
 pub mod transfers;
 pub mod turns;
 mod writing;

@@ -7,9 +7,9 @@ ghost use Rattle.shell.specs.Writes.{is_told};
 use crate::clipped::least;
 use crate::failures::tell;
 use crate::moving::move_front;
+use crate::streams::{STDOUT_FILENO, Streams};
 use crate::writing::{Writing, write_all};
 use answers::Written;
-use libc::STDOUT_FILENO;
 
 // The file descriptor, how many bytes at the front of the lent buffer are kept for it, how many bytes of the last print were written, and whether a write has
 // failed. Nothing is printed after a failure.
@@ -52,7 +52,7 @@ impl Output {
     }
 
     // Reports a failed write on standard error, and answers whether it did: only one to standard output, since a failed standard error can report nothing.
-    fn reported(self, done: Writing, program: &[u8]) -> bool
+    fn reported(self, done: Writing, streams: &Streams, program: &[u8]) -> bool
         ensures { result ≡ is_told self.fd done }
     {
         if !done.has_failed() {
@@ -61,7 +61,7 @@ impl Output {
         if self.fd != STDOUT_FILENO {
             return false;
         }
-        tell(program, b"writing standard output");
+        tell(streams, program, b"writing standard output");
         true
     }
 
@@ -78,24 +78,30 @@ impl Output {
     }
 
     // Prints bytes where they stand. A write that fails is reported on standard error, but for one to standard error itself.
-    pub fn printed_now(self, program: &[u8], bytes: &[u8]) -> Output
+    pub fn printed_now(self, streams: &mut Streams, program: &[u8], bytes: &[u8]) -> Output
         ensures { Printed (length bytes.now) self result }
     {
         let from = 0;
         let end = self.due(bytes.len());
-        let done = write_all(self.fd, &bytes[from..end]);
-        self.reported(done, program);
+        let done = write_all(streams, self.fd, &bytes[from..end]);
+        self.reported(done, streams, program);
         self.after(done)
     }
 
     // Prints the first bytes of what is kept, at most so many, and moves those after them to the front of the buffer.
-    pub fn with_printed(self, bytes: usize, program: &[u8], buffer: &mut [u8]) -> Output
+    pub fn with_printed(
+        self,
+        bytes: usize,
+        streams: &mut Streams,
+        program: &[u8],
+        buffer: &mut [u8],
+    ) -> Output
         ensures { Moved bytes self buffer.old result buffer.new }
     {
         let from = 0;
         let used = least(self.used, buffer.len());
         let end = least(bytes, used);
-        let printed = self.printed_now(program, &buffer[from..end]);
+        let printed = self.printed_now(streams, program, &buffer[from..end]);
         move_front(buffer, end, used);
         let mut next = printed;
         next.used = used - end;

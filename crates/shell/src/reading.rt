@@ -6,8 +6,10 @@ ghost use Rattle.shell.specs.Tries.{bytes_in};
 use crate::clipped::least;
 use crate::failures::tell;
 use crate::retries::{Outcome, TRIES, judged};
+use crate::streams::Streams;
 use format::block::BLOCK;
-use libc::{SEEK_CUR, STDIN_FILENO};
+use std::fs::{Files, metadata};
+use std::os::unix::fs::FileTypeExt;
 
 // How the input stands: more may come, it has ended, or a read has failed.
 #[derive(Clone, Copy)]
@@ -79,21 +81,36 @@ fn reached(bytes: usize, ahead: Ahead, left: u64) -> Reading
     Reading { input, left }
 }
 
-// Whether an input has no place, from what `lseek` answered.
+// Whether an input has no place, which a number below 0 says.
 fn is_placeless(place: i64) -> bool
     ensures { result ≡ is_placeless place }
 {
     place < 0
 }
 
+// The place in standard input as far as it is needed: 0 if it has one, else -1. A file, a disk and a folder have one; a pipe, a socket and a terminal have
+// none, and so has what the system tells nothing of.
+fn place(files: &impl Files) -> i64 {
+    match metadata(files, "/dev/stdin") {
+        Ok(found) => {
+            let kind = found.file_type();
+            if kind.is_file() || kind.is_block_device() || kind.is_dir() {
+                return 0;
+            }
+            -1
+        }
+        Err(_) => -1,
+    }
+}
+
 // Whether a read of standard input may wait for bytes that are not there yet: of a pipe, a socket or a terminal, which have no place. A read of a file does not
 // wait. It is asked before the first read: it may change errno, which names a failed read until that is reported.
-pub fn may_wait() -> bool {
-    is_placeless(libc::lseek(STDIN_FILENO, 0, SEEK_CUR))
+pub fn may_wait(files: &impl Files) -> bool {
+    is_placeless(place(files))
 }
 
 // Reads after the first bytes of the buffer until enough are there, each time as many as it has room for, and leaves the first as they were.
-fn read_until(buffer: &mut [u8], first: usize, enough: usize) -> Input
+fn read_until(streams: &mut Streams, buffer: &mut [u8], first: usize, enough: usize) -> Input
     requires { (first ≤ length buffer.old) × (enough ≤ length buffer.old) }
     ensures { Filled first enough (length buffer.old) result × (take first buffer.new ≡ take first buffer.old) }
 {
@@ -102,28 +119,28 @@ fn read_until(buffer: &mut [u8], first: usize, enough: usize) -> Input
     while reading.goes_on(enough) {
         let input = reading.input;
         let at = input.bytes;
-        let answer = libc::read(STDIN_FILENO, &mut buffer[at..end]);
-        reading = reading.after(judged(answer, os::errno(), reading.left, end - at));
+        let answer = streams.read(&mut buffer[at..end]);
+        reading = reading.after(judged(answer, streams.errno(), reading.left, end - at));
     }
     reading.input
 }
 
 // Fills the buffer from its front, with as many reads as that takes. If a read fails the caller reports it (`reported`, before another call of the system
 // fails).
-pub fn fill(buffer: &mut [u8]) -> Input
+pub fn fill(streams: &mut Streams, buffer: &mut [u8]) -> Input
     ensures { Filled 0 (length buffer.old) (length buffer.old) result }
 {
-    read_until(buffer, 0, buffer.len())
+    read_until(streams, buffer, 0, buffer.len())
 }
 
 // Reads once after the first bytes of the buffer, which stay, as many as it has room for: a byte is enough. Only a read that was interrupted, or whose file was
 // not ready, is made again. If it fails the caller reports it.
-pub fn read_on(buffer: &mut [u8], first: usize) -> Input
+pub fn read_on(streams: &mut Streams, buffer: &mut [u8], first: usize) -> Input
     ensures { ReadOn first buffer.old result buffer.new }
 {
     let end = buffer.len();
     let kept = least(first, end);
-    read_until(buffer, kept, least(kept + 1, end))
+    read_until(streams, buffer, kept, least(kept + 1, end))
 }
 
 impl Input {
@@ -140,13 +157,13 @@ impl Input {
     }
 
     // Reports a failed read on standard error, and answers whether it did. Before it no other call may fail: errno is still that of the read.
-    pub fn reported(self, program: &[u8]) -> bool
+    pub fn reported(self, streams: &Streams, program: &[u8]) -> bool
         ensures { result ≡ is_failure self.ahead }
     {
         if !self.has_failed() {
             return false;
         }
-        tell(program, b"reading standard input");
+        tell(streams, program, b"reading standard input");
         true
     }
 

@@ -3,7 +3,12 @@ ghost use Rattle.std.specs.Prelude.{◌≡◌};
 ghost use Rattle.shell.specs.Tries.{tries_after, retried_of, judged_of};
 
 use crate::clipped::least;
-use libc::{EAGAIN, EINTR};
+use std::thread;
+
+// A signal interrupted the call; its file was not ready (Linux).
+const EINTR: i32 = 4;
+
+const EAGAIN: i32 = 11;
 
 // How often a call is made before it counts as failed.
 pub const TRIES: u64 = 0xffff_ffff;
@@ -28,7 +33,7 @@ fn tries_after(left: u64, error: i32) -> u64
         return left - 1;
     }
     if error == EAGAIN {
-        libc::sched_yield();
+        thread::yield_now();
         return left - 1;
     }
     0

@@ -10,9 +10,9 @@ use crate::clipped::least;
 use crate::moving::move_front;
 use crate::printing::Output;
 use crate::reading::{Input, read_on};
+use crate::streams::{STDERR_FILENO, STDOUT_FILENO, Streams};
 use answers::Written;
 use format::block::BLOCK;
-use libc::{STDERR_FILENO, STDOUT_FILENO};
 use walk::Ended;
 
 // Output that is not prompt is printed in pieces of 256 KiB. Each begins at a multiple of that, where the system has large pieces of the file's pages to work
@@ -90,12 +90,12 @@ impl Transfer {
     }
 
     // Reads once, after what is left, which is moved to the front of the piece: so a part of a block waits there for the rest of it.
-    pub fn with_read(self, piece: &mut [u8]) -> Transfer
+    pub fn with_read(self, streams: &mut Streams, piece: &mut [u8]) -> Transfer
         ensures { Brought self piece.old result piece.new }
     {
         let mut next = self;
         let kept = self.kept(piece);
-        next.input = read_on(piece, kept);
+        next.input = read_on(streams, piece, kept);
         next.from = 0;
         next
     }
@@ -145,28 +145,40 @@ impl Transfer {
     }
 
     // Prints all that is kept, or all whole pieces of it, so that less than one is left and what the next call writes has room.
-    pub fn with_printed(self, program: &[u8], lines: &mut [u8], errors: &mut [u8]) -> Transfer
+    pub fn with_printed(
+        self,
+        streams: &mut Streams,
+        program: &[u8],
+        lines: &mut [u8],
+        errors: &mut [u8],
+    ) -> Transfer
         ensures { Flushed (ready_of self self.out.used) (ready_of self self.err.used) self lines.old errors.old result lines.new errors.new }
     {
         let mut next = self;
         let out = self.out;
         let err = self.err;
-        next.err = err.with_printed(self.ready(err.used), program, errors);
-        next.out = out.with_printed(self.ready(out.used), program, lines);
+        next.err = err.with_printed(self.ready(err.used), streams, program, errors);
+        next.out = out.with_printed(self.ready(out.used), streams, program, lines);
         next
     }
 
     // Prints all that is kept: standard error first; then a failed read is reported, before standard output could fail too.
-    pub fn finished(self, program: &[u8], lines: &mut [u8], errors: &mut [u8]) -> Transfer
+    pub fn finished(
+        self,
+        streams: &mut Streams,
+        program: &[u8],
+        lines: &mut [u8],
+        errors: &mut [u8],
+    ) -> Transfer
         ensures { Flushed self.out.used self.err.used self lines.old errors.old result lines.new errors.new }
     {
         let mut next = self;
         let input = self.input;
         let out = self.out;
         let err = self.err;
-        next.err = err.with_printed(err.used, program, errors);
-        input.reported(program);
-        next.out = out.with_printed(out.used, program, lines);
+        next.err = err.with_printed(err.used, streams, program, errors);
+        input.reported(streams, program);
+        next.out = out.with_printed(out.used, streams, program, lines);
         next
     }
 }

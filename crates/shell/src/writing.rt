@@ -4,6 +4,7 @@ ghost use Rattle.shell.specs.Tries.{bytes_in};
 ghost use Rattle.shell.specs.Writes.{Ended, unwritten, is_unwritten, has_failed, writing_after};
 
 use crate::retries::{Outcome, TRIES, judged};
+use crate::streams::Streams;
 
 // How many bytes were taken, and the tries left for the next write: none if one has failed.
 #[derive(Clone, Copy)]
@@ -59,14 +60,14 @@ impl Writing {
 }
 
 // Writes the bytes, to the last of them or to a failure, which errno names.
-pub fn write_all(fd: i32, bytes: &[u8]) -> Writing
+pub fn write_all(streams: &mut Streams, fd: i32, bytes: &[u8]) -> Writing
     ensures { Ended (length bytes.now) result }
 {
     let mut writing = Writing::begun();
     while writing.goes_on(bytes.len()) {
         let at = writing.at;
-        let answer = libc::write(fd, &bytes[at..]);
-        writing = writing.after(judged(answer, os::errno(), writing.left, bytes.len() - at));
+        let answer = streams.write(fd, &bytes[at..]);
+        writing = writing.after(judged(answer, streams.errno(), writing.left, bytes.len() - at));
     }
     writing
 }

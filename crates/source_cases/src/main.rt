@@ -10,69 +10,69 @@
 #![tactic(auto)]
 
 use cases::record;
-use libc::STDIN_FILENO;
 use source::{Arrival, BlockCount, Lost, Remembered, Source};
+use std::io::Stdout;
 
 // The packets lost, "-" for a malformed record.
-fn show_lost(lost: Lost) {
+fn show_lost(to: Stdout, lost: Lost) {
     match lost {
-        Lost::Packets(n) => show::signed(n),
-        Lost::Refused(_) => show::text(b" -"),
+        Lost::Packets(n) => show::signed(to, n),
+        Lost::Refused(_) => show::text(to, b" -"),
     }
 }
 
 // 0 for none, else the number + 1.
-fn show_remembered(remembered: Remembered) {
+fn show_remembered(to: Stdout, remembered: Remembered) {
     match remembered {
-        Remembered::Nothing => show::number(0),
-        Remembered::Number(wire) => show::number(wire.0 as u64 + 1),
+        Remembered::Nothing => show::number(to, 0),
+        Remembered::Number(wire) => show::number(to, wire.0 as u64 + 1),
     }
 }
 
 // An answer's record, and the record.
-fn shown(s: Source) -> Source {
+fn shown(to: Stdout, s: Source) -> Source {
     let highest = s.highest;
     let remembered = s.remembered;
-    show::signed(highest.0);
-    show::number(s.ect0);
-    show::number(s.ect1);
-    show::number(s.ce);
-    show::number(s.notect);
-    show_lost(s.lost());
-    show::number(s.duplicates);
-    show_remembered(remembered);
+    show::signed(to, highest.0);
+    show::number(to, s.ect0);
+    show::number(to, s.ect1);
+    show::number(to, s.ce);
+    show::number(to, s.notect);
+    show_lost(to, s.lost());
+    show::number(to, s.duplicates);
+    show_remembered(to, remembered);
     s
 }
 
 // The same behind an answer's number.
-fn answered(number: u64, s: Source) -> Source {
-    show::text(b" :");
-    show::number(number);
-    shown(s)
+fn answered(to: Stdout, number: u64, s: Source) -> Source {
+    show::text(to, b" :");
+    show::number(to, number);
+    shown(to, s)
 }
 
 // The answer to an arrival, and its record.
-fn arrived(answer: Arrival) -> Source {
+fn arrived(to: Stdout, answer: Arrival) -> Source {
     match answer {
-        Arrival::Accepted(s) => answered(0, s),
+        Arrival::Accepted(s) => answered(to, 0, s),
         Arrival::Restarted(s) => {
-            show::text(b" : restart");
-            shown(s)
+            show::text(to, b" : restart");
+            shown(to, s)
         }
-        Arrival::Refused(refusal, s) => answered(refusal.number() as u64, s),
+        Arrival::Refused(refusal, s) => answered(to, refusal.number() as u64, s),
     }
 }
 
 // The answer to a block, and its record.
-fn counted(answer: BlockCount) -> Source {
+fn counted(to: Stdout, answer: BlockCount) -> Source {
     match answer {
         BlockCount::Counted(s, jumps, restarts) => {
-            let next = answered(0, s);
-            show::number(jumps);
-            show::number(restarts);
+            let next = answered(to, 0, s);
+            show::number(to, jumps);
+            show::number(to, restarts);
             next
         }
-        BlockCount::Refused(refusal, s) => answered(refusal.number() as u64, s),
+        BlockCount::Refused(refusal, s) => answered(to, refusal.number() as u64, s),
     }
 }
 
@@ -84,29 +84,29 @@ fn block(s: Source, line: &[u8]) -> BlockCount {
 }
 
 // What a line does.
-fn done(s: Source, line: &[u8]) -> Source {
+fn done(to: Stdout, s: Source, line: &[u8]) -> Source {
     match cases::letter(line) {
-        b'a' => arrived(record::arrival(s, line)),
-        b'b' => counted(block(s, line)),
+        b'a' => arrived(to, record::arrival(s, line)),
+        b'b' => counted(to, block(s, line)),
         _ => record::after(s, line),
     }
 }
 
 // All lines in turn.
-fn run(text: &[u8]) {
+fn run(to: Stdout, text: &[u8]) {
     let mut s = Source::fresh();
     let mut at = 0;
     while at < text.len() {
         let line = cases::line(text, at);
-        show::text(line);
-        s = done(s, line);
-        show::end();
+        show::text(to, line);
+        s = done(to, s, line);
+        show::end(to);
         at += line.len() + 1;
     }
 }
 
-fn main() {
-    let mut text = io::large_buffer();
-    let n = io::read_full(STDIN_FILENO, &mut text);
-    run(&text[..n]);
+fn main(rt: HostRuntime) {
+    let mut text = [0u8; 65536];
+    let n = show::read_full(rt.stdin(), &mut text);
+    run(rt.stdout(), &text[..n]);
 }

@@ -3,10 +3,10 @@ use mathlib.Core.Path.{◌≡◌, refl, sym, ap, subst, ◌∙◌}
 use mathlib.Core.Bool.{Bool, true, false, cond, not, ◌&&◌, ◌||◌}
 use mathlib.Core.List.{List, [], ◌∷◌, ◌++◌, map}
 use mathlib.Core.Option.{Option, none, some}
-use Prim.Native.Nat.{ℕ, ◌+◌, ◌/◌, ◌≤◌, ◌<◌}
+use Prim.Native.Nat.{ℕ, ◌+◌, ◌/◌, ◌≤◌}
 use native.Mathlib.Omega.{arith}
 use native.Mathlib.Nat.{zero-add}
-use borrow.Author.Tests.{le-ltb, lt-ltb, ltb-true, ltb-false, eq-eqb, ne_eqb, le-leb, lt-leb}
+use borrow.Author.Tests.{ltb-true, ltb-false, eq-eqb, ne_eqb, le-leb, lt-leb}
 use lib.Dec.{ltb, leb, eqb}
 use lib.ListN.{length, take, drop, take-append-drop, length-take}
 use lib.Seq.{length-take-le}
@@ -17,31 +17,26 @@ use Rattle.format.specs.declared.Wire.{Wire}
 use Rattle.source.specs.declared.Source.{Source}
 use Rattle.source.specs.declared.BlockCount.{BlockCount}
 use Rattle.source.specs.declared.BlockCount.TheVariants as block
-use Rattle.source.specs.Record.{fresh_record, sound}
+use Rattle.source.specs.Record.{sound}
 use Rattle.source.specs.Arrivals.{arrival, after}
 use Rattle.source.specs.Blocks.{Packet, packets, jump, restart, count_all, block_count}
 use Rattle.sources.specs.declared.Place.{Place}
 use Rattle.sources.specs.declared.Stand.{Stand}
 use Rattle.sources.specs.declared.Table.{Table}
-use Rattle.sources.specs.declared.Checked.{Checked}
-use Rattle.sources.specs.declared.Arrived.{Arrived}
 use Rattle.sources.specs.declared.Arrived.TheVariants as arrived
-use Rattle.sources.specs.declared.Counted.{Counted}
 use Rattle.sources.specs.declared.Counted.TheVariants as counted
-use Rattle.sources.specs.declared.TableArrived.{TableArrived}
-use Rattle.sources.specs.declared.TableCounted.{TableCounted}
 use Rattle.sources.specs.declared.calls.Change.{Change}
 use Rattle.sources.specs.declared.calls.Arriving.{Arriving}
 use Rattle.sources.specs.declared.calls.Counting.{Counting}
 use Rattle.sources.specs.declared.finding.Seen.{Seen}
-use Rattle.sources.specs.Places.{empty, sound_place, held_of, rest_of}
+use Rattle.sources.specs.Places.{empty, held_of, rest_of}
 use Rattle.sources.specs.Rules.{most_places, rising, rules, all_sound, fault}
 use Rattle.sources.specs.Stands.{stands_at, found, is_new, record_in, record_of, new_to, with_place}
 use Rattle.sources.specs.Answers.{full, refusal, told, arrive_answer, arrive_places, outside, count_answer, count_places}
 use Rattle.sources.specs.Tables.{lent, with_lent, over, fault_in, arrived_in, counted_in}
 use Rattle.sources.specs.Seats.{pushed}
 use Rattle.sources.specs.Lending.{in_use}
-use Rattle.sources.specs.Checks.{checked_by, checked_in, Good}
+use Rattle.sources.specs.Checks.{checked_by, checked_in}
 use Rattle.sources.specs.Seeing.{seen_first, seen_from, seen_in, fault_seen, checked_seen, roomy}
 use Rattle.sources.specs.Changes.{changed, no_change, change_of, not_arriving, arriving_by, arriving, not_counting, settled, counted_by, counting_by, counting}
 use Rattle.sources.proofs.Checking.{Passed, passed}

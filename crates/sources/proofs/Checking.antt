@@ -3,11 +3,10 @@ use mathlib.Core.Path.{◌≡◌, refl, sym, ap, ◌∙◌}
 use mathlib.Core.Bool.{Bool, true, false, cond, not}
 use mathlib.Core.List.{List, map}
 use mathlib.Core.Option.{Option, none, some}
-use Prim.Native.Nat.{ℕ, ◌≤◌, ◌<◌}
+use Prim.Native.Nat.{ℕ, ◌≤◌}
 use native.Mathlib.Omega.{arith}
-use borrow.Author.Tests.{lt-ltb, le-ltb, ltb-false, le-leb}
-use lib.Dec.{leb}
-use lib.ListN.{length, get_or, take, drop, length-take}
+use borrow.Author.Tests.{ltb-false}
+use lib.ListN.{length, get_or, take}
 use Rattle.answers.specs.Conditions.{all}
 use Rattle.answers.specs.declared.Refusal.{Refusal}
 use Rattle.answers.specs.declared.Refusal.TheVariants.{Malformed, Rules}
@@ -19,7 +18,7 @@ use Rattle.sources.specs.Places.{empty, sound_place, held_of, rest_of}
 use Rattle.sources.specs.Rules.{most_places, rising, rules, all_sound, fault}
 use Rattle.sources.specs.Tables.{lent, over, fault_in}
 use Rattle.sources.specs.Checks.{checked_by, checked_in, Good}
-use Rattle.sources.proofs.Fronts.{few_held, held_first, rest_first}
+use Rattle.sources.proofs.Fronts.{few_held, held_first}
 
 -- ---- a list of places
 

@@ -19,7 +19,6 @@ use Rattle.source.specs.declared.Source.{Source}
 use Rattle.source.specs.declared.BlockCount.TheVariants.{Counted, Refused}
 use Rattle.source.specs.Record.{sound}
 use Rattle.source.specs.Blocks.{packets, count_all, block_count}
-use Rattle.trace.specs.declared.Block.{Block}
 use Rattle.walk.specs.Steps.{goes, refuses}
 use Rattle.sources.specs.declared.Place.{Place}
 use Rattle.sources.specs.declared.Table.{Table}

@@ -11,7 +11,6 @@ use lib.ListN.{length, take}
 use lib.Seq.{take-length}
 use Rattle.answers.specs.Refusals.{number_of}
 use Rattle.answers.specs.declared.Refusal.{Refusal}
-use Rattle.answers.specs.declared.Refusal.TheVariants.{Limits}
 use Rattle.format.specs.declared.Wire.{Wire}
 use Rattle.source.specs.declared.Source.{Source}
 use Rattle.source.specs.declared.Arrival.{Arrival}
@@ -25,9 +24,7 @@ use Rattle.source.proofs.Facts.{fresh_sound}
 use Rattle.source.proofs.Answers.{arrival_first}
 use Rattle.source.proofs.Afresh.{refusal_keeps}
 use Rattle.sources.specs.declared.Place.{Place}
-use Rattle.sources.specs.declared.Arrived.{Arrived}
 use Rattle.sources.specs.declared.Arrived.TheVariants as arrived
-use Rattle.sources.specs.declared.Counted.{Counted}
 use Rattle.sources.specs.declared.Counted.TheVariants as counted
 use Rattle.sources.specs.Places.{held_of, rest_of}
 use Rattle.sources.specs.Rules.{rising}

@@ -11,8 +11,6 @@ pub mod Compounding
 pub mod Lent
 pub mod Loaded
 pub mod Slices
-pub mod Walks
-pub mod Handed
 pub mod Sorted
 pub mod Grown
 pub mod Kept

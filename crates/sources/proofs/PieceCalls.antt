@@ -1,13 +1,10 @@
 -- The calls over pieces, case by case. Assumes nothing.
 use mathlib.Core.Path.{◌≡◌, refl, sym, ap, ◌∙◌}
-use mathlib.Core.Logic.{⊎_elim}
 use mathlib.Core.List.{List, [], ◌∷◌}
 use mathlib.Core.Option.{Option, none, some}
 use Prim.Native.Nat.{ℕ, ◌/◌, ◌^◌, ◌≤◌, ◌<◌}
 use native.Mathlib.Omega.{arith}
-use denote.Enum.Declared.{tag_of}
 use lib.ListN.{length}
-use types.Run.{OneOf}
 use Rattle.answers.specs.Refusals.{number_of}
 use Rattle.answers.specs.Writers.{Wrote}
 use Rattle.answers.specs.declared.Refusal.{Refusal}
@@ -15,10 +12,8 @@ use Rattle.answers.specs.declared.Refusal.TheVariants.{Incomplete}
 use Rattle.answers.specs.declared.Written.{Written}
 use Rattle.answers.specs.declared.Written.TheVariants.{Length, Room, Refused}
 use Rattle.answers.proofs.Stores.{wrote_all, wrote_refused}
-use Rattle.answers.specs.contracts.Written.{the_type}
 use Rattle.format.specs.Blocks.{block_bytes}
 use Rattle.table.specs.Lines.{refused_line}
-use Rattle.walk.specs.Programs.{nothing}
 use Rattle.walk.specs.Pieces.{whole_in}
 use Rattle.walk.specs.Fitting.{Took, fitting}
 use Rattle.walk.specs.Machines.{fitting_by, ending_by}
@@ -46,16 +41,16 @@ module _ (b : List ℕ) (r : Step) (e : start_of b ≡ r) where
   pub begin_refused : {refusal : Refusal} → r.answer ≡ Refused refusal → begin_of b ≡ record { run = r.run; block = 0; ended = ended.Refused refusal }
   begin_refused a = begin_by_lem ∙ ap (λ (w : Written). begin_by (begun b (record { answer = w; run = r.run }))) a
 
-  pub begin_other : OneOf (0 ∷ 1 ∷ []) (tag_of the_type r.answer) → begin_of b ≡ record { run = r.run; block = 1; ended = ended.Going }
+  pub begin_other : ((q : Refusal) → r.answer ≡ Refused q → ⊥) → begin_of b ≡ record { run = r.run; block = 1; ended = ended.Going }
   begin_other h = begin_by_lem ∙ go r.answer h
     where
-      go : (w : Written) → OneOf (0 ∷ 1 ∷ []) (tag_of the_type w) → begin_by (begun b (record { answer = w; run = r.run })) ≡ record { run = r.run; block = 1; ended = ended.Going }
+      go : (w : Written) → ((q : Refusal) → w ≡ Refused q → ⊥) → begin_by (begun b (record { answer = w; run = r.run })) ≡ record { run = r.run; block = 1; ended = ended.Going }
       go (Length n) h = refl
       go (Room n) h = refl
-      go (Refused refusal) h = ⊎_elim (λ z. absurd (omega arith)) (λ z. absurd (omega arith)) h
+      go (Refused refusal) h = absurd (h refusal refl)
 
-pub begun_none : (b : List ℕ) (w : Written) → OneOf (1 ∷ 2 ∷ []) (tag_of the_type w) → begun_in b w ≡ not_begun
-begun_none b (Length n) h = ⊎_elim (λ z. absurd (omega arith)) (λ z. absurd (omega arith)) h
+pub begun_none : (b : List ℕ) (w : Written) → ((n : ℕ) → w ≡ Length n → ⊥) → begun_in b w ≡ not_begun
+begun_none b (Length n) h = absurd (h n refl)
 begun_none b (Room n) h = refl
 begun_none b (Refused refusal) h = refl
 

@@ -8,7 +8,7 @@ use native.Mathlib.Omega.{arith}
 use borrow.Author.Tests.{ltb-true, ltb-false, eqb-true}
 use lib.Dec.{ltb, eqb}
 use lib.ListN.{length, get_or, set, take, drop, length-take, length-set, take-append-drop}
-use lib.Seq.{get_or-take, take_all, take-append-le, drop-append-le, set-append_left, length-take-le}
+use lib.Seq.{take_all, take-append-le, drop-append-le, set-append_left, length-take-le}
 use Rattle.answers.specs.Conditions.{all}
 use Rattle.answers.proofs.Conditions.{and_left, and_right}
 use Rattle.source.specs.declared.Source.{Source}

@@ -1,32 +1,27 @@
 -- What a block does to a run, case by case, and what the calls give. Assumes nothing.
 use mathlib.Core.Path.{◌≡◌, refl, sym, ap, ◌∙◌}
 use mathlib.Core.Bool.{Bool, true, false, cond}
-use mathlib.Core.Logic.{⊎_elim}
-use mathlib.Core.List.{List, [], ◌∷◌, ◌++◌}
+use mathlib.Core.List.{List, [], ◌++◌}
 use mathlib.Core.Option.{Option, none, some}
 use Prim.Native.Nat.{ℕ, ◌+◌, ◌-◌, ◌≤◌}
 use native.Mathlib.Omega.{arith}
-use denote.Enum.Declared.{tag_of}
 use lib.Dec.{ltb}
 use lib.ListN.{length, drop}
 use lib.Seq.{sets}
 use borrow.Author.Tests.{le-ltb}
 use borrow.Rule.Slice.PartMut.{put_mid}
-use types.Run.{OneOf}
 use Rattle.answers.specs.Writers.{Wrote, written, stored, size_in}
 use Rattle.answers.specs.declared.Refusal.{Refusal}
 use Rattle.answers.specs.declared.Refusal.TheVariants.{Contents}
 use Rattle.answers.specs.declared.Written.{Written}
 use Rattle.answers.specs.declared.Written.TheVariants.{Length, Room, Refused}
 use Rattle.answers.proofs.Stores.{wrote_all}
-use Rattle.answers.specs.contracts.Written as answers
 use Rattle.format.specs.Forms.{shape_of, width, same_form}
 use Rattle.format.specs.declared.Form.{Form}
 use Rattle.format.proofs.Same.{same_form_lem}
 use Rattle.trace.specs.Reading.{block_of, fault_of}
 use Rattle.trace.specs.declared.Block.{Block}
 use Rattle.trace.specs.declared.Block.TheVariants as read
-use Rattle.trace.specs.contracts.Block.{the_type}
 use Rattle.walk.specs.Steps.{Next, goes, refuses, fault_in, state_after}
 use Rattle.walk.proofs.Putting.{step_refuses, part, part_long, part_front}
 use Rattle.sources.specs.declared.Stand.{Stand}
@@ -49,12 +44,12 @@ use Rattle.sources.specs.Known.{CountsHere, Renews}
 -- ---- block 0
 
 module _ (b : List ℕ) where
-  pub start_other : (r : Block) → block_of b ≡ r → OneOf (1 ∷ 2 ∷ []) (tag_of the_type r) → start_of b ≡ record { answer = Refused (fault_of r); run = no_run }
+  pub start_other : (r : Block) → block_of b ≡ r → ((form : Form) (n ssrc : ℕ) → r ≡ read.Label form n ssrc → ⊥) → start_of b ≡ record { answer = Refused (fault_of r); run = no_run }
   unfolding start_of
   start_other r e h = ap start_by e ∙ go r h
     where
-      go : (r : Block) → OneOf (1 ∷ 2 ∷ []) (tag_of the_type r) → start_by r ≡ record { answer = Refused (fault_of r); run = no_run }
-      go (read.Label form n ssrc) h = ⊎_elim (λ z. absurd (omega arith)) (λ z. absurd (omega arith)) h
+      go : (r : Block) → ((form : Form) (n ssrc : ℕ) → r ≡ read.Label form n ssrc → ⊥) → start_by r ≡ record { answer = Refused (fault_of r); run = no_run }
+      go (read.Label form n ssrc) h = absurd (h form n ssrc refl)
       go (read.Arrivals form n ssrc) h = refl
       go (read.Refused refusal) h = refl
 
@@ -79,13 +74,13 @@ module _ (run : Run) (n ssrc : ℕ) (b : List ℕ) (u : TableCounted) (e : u ≡
 -- ---- a later block
 
 module _ (run : Run) (b : List ℕ) where
-  pub next_other : (r : Block) → block_of b ≡ r → OneOf (0 ∷ 2 ∷ []) (tag_of the_type r) → next_of run b ≡ refuses (fault_of r)
+  pub next_other : (r : Block) → block_of b ≡ r → ((form : Form) (n ssrc : ℕ) → r ≡ read.Arrivals form n ssrc → ⊥) → next_of run b ≡ refuses (fault_of r)
   unfolding next_of
   next_other r e h = ap (next_by run b) e ∙ go r h
     where
-      go : (r : Block) → OneOf (0 ∷ 2 ∷ []) (tag_of the_type r) → next_by run b r ≡ refuses (fault_of r)
+      go : (r : Block) → ((form : Form) (n ssrc : ℕ) → r ≡ read.Arrivals form n ssrc → ⊥) → next_by run b r ≡ refuses (fault_of r)
       go (read.Label form n ssrc) h = refl
-      go (read.Arrivals form n ssrc) h = ⊎_elim (λ z. absurd (omega arith)) (λ z. absurd (omega arith)) h
+      go (read.Arrivals form n ssrc) h = absurd (h form n ssrc refl)
       go (read.Refused refusal) h = refl
 
   module _ {form : Form} {n ssrc : ℕ} (e : block_of b ≡ read.Arrivals form n ssrc) where
@@ -136,18 +131,13 @@ module _ (run : Run) (next : Next Run) where
       go (goes later) e = let z : ◌≡◌ {A = ℕ} 0 1 = cc in absurd (omega arith)
       go (refuses q) e = let same : q ≡ refusal = cc in ap refuses same
 
-  pub told_goes : (s : Step) → TakesBlock run next s → OneOf (0 ∷ 1 ∷ []) (tag_of answers.the_type s.answer) → next ≡ goes s.run
+  pub told_goes : (s : Step) → TakesBlock run next s → ((q : Refusal) → s.answer ≡ Refused q → ⊥) → next ≡ goes s.run
   unfolding written
   told_goes s t k = go next t.wrote.answers t.after
     where
-      other : {q : Refusal} (w : Written) → w ≡ Refused q → OneOf (0 ∷ 1 ∷ []) (tag_of answers.the_type w) → ⊥
-      other (Length n) e k = let z : ◌≡◌ {A = ℕ} 0 1 = cc in omega arith
-      other (Room n) e k = let z : ◌≡◌ {A = ℕ} 0 1 = cc in omega arith
-      other (Refused r) e k = ⊎_elim (λ z. absurd (omega arith)) (λ z. absurd (omega arith)) k
-
       go : (next : Next Run) → s.answer ≡ written (fault_in next) [] [] → s.run ≡ state_after run next s.answer → next ≡ goes s.run
       go (goes later) e a = ap goes (sym (a ∙ ap (state_after run (goes later)) e))
-      go (refuses q) e a = absurd (other s.answer e k)
+      go (refuses q) e a = absurd (k q e)
 
 -- ---- a place renewed
 
@@ -179,7 +169,5 @@ module _ (old row ys : List ℕ) (at : ℕ) (answer : Written) (h : at + length 
   unfolding written
   put_size = w.answers ∙ ap (λ (t : Bool). cond t (Room (length row)) (Length (length row))) fits
 
-pub never_other : (w : Written) {n : ℕ} → w ≡ Length n → OneOf (1 ∷ 2 ∷ []) (tag_of answers.the_type w) → ⊥
-never_other (Length n) e k = ⊎_elim (λ z. absurd (omega arith)) (λ z. absurd (omega arith)) k
-never_other (Room n) e k = let z : ◌≡◌ {A = ℕ} 0 1 = cc in omega arith
-never_other (Refused r) e k = let z : ◌≡◌ {A = ℕ} 0 1 = cc in omega arith
+pub never_other : (w : Written) {n : ℕ} → w ≡ Length n → ((n : ℕ) → w ≡ Length n → ⊥) → ⊥
+never_other w {n} e k = k n e

@@ -10,16 +10,14 @@ use borrow.Author.Tests.{ltb-true, ltb-false, lt-ltb, le-ltb, eqb-true, eqb-fals
 use lib.Dec.{leb, ltb, eqb}
 use lib.ListN.{length, get_or, take, drop}
 use Rattle.answers.specs.Conditions.{all}
-use Rattle.answers.proofs.Conditions.{and_left, and_right}
 use Rattle.source.specs.declared.Source.{Source}
 use Rattle.source.specs.Record.{fresh_record}
 use Rattle.sources.specs.declared.Place.{Place}
-use Rattle.sources.specs.declared.Stand.{Stand}
 use Rattle.sources.specs.declared.finding.Seen.{Seen}
 use Rattle.sources.specs.Places.{held, empty_place, empty, sound_place, held_of, rest_of}
 use Rattle.sources.specs.Rules.{rising}
 use Rattle.sources.specs.Stands.{stands_at, found, is_new, record_in}
-use Rattle.sources.specs.Seeing.{stand_seen, end_seen, source_seen, seen_held, seen_other, seen_next, seen_from}
+use Rattle.sources.specs.Seeing.{seen_held, seen_other, seen_next, seen_from}
 use Rattle.sources.proofs.Turns.{one_left, none_left}
 use Rattle.sources.proofs.Found.{rising_first, rising_rest, below_none}
 

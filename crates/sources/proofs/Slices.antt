@@ -1,7 +1,7 @@
 -- What the calls say of a lent slice of places, which is a table whose places are all in use. Assumes nothing.
 use mathlib.Core.Path.{◌≡◌, refl, sym, ap, subst, ◌∙◌}
 use mathlib.Core.Bool.{Bool, true, false, cond}
-use mathlib.Core.List.{List, [], ◌++◌, append-nil}
+use mathlib.Core.List.{List, ◌++◌, append-nil}
 use mathlib.Core.Option.{some}
 use Prim.Native.Nat.{ℕ, ◌≤◌}
 use native.Mathlib.Omega.{arith}
@@ -12,8 +12,6 @@ use Rattle.format.specs.declared.Wire.{Wire}
 use Rattle.sources.specs.declared.Place.{Place}
 use Rattle.sources.specs.declared.Table.{Table}
 use Rattle.sources.specs.declared.Checked.{Checked}
-use Rattle.sources.specs.declared.Arrived.TheVariants as arrived
-use Rattle.sources.specs.declared.Counted.TheVariants as counted
 use Rattle.sources.specs.declared.TableArrived.{TableArrived}
 use Rattle.sources.specs.declared.TableCounted.{TableCounted}
 use Rattle.sources.specs.declared.calls.Arriving.{Arriving}
@@ -22,12 +20,12 @@ use Rattle.sources.specs.declared.finding.Seen.{Seen}
 use Rattle.sources.specs.Places.{held_of}
 use Rattle.sources.specs.Rules.{fault}
 use Rattle.sources.specs.Answers.{refusal, arrive_answer, arrive_places, count_answer, count_places}
-use Rattle.sources.specs.Tables.{lent, with_lent, over, fault_in, arrived_in, counted_in}
+use Rattle.sources.specs.Tables.{lent, over, fault_in, arrived_in, counted_in}
 use Rattle.sources.specs.Checks.{checked_by, checked, checked_in}
 use Rattle.sources.specs.Seeing.{seen_in, checked_seen}
 use Rattle.sources.specs.Changes.{changed, arriving, counting}
 use Rattle.sources.proofs.Loaded.{over_fault}
-use Rattle.sources.proofs.Calling.{checked_seen_lem, Arrives, arrives, Counts, block_counts}
+use Rattle.sources.proofs.Calling.{checked_seen_lem, arrives, block_counts}
 
 module _ (ps : List Place) where
   abbrev all_used : Table

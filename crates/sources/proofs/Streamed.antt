@@ -10,7 +10,6 @@ use lib.Dec.{ltb}
 use lib.ListN.{length}
 use Rattle.answers.specs.declared.Refusal.{Refusal}
 use Rattle.answers.specs.declared.Refusal.TheVariants.{Incomplete}
-use Rattle.answers.specs.declared.Written.TheVariants as written
 use Rattle.format.specs.Blocks.{block_bytes}
 use Rattle.trace.specs.Reading.{block_of}
 use Rattle.trace.specs.declared.Block.{Block}

@@ -13,7 +13,7 @@ use Rattle.sources.specs.declared.Counted.TheVariants as counted
 use Rattle.sources.specs.Places.{held_of, rest_of}
 use Rattle.sources.specs.Rules.{fault}
 use Rattle.sources.specs.Stands.{found, record_of, new_to}
-use Rattle.sources.specs.Answers.{refusal, behind, arrive_answer, arrive_places, count_answer, count_places}
+use Rattle.sources.specs.Answers.{refusal, arrive_answer, arrive_places, count_answer, count_places}
 
 -- ---- the rules are kept by every call, and the held records stay sound
 

@@ -1,4 +1,4 @@
-// A lent slice of places: the walk that sees where an SSRC stands, and the one that changes places. All functions over it are proved by a walk of their code.
+// A lent slice of places: the walk that sees where an SSRC stands, and the one that changes places.
 ghost use Rattle.std.specs.Prelude.{◌≡◌, ◌≤◌, ◌<◌, length};
 ghost use Rattle.sources.specs.Tables.{loaded};
 ghost use Rattle.sources.specs.Lending.{placed_in};

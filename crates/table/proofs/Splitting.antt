@@ -3,12 +3,12 @@ use mathlib.Core.Path.{◌≡◌, refl, sym, ap, ◌∙◌}
 use mathlib.Core.Bool.{Bool, true, false, ◌&&◌, ◌||◌}
 use mathlib.Core.Option.{Option, some}
 use mathlib.Core.List.{List, [], ◌∷◌, ◌++◌, append_assoc, map}
-use Prim.Native.Nat.{ℕ, suc, zero, ◌+◌, ◌-◌, ◌/◌, ◌%◌, ◌≤◌, ◌<◌}
+use Prim.Native.Nat.{ℕ, suc, zero, ◌+◌, ◌/◌, ◌%◌, ◌≤◌, ◌<◌}
 use native.Mathlib.Decide.{ℕ_discrete}
 use native.Mathlib.Omega.{arith}
 use borrow.Author.Tests.{le-leb, eq-eqb, ne_eqb, leb-true, leb-false, eqb-false, lt-ltb, le-ltb}
 use lib.Dec.{eqb, leb}
-use lib.IntN.{pos, negsuc, neg_ℤ}
+use lib.IntN.{pos, negsuc}
 use lib.ListN.{length, length-append}
 use Rattle.answers.proofs.Conditions.{and_left, and_right}
 use Rattle.table.specs.Decimal.{digits_of, decimal, signed, is_numeral, number_in, negative, natural, signed_in}

@@ -13,8 +13,8 @@
 
 use answers::Written;
 use cases::record;
-use libc::STDIN_FILENO;
 use source::{Source, Totals};
+use std::io::Stdout;
 
 // The row of a line.
 fn row(s: Source, line: &[u8], out: &mut [u8]) -> Written {
@@ -47,41 +47,41 @@ fn write(s: Source, line: &[u8], out: &mut [u8]) -> Written {
 }
 
 // A writer's answer and the front of its output.
-fn show_answer(s: Source, line: &[u8]) {
+fn show_answer(to: Stdout, s: Source, line: &[u8]) {
     let room = cases::number(line, 1) as usize;
     let shown = cases::number(line, 2) as usize;
     let mut out = [46u8; 1200];
     let answer = write(s, line, cases::room(&mut out, room));
-    show::text(b" :");
-    show::written(answer);
-    show::end();
-    show::text(cases::front(&out, shown));
+    show::text(to, b" :");
+    show::written(to, answer);
+    show::end(to);
+    show::text(to, cases::front(&out, shown));
 }
 
 // What a line does, and the record behind it.
-fn done(s: Source, line: &[u8]) -> Source {
+fn done(to: Stdout, s: Source, line: &[u8]) -> Source {
     match cases::letter(line) {
-        b'e' | b'h' | b'r' => show_answer(s, line),
+        b'e' | b'h' | b'r' => show_answer(to, s, line),
         _ => {}
     }
     record::after(s, line)
 }
 
 // All lines in turn.
-fn run(text: &[u8]) {
+fn run(to: Stdout, text: &[u8]) {
     let mut s = Source::fresh();
     let mut at = 0;
     while at < text.len() {
         let line = cases::line(text, at);
-        show::text(line);
-        s = done(s, line);
-        show::end();
+        show::text(to, line);
+        s = done(to, s, line);
+        show::end(to);
         at += line.len() + 1;
     }
 }
 
-fn main() {
-    let mut text = io::large_buffer();
-    let n = io::read_full(STDIN_FILENO, &mut text);
-    run(&text[..n]);
+fn main(rt: HostRuntime) {
+    let mut text = [0u8; 65536];
+    let n = show::read_full(rt.stdin(), &mut text);
+    run(rt.stdout(), &text[..n]);
 }

@@ -19,7 +19,7 @@ use Rattle.trace.specs.declared.Found.TheVariants.{Is}
 use Rattle.trace.specs.declared.Record.{Record}
 use Rattle.trace.proofs.Decisions.{count_right, found_there, label_retired, label_rest, lists_taken, lists_rest}
 use Rattle.numbers.proofs.Octets.{octets_take, octets_drop, bytes_word}
-use Rattle.trace.proofs.Records.{record_next, record_at_lem, of_shape_in, of_shape_times, bytes_records, length-list, length-records_in, marks_in, times, marks}
+use Rattle.trace.proofs.Records.{record_next, record_at_lem, of_shape_in, of_shape_times, bytes_records, length-list, length-records_in, marks_in}
 use Rattle.trace.proofs.Checks.{right_checked}
 
 -- ---- a record

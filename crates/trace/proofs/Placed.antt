@@ -1,9 +1,8 @@
 -- What a block is at its place in a trace, and what that says of the block. Assumes nothing.
-use Rattle.std.proofs.Common.{◌≡◌, ℕ, Bool, true, false, cond, ◌&&◌, eqb, ◌⊎◌, List, [], ◌∷◌, length, sym, refl, ap, ◌∙◌, ap₂, inl, inr, ⊎_elim, arith, eq-eqb, ne_eqb, eqb-true}
+use Rattle.std.proofs.Common.{◌≡◌, ℕ, Bool, true, false, cond, ◌&&◌, eqb, List, [], ◌∷◌, length, sym, refl, ap, ◌∙◌, ap₂, ⊎_elim, arith, eq-eqb, eqb-true}
 use denote.Enum.Declared.{tag_of}
 use types.Run.{OneOf}
-use Rattle.answers.specs.declared.Refusal.{Refusal}
-use Rattle.answers.specs.declared.Refusal.TheVariants.{Incomplete, Checksum, Contents}
+use Rattle.answers.specs.declared.Refusal.TheVariants.{Incomplete, Contents}
 use Rattle.answers.proofs.Conditions.{and_left, and_right}
 use Rattle.format.specs.Forms.{shape_of, same_form}
 use Rattle.format.specs.declared.Form.{Form}
@@ -12,9 +11,7 @@ use Rattle.trace.specs.Reading.{block_of, fault_of}
 use Rattle.trace.specs.Places.{zeroth_by, zeroth_of, later_by, later_of}
 use Rattle.trace.specs.declared.Block.{Block}
 use Rattle.trace.specs.declared.Block.TheVariants.{Label, Arrivals, Refused}
-use Rattle.trace.specs.declared.Zeroth.{Zeroth}
 use Rattle.trace.specs.declared.Zeroth.TheVariants as zeroth
-use Rattle.trace.specs.declared.Later.{Later}
 use Rattle.trace.specs.declared.Later.TheVariants as later
 use Rattle.trace.specs.contracts.Block.{the_type}
 use Rattle.trace.proofs.Decisions.{not_whole}

@@ -1,5 +1,5 @@
 -- Block 0 written again: what its writers give, and what its block with a spaced label is. Assumes nothing.
-use Rattle.std.proofs.Common.{◌≡◌, ℕ, ◌+◌, ◌-◌, ◌≤◌, List, [], length, take, drop, sym, refl, ap, ◌∙◌, ap₂, arith}
+use Rattle.std.proofs.Common.{◌≡◌, ℕ, ◌+◌, ◌-◌, ◌≤◌, List, length, take, drop, sym, ap, ◌∙◌, arith}
 use mathlib.Core.Option.{none}
 use Rattle.answers.specs.Writers.{Wrote, written, stored}
 use Rattle.answers.specs.declared.Refusal.{Refusal}
@@ -10,17 +10,15 @@ use Rattle.numbers.proofs.BigEndian.{word_lt}
 use Rattle.format.specs.Forms.{shape_of}
 use Rattle.format.specs.declared.Form.{Form}
 use Rattle.trace.specs.Layout.{label_block, body_of}
-use Rattle.trace.specs.Reading.{block_of}
 use Rattle.trace.specs.Places.{zeroth_of}
 use Rattle.trace.specs.Retired.{retired_in, spaced_label}
 use Rattle.trace.specs.Writing.{label_fault}
-use Rattle.trace.specs.Rewriting.{zeroth_fault, block_as, block_spaced, replaced_in, spaced_by, spaced_of, Spaces}
+use Rattle.trace.specs.Rewriting.{zeroth_fault, block_as, spaced_by, spaced_of, Spaces}
 use Rattle.trace.specs.Numbered.{spaced_as}
 use Rattle.trace.specs.Theorems.{SpacedReads}
 use Rattle.trace.specs.declared.Block.TheVariants as block
 use Rattle.trace.specs.declared.Spaced.{Spaced}
 use Rattle.trace.specs.declared.Spaced.TheVariants as spaced
-use Rattle.trace.specs.declared.Zeroth.{Zeroth}
 use Rattle.trace.specs.declared.Zeroth.TheVariants.{Label, Refused}
 use Rattle.trace.proofs.Accepted.{accepted, label_is_written}
 use Rattle.trace.proofs.ReadBack.{label_reads_back}

@@ -1,5 +1,5 @@
 -- Laws of retired bytes and of a spaced label. Assumes nothing.
-use Rattle.std.proofs.Common.{◌≡◌, ℕ, suc, ◌+◌, ◌<◌, ◌≤◌, Bool, true, false, cond, ◌⊎◌, List, [], ◌∷◌, length, get_or, drop, set, sym, refl, ap, ◌∙◌, ap₂, inl, inr, zero-add, add-one, arith, drop_of_length-le, drop-cons, eq-eqb, ne_eqb}
+use Rattle.std.proofs.Common.{◌≡◌, ℕ, suc, ◌+◌, ◌<◌, ◌≤◌, Bool, true, false, cond, ◌⊎◌, List, [], ◌∷◌, length, get_or, drop, set, sym, refl, ap, ◌∙◌, ap₂, inl, inr, zero-add, add-one, arith, drop_of_length-le, drop-cons, ne_eqb}
 use mathlib.Core.Option.{none}
 use lib.Seq.{sets}
 use Rattle.answers.proofs.Conditions.{and_left, and_right}

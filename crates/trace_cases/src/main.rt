@@ -17,69 +17,69 @@ ghost use Rattle.std.specs.Prelude.{◌≤◌, length};
 
 use answers::copy::put_bytes;
 use format::Form;
-use libc::STDIN_FILENO;
 use numbers::big_endian::{read16, write16};
+use std::io::Stdout;
 use trace::label::is_label;
 use trace::read::{read_block, record_at};
 use trace::write::{write_arrivals, write_label, write_records};
 use trace::{Block, Found};
 
 // Form 2 of a trace; form 1 is not told.
-fn show_form(form: Form) {
+fn show_form(to: Stdout, form: Form) {
     match form {
         Form::One => {}
-        Form::Two => show::text(b" form 2"),
+        Form::Two => show::text(to, b" form 2"),
     }
 }
 
 // What a block is.
-fn show_block(block: Block) {
+fn show_block(to: Stdout, block: Block) {
     match block {
         Block::Label { form, length, ssrc } => {
-            show_form(form);
-            show::text(b" label");
-            show::number(length as u64);
-            show::number(ssrc as u64);
+            show_form(to, form);
+            show::text(to, b" label");
+            show::number(to, length as u64);
+            show::number(to, ssrc as u64);
         }
         Block::Arrivals { form, count, ssrc } => {
-            show_form(form);
-            show::text(b" arrivals");
-            show::number(count as u64);
-            show::number(ssrc as u64);
+            show_form(to, form);
+            show::text(to, b" arrivals");
+            show::number(to, count as u64);
+            show::number(to, ssrc as u64);
         }
-        Block::Refused(refusal) => show::refused(refusal),
+        Block::Refused(refusal) => show::refused(to, refusal),
     }
 }
 
 // What stands at a place.
-fn show_found(found: Found) {
+fn show_found(to: Stdout, found: Found) {
     match found {
         Found::Is(r) => {
-            show::text(b" is");
-            show::number(r.time);
+            show::text(to, b" is");
+            show::number(to, r.time);
             let number = r.number;
-            show::number(number.0 as u64);
-            show::number(r.mark as u64);
+            show::number(to, number.0 as u64);
+            show::number(to, r.mark as u64);
         }
-        Found::Refused(refusal) => show::refused(refusal),
+        Found::Refused(refusal) => show::refused(to, refusal),
     }
 }
 
 // A label block, behind it whether the label is allowed.
-fn show_label(form: Form, label: &[u8], ssrc: u32, out: &mut [u8]) {
-    show::text(b" :");
-    show::written(write_label(form, label, ssrc, out));
+fn show_label(to: Stdout, form: Form, label: &[u8], ssrc: u32, out: &mut [u8]) {
+    show::text(to, b" :");
+    show::written(to, write_label(form, label, ssrc, out));
     if is_label(label) {
-        show::text(b" allowed");
+        show::text(to, b" allowed");
     }
 }
 
 // The label block of a line.
-fn label(form: Form, line: &[u8], out: &mut [u8]) {
+fn label(to: Stdout, form: Form, line: &[u8], out: &mut [u8]) {
     let mut space = [0u8; 512];
     let ssrc = cases::number32(line, 2);
     let text = cases::bytes(line, 3, &mut space);
-    show_label(form, text, ssrc, out);
+    show_label(to, form, text, ssrc, out);
 }
 
 // The records of a line, as three lists.
@@ -98,7 +98,7 @@ fn records(line: &[u8], times: &mut [u64], numbers: &mut [u16], marks: &mut [u8]
 }
 
 // The arrivals block of a line.
-fn arrivals(form: Form, line: &[u8], out: &mut [u8]) {
+fn arrivals(to: Stdout, form: Form, line: &[u8], out: &mut [u8]) {
     let mut times = [0u64; 64];
     let mut numbers = [0u16; 64];
     let mut marks = [0u8; 64];
@@ -108,24 +108,27 @@ fn arrivals(form: Form, line: &[u8], out: &mut [u8]) {
     let m = cases::size(line, 4, 64);
     let n = cases::size(line, 5, 64);
     let from = 0;
-    show::text(b" :");
-    show::written(write_arrivals(
-        form,
-        &times[from..l],
-        &numbers[from..m],
-        &marks[from..n],
-        ssrc,
-        out,
-    ));
+    show::text(to, b" :");
+    show::written(
+        to,
+        write_arrivals(
+            form,
+            &times[from..l],
+            &numbers[from..m],
+            &marks[from..n],
+            ssrc,
+            out,
+        ),
+    );
 }
 
 // The arrivals block of a line's bytes.
-fn from_bytes(form: Form, line: &[u8], out: &mut [u8]) {
+fn from_bytes(to: Stdout, form: Form, line: &[u8], out: &mut [u8]) {
     let mut space = [0u8; 512];
     let ssrc = cases::number32(line, 2);
     let records = cases::bytes(line, 3, &mut space);
-    show::text(b" :");
-    show::written(write_records(form, records, ssrc, out));
+    show::text(to, b" :");
+    show::written(to, write_records(form, records, ssrc, out));
 }
 
 // One byte and the check word changed.
@@ -142,56 +145,56 @@ fn fill(line: &[u8], space: &mut [u8]) {
 }
 
 // What a line asks of a block.
-fn ask(line: &[u8], block: &[u8]) {
+fn ask(to: Stdout, line: &[u8], block: &[u8]) {
     match cases::letter(line) {
         b'b' => {
-            show::text(b" :");
-            show::number(read16(block, 510) as u64);
-            show_block(read_block(block));
+            show::text(to, b" :");
+            show::number(to, read16(block, 510) as u64);
+            show_block(to, read_block(block));
         }
         b'd' => {
-            show::text(b" :");
-            show::bytes(block);
+            show::text(to, b" :");
+            show::bytes(to, block);
         }
         b'r' => {
-            show::text(b" :");
-            show_found(record_at(block, cases::number(line, 2) as usize));
+            show::text(to, b" :");
+            show_found(to, record_at(block, cases::number(line, 2) as usize));
         }
         _ => {}
     }
 }
 
 // What a line does.
-fn done(line: &[u8], space: &mut [u8]) {
+fn done(to: Stdout, line: &[u8], space: &mut [u8]) {
     let n = cases::number(line, 1) as usize;
     match cases::letter(line) {
-        b'A' => arrivals(Form::Two, line, cases::room(space, n)),
-        b'L' => label(Form::Two, line, cases::room(space, n)),
-        b'W' => from_bytes(Form::Two, line, cases::room(space, n)),
-        b'a' => arrivals(Form::One, line, cases::room(space, n)),
+        b'A' => arrivals(to, Form::Two, line, cases::room(space, n)),
+        b'L' => label(to, Form::Two, line, cases::room(space, n)),
+        b'W' => from_bytes(to, Form::Two, line, cases::room(space, n)),
+        b'a' => arrivals(to, Form::One, line, cases::room(space, n)),
         b'c' => change(line, space),
-        b'l' => label(Form::One, line, cases::room(space, n)),
-        b'w' => from_bytes(Form::One, line, cases::room(space, n)),
+        b'l' => label(to, Form::One, line, cases::room(space, n)),
+        b'w' => from_bytes(to, Form::One, line, cases::room(space, n)),
         b'z' => fill(line, space),
-        _ => ask(line, cases::front(space, n)),
+        _ => ask(to, line, cases::front(space, n)),
     }
 }
 
 // All lines in turn.
-fn run(text: &[u8], space: &mut [u8]) {
+fn run(to: Stdout, text: &[u8], space: &mut [u8]) {
     let mut at = 0;
     while at < text.len() {
         let line = cases::line(text, at);
-        show::text(line);
-        done(line, space);
-        show::end();
+        show::text(to, line);
+        done(to, line, space);
+        show::end(to);
         at += line.len() + 1;
     }
 }
 
-fn main() {
+fn main(rt: HostRuntime) {
     let mut space = [0u8; 513];
-    let mut text = io::large_buffer();
-    let n = io::read_full(STDIN_FILENO, &mut text);
-    run(&text[..n], &mut space);
+    let mut text = [0u8; 65536];
+    let n = show::read_full(rt.stdin(), &mut text);
+    run(rt.stdout(), &text[..n], &mut space);
 }

@@ -10,8 +10,8 @@ use borrow.Author.Tests.{ltb-true, ltb-false}
 use lib.Dec.{ltb}
 use lib.ListN.{length, drop, length-append}
 use Rattle.answers.specs.declared.Refusal.{Refusal}
-use Rattle.walk.specs.Programs.{Printed, Ending, nothing, both, Turn, Program, Run, ending_at, more, turned, onward, walk}
-use Rattle.walk.specs.Pieces.{Octets, wholes, whole_in}
+use Rattle.walk.specs.Programs.{Ending, nothing, both, Turn, Program, Run, ending_at, more, turned, onward, walk}
+use Rattle.walk.specs.Pieces.{Octets, whole_in}
 use Rattle.walk.specs.Fitting.{Took, none_taken, one_more, front, fitting, run_of, FrontWalks, FittingIsFront, FittingFits, RoomIsEnough}
 use Rattle.walk.proofs.Cuts.{Each}
 use Rattle.walk.proofs.Pieces.{whole_many, octets_wholes}

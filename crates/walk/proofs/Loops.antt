@@ -1,9 +1,9 @@
 -- A loop that takes the blocks of a piece and stores what they print in a lent output, for every program. Assumes nothing.
 use mathlib.Core.Path.{◌≡◌, refl, sym, ap, ap₂, ◌∙◌}
 use mathlib.Core.Bool.{cond}
-use mathlib.Core.List.{List, [], ◌∷◌, ◌++◌}
+use mathlib.Core.List.{List, ◌∷◌}
 use mathlib.Core.Option.{Option, none, some}
-use Prim.Native.Nat.{ℕ, zero, suc, ◌+◌, ◌-◌, ◌*◌, ◌/◌, ◌≤◌, ◌<◌}
+use Prim.Native.Nat.{ℕ, suc, ◌+◌, ◌-◌, ◌*◌, ◌≤◌, ◌<◌}
 use native.Mathlib.Omega.{arith}
 use borrow.Author.Tests.{lt-ltb, le-ltb}
 use lib.Dec.{ltb}
@@ -12,7 +12,7 @@ use lib.Seq.{sets, length-sets, drop-drop}
 use Rattle.answers.specs.declared.Refusal.{Refusal}
 use Rattle.answers.proofs.Stores.{sets-append}
 use Rattle.format.specs.Blocks.{block_bytes}
-use Rattle.walk.specs.Programs.{Printed, nothing, to_output, Turn, Program}
+use Rattle.walk.specs.Programs.{nothing, to_output, Turn, Program}
 use Rattle.walk.specs.Pieces.{whole_in}
 use Rattle.walk.specs.Fitting.{Took, none_taken, one_more, fitting, Reached}
 use Rattle.walk.proofs.Pieces.{whole_none, whole_first}

@@ -3,8 +3,8 @@ use mathlib.Core.Path.{◌≡◌, refl, sym, ap, ◌∙◌, subst⁻¹}
 use mathlib.Core.Bool.{Bool, true, false, cond}
 use mathlib.Core.Logic.{⊎_elim}
 use mathlib.Core.List.{List, [], ◌∷◌, ◌++◌, append-nil, append_assoc}
-use mathlib.Core.Option.{none, some}
-use Prim.Native.Nat.{ℕ, ◌+◌, ◌-◌, ◌≤◌, ◌<◌}
+use mathlib.Core.Option.{none}
+use Prim.Native.Nat.{ℕ, ◌+◌, ◌-◌, ◌≤◌}
 use native.Mathlib.Omega.{arith}
 use borrow.Author.Tests.{ltb-true, ltb-false}
 use borrow.Rule.Slice.PartMut.{mid_of, post_of, put_mid, put_same}
@@ -19,7 +19,7 @@ use Rattle.answers.specs.declared.Written.{Written}
 use Rattle.answers.specs.declared.Written.TheVariants.{Length, Room, Refused}
 use Rattle.answers.specs.contracts.Written.{the_type}
 use Rattle.answers.proofs.Stores.{wrote_refused, room_is_exact}
-use Rattle.walk.specs.Steps.{Next, goes, refuses, fault_in, state_after, Stepped, StepRoomIsExact}
+use Rattle.walk.specs.Steps.{Next, goes, refuses, state_after, Stepped, StepRoomIsExact}
 use Rattle.walk.specs.Puts.{PutBy}
 
 -- ---- the part of an output from a place on

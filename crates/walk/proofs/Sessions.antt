@@ -1,9 +1,9 @@
 -- What the three calls print, joined, is what the program prints. Assumes nothing.
 use mathlib.Core.Path.{◌≡◌, refl, sym, ap, ap₂, ◌∙◌, subst}
-use mathlib.Core.Bool.{Bool, true, false}
-use mathlib.Core.List.{List, [], ◌∷◌, ◌++◌, append-nil}
+use mathlib.Core.Bool.{false}
+use mathlib.Core.List.{List, [], ◌∷◌, ◌++◌}
 use mathlib.Core.Option.{Option, none, some}
-use Prim.Native.Nat.{ℕ, zero, suc, ◌+◌, ◌-◌, ◌*◌, ◌^◌, ◌≤◌, ◌<◌}
+use Prim.Native.Nat.{ℕ, suc, ◌+◌, ◌*◌, ◌^◌, ◌≤◌, ◌<◌}
 use native.Mathlib.Nat.{add-zero}
 use native.Mathlib.Omega.{arith}
 use lib.ListN.{length, take, drop, length-append, length-drop, drop_of_length-le}
@@ -13,10 +13,10 @@ use Rattle.answers.specs.declared.Refusal.TheVariants.{Incomplete}
 use Rattle.format.specs.Blocks.{block_bytes}
 use Rattle.numbers.proofs.Octets.{octets_take, octets_drop}
 use Rattle.walk.specs.Blocks.{blocks_of}
-use Rattle.walk.specs.Programs.{Printed, nothing, both, Turn, Ending, Program, Run, ending_at, turned, onward, walk, walked, closed, printed_by}
+use Rattle.walk.specs.Programs.{Printed, nothing, both, Turn, Program, Run, ending_at, turned, onward, walk, walked, closed, printed_by}
 use Rattle.walk.specs.Pieces.{Octets, blocks_in, wholes, whole_in}
-use Rattle.walk.specs.Fitting.{Took, front, fitting, run_of}
-use Rattle.walk.specs.Machines.{Gave, Machine, Rest, more, done, over, Session, began, Standing, next_behind, begun_by, took_by, fitting_by, stood_by, ending_by, goes_on, Gives, Follows, SessionPrints}
+use Rattle.walk.specs.Fitting.{Took, front, run_of}
+use Rattle.walk.specs.Machines.{Gave, Machine, Rest, more, done, over, began, Standing, next_behind, begun_by, took_by, fitting_by, stood_by, ending_by, goes_on, Gives, Follows, SessionPrints}
 use Rattle.walk.proofs.Pieces.{blocks_none, blocks_first, blocks_behind, wholes_fit, whole_many, piece_blocks, trace_blocks}
 use Rattle.walk.proofs.Walks.{closed_goes, closed_ends}
 use Rattle.walk.proofs.Fits.{onward_here, front_walks, front_few, fitting_is_front}

@@ -1,9 +1,9 @@
 -- The calls for one block each follow their program. Assumes nothing.
 use mathlib.Core.Path.{◌≡◌, refl, sym, ap, ◌∙◌, subst, subst⁻¹}
 use mathlib.Core.Bool.{Bool, true, false, cond}
-use mathlib.Core.List.{List, [], ◌∷◌, ◌++◌, append-nil}
+use mathlib.Core.List.{List, [], ◌∷◌, append-nil}
 use mathlib.Core.Option.{Option, none, some}
-use Prim.Native.Nat.{ℕ, zero, suc, ◌+◌, ◌*◌, ◌^◌, ◌≤◌, ◌<◌}
+use Prim.Native.Nat.{ℕ, suc, ◌+◌}
 use native.Mathlib.Nat.{add-zero}
 use native.Mathlib.Omega.{arith}
 use lib.Dec.{ltb}
@@ -12,12 +12,11 @@ use Rattle.answers.specs.Writers.{written}
 use Rattle.answers.specs.declared.Refusal.{Refusal}
 use Rattle.answers.specs.declared.Written.{Written}
 use Rattle.answers.specs.declared.Written.TheVariants.{Length, Room, Refused}
-use Rattle.format.specs.Blocks.{block_bytes}
 use Rattle.walk.specs.Programs.{Printed, nothing, both, to_output, Turn, Program, ending_at}
-use Rattle.walk.specs.Pieces.{Octets, wholes, whole_in}
+use Rattle.walk.specs.Pieces.{Octets, whole_in}
 use Rattle.walk.specs.Fitting.{Took, none_taken, one_more, front}
-use Rattle.walk.specs.Steps.{Next, goes, refuses, fault_in, state_after}
-use Rattle.walk.specs.Machines.{Gave, Standing, begun_by, took_by, stood_by, ending_by, goes_on, Gives, Follows}
+use Rattle.walk.specs.Steps.{Next, goes, refuses, fault_in}
+use Rattle.walk.specs.Machines.{Gave, Standing, begun_by, took_by, ending_by, goes_on, Gives, Follows}
 use Rattle.walk.specs.Singles.{Singles, Held, started_by, none_given, gave_by, given_for, end_for, singly, Starts, Turns, Mirrors, SinglesPrint}
 use Rattle.walk.proofs.Cuts.{Each}
 use Rattle.walk.proofs.Pieces.{octets_wholes}

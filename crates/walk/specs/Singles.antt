@@ -1,6 +1,6 @@
 -- A program's calls for one block each: block 0; each later block, by a writer that has room or not (specs/Steps); the end. They are one way to make the
 -- three calls of specs/Machines: of a piece, its first block is taken, if the output has room for what that prints.
-use Rattle.std.specs.Prelude.{◌≡◌, List, [], ◌∷◌, ℕ, zero, suc, ◌*◌, ◌^◌, ◌≤◌, ◌<◌, length, replicate}
+use Rattle.std.specs.Prelude.{◌≡◌, List, [], ◌∷◌, ℕ, suc, ◌*◌, ◌^◌, ◌≤◌, ◌<◌, length, replicate}
 use Rattle.std.proofs.Math.Option.{Option, none, some}
 use Rattle.answers.specs.Writers.{written}
 use Rattle.answers.specs.declared.Refusal.{Refusal}
@@ -12,7 +12,7 @@ use Rattle.walk.specs.Blocks.{blocks_of}
 use Rattle.walk.specs.Programs.{Printed, nothing, to_output, Turn, Ending, Program, ending_at, printed_by}
 use Rattle.walk.specs.Pieces.{Octets, whole_in}
 use Rattle.walk.specs.Steps.{Next, goes, refuses, fault_in, state_after}
-use Rattle.walk.specs.Machines.{Gave, Machine, Session, ending_by, goes_on, next_behind}
+use Rattle.walk.specs.Machines.{Gave, Machine, Session, ending_by, goes_on}
 
 -- the calls, over what they hand on: what block 0 brings and prints, what a later block brings and prints, what the end prints, and what is printed at the
 -- end if block 0 was refused

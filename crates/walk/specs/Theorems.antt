@@ -1,9 +1,9 @@
 -- What holds of every trace and every program.
-use Rattle.std.specs.Prelude.{◌≡◌, ◌⊎◌, List, [], ◌∷◌, ◌++◌, ℕ, ◌+◌, ◌≤◌, ◌<◌, length}
-use Rattle.std.proofs.Math.Option.{Option, none, some}
+use Rattle.std.specs.Prelude.{◌≡◌, ◌⊎◌, List, [], ◌∷◌, ◌++◌, ℕ, ◌+◌, ◌≤◌, length}
+use Rattle.std.proofs.Math.Option.{some}
 use Rattle.format.specs.Blocks.{block_bytes}
-use Rattle.walk.specs.Blocks.{Blocks, blocks_of, joined}
-use Rattle.walk.specs.Programs.{Ending, Program, Run, onward, walk}
+use Rattle.walk.specs.Blocks.{blocks_of, joined}
+use Rattle.walk.specs.Programs.{Ending, Program, onward, walk}
 
 -- each block but the last has 512 bytes, and the last has 1 to 512
 abbrev pub Whole : List (List ℕ) → Type 0

@@ -2,7 +2,6 @@ use Prim.Native.Nat.{ℕ, ◌+◌, ◌-◌, ◌*◌, ◌≤◌}
 use mathlib.Core.Path.{◌≡◌, refl, sym, ap, ap₂, ◌∙◌}
 use mathlib.Core.Bool.{Bool}
 use mathlib.Core.List.{List}
-use mathlib.Core.Logic.{⊎_elim}
 use native.Mathlib.Omega.{arith}
 use lib.ListN.{length}
 use Rattle.answers.specs.declared.Refusal.{Refusal}
@@ -22,6 +21,7 @@ use Rattle.rtcp.proofs.Left.{with_packet, with_block, from_packet, from_block, p
 use Rattle.rtcp.proofs.read_packets.Lts.View.{up-After-padding_at, up-At-packets, up-In_default}
 use Rattle.rtcp.proofs.read_packets.Goals.{After-packet_verdict-verdict, After-padding_at, At-packets, In_default, Left-packets, Then-end-after}
 use Rattle.rtcp.proofs.read_packets.Invariants.{told, whole}
+use Rattle.rtcp.proofs.read_packets.Goals.{else-packets-test, then-packets-test+in-Faulty, then-packets-test+in_default+then-header+then-loop-place-test+then-end-after}
 use Rattle.rtcp.proofs.read_packets.Goals as goal
 
 -- ---- the packet at hand
@@ -100,13 +100,12 @@ pub overflow_add-place : goal.overflow_add-place
 overflow_add-place c = omega (arith, c.packets-test.true)
 
 pub loop-place-init : goal.loop-place-init
-loop-place-init c =
-    (
-      c.in_default.is,
-      ap (λ (y : ℕ). from_block (bytes (goal.at.loop-place-init c).At-packets) (media (goal.at.loop-place-init c).At-packets) (profile (goal.at.loop-place-init c).At-packets) (next (goal.at.loop-place-init c).After-padding_at - y) (next (goal.at.loop-place-init c).After-padding_at) (at (goal.at.loop-place-init c).In_default + 8) (found (goal.at.loop-place-init c).At-packets)) c.padding_at.ensures.value
-          ∙ sym (packet_xr (bytes (goal.at.loop-place-init c).At-packets) (media (goal.at.loop-place-init c).At-packets) (profile (goal.at.loop-place-init c).At-packets) (at (goal.at.loop-place-init c).In_default) (found (goal.at.loop-place-init c).At-packets) c.packets-test.true (header (goal.at.loop-place-init c).In_default) c.header_at-header.ensures.value (no_fault (goal.at.loop-place-init c).In_default) c.if-header.true)
-          ∙ c.packets.invariant.1,
-    )
+loop-place-init c = (
+  c.in_default.is,
+  ap (λ (y : ℕ). from_block (bytes (goal.at.loop-place-init c).At-packets) (media (goal.at.loop-place-init c).At-packets) (profile (goal.at.loop-place-init c).At-packets) (next (goal.at.loop-place-init c).After-padding_at - y) (next (goal.at.loop-place-init c).After-padding_at) (at (goal.at.loop-place-init c).In_default + 8) (found (goal.at.loop-place-init c).At-packets)) c.padding_at.ensures.value
+      ∙ sym (packet_xr (bytes (goal.at.loop-place-init c).At-packets) (media (goal.at.loop-place-init c).At-packets) (profile (goal.at.loop-place-init c).At-packets) (at (goal.at.loop-place-init c).In_default) (found (goal.at.loop-place-init c).At-packets) c.packets-test.true (header (goal.at.loop-place-init c).In_default) c.header_at-header.ensures.value (no_fault (goal.at.loop-place-init c).In_default) c.if-header.true)
+      ∙ c.packets.invariant.1,
+)
 
 pub block_at-block-requires : goal.block_at-block-requires
 block_at-block-requires c = omega (arith, c.loop-place-test.true, inside (goal.at.block_at-block-requires c).After-padding_at)
@@ -173,19 +172,27 @@ outcome-is : (v w : Verdict) (r : MaybeReport) (f : MaybeFeedback) (s t : MaybeS
 outcome-is v w r f s t g a p q e = ap₂ (λ (x : Verdict) (y : MaybeSummary). unless_faulty x (told r f y g)) p q ∙ sym e
 
 -- its end, a packet that is refused, and an XR block that passes its packet
-left : (c : Left-packets) → unless_faulty c.packets-test.verdict (told c.packets.report c.packets.feedback c.packets-test.summary c.packets.reporting) ≡ whole (bytes (up-At-packets _ _ _ _ _ _ _ _ c.before.before)) (media (up-At-packets _ _ _ _ _ _ _ _ c.before.before)) (profile (up-At-packets _ _ _ _ _ _ _ _ c.before.before))
-left c =
-    let p = c.packets in
-    ⊎_elim
-    (λ w. outcome-is _ Verdict.Sound _ _ _ p.summary _ _ (w.2 ∙ p.invariant.0) w.1 (sym p.invariant.1 ∙ packets_done (bytes (up-At-packets _ _ _ _ _ _ _ _ c.before.before)) (media (up-At-packets _ _ _ _ _ _ _ _ c.before.before)) (profile (up-At-packets _ _ _ _ _ _ _ _ c.before.before)) p.at (found (up-At-packets _ _ _ _ _ _ _ _ c.before.before)) w.0.left))
-    (⊎_elim
-    (λ w.
-    let r = w.4.given.0.0 in
-    outcome-is _ (Verdict.Faulty r) _ _ _ p.summary _ _ (w.6 ∙ w.4.given.1) w.5
-    (refused (record { before = record { before = record { before = (up-At-packets _ _ _ _ _ _ _ _ c.before.before); packets-test = w.0 }; header_at = w.1 }; packet-verdict = w.2 }) r w.4.given.1))
-    (λ w. outcome-is _ (Verdict.Faulty BlockSize) _ _ _ w.9.summary _ _ w.15 w.14
-    (passes (record { before = record { before = record { before = record { before = record { before = record { before = record { before = record { before = record { before = record { before = record { before = record { before = record { before = record { before = (up-At-packets _ _ _ _ _ _ _ _ c.before.before); packets-test = w.0 }; header_at = w.1 }; packet-verdict = w.2 }; match = w.3 }; enum-told2 = w.4 }; struct_known = w.5 }; struct-known2 = w.6 }; if1 = w.7 }; padding-at = w.8 }; loop = w.9 }; loop-test = w.10 }; block_at = w.11 }; struct-known3 = w.12 }; if2 = w.13 }))))
-    c.packets-test.branch
-
 pub returns : goal.returns
-returns c = c.unless_faulty.ensures ∙ left (goal.at.returns c).Left-packets ∙ all_left _ _ _
+returns c =
+    let b = c.args.bytes.now in let m = c.args.media in let f = c.args.profile in let p = c.packets in
+    let so_far = told p.report p.feedback p.summary p.reporting in
+    let left : unless_faulty c.packets-test.verdict (told p.report p.feedback c.packets-test.summary p.reporting) ≡ whole b m f =
+    elim c.packets-test.branch [
+      | else-packets-test w ↦
+          outcome-is _ Verdict.Sound _ _ _ p.summary _ _ (w.verdict-is ∙ p.invariant.0) w.summary-is
+          (sym p.invariant.1 ∙ packets_done b m f p.at so_far w.packets-test.false)
+      | then-packets-test+in-Faulty w ↦
+          let r = w.in-Faulty.field-0 in
+          outcome-is _ (Verdict.Faulty r) _ _ _ p.summary _ _ (w.verdict-is ∙ w.in-Faulty.is) w.summary-is
+          (sym p.invariant.1
+          ∙ packet_faulty b m f p.at so_far w.packets-test.true w.header_at-header.result w.header_at-header.ensures.value r
+          (sym w.packet_verdict-verdict.ensures ∙ w.in-Faulty.is))
+      | then-packets-test+in_default+then-header+then-loop-place-test+then-end-after w ↦
+          let l = w.loop-place in
+          let next = p.at + w.header_at-header.result.size in
+          outcome-is _ (Verdict.Faulty BlockSize) _ _ _ l.summary _ _ w.verdict-is w.summary-is
+          (sym l.invariant.1
+          ∙ block_passes b m f l.place (told p.report p.feedback l.summary p.reporting) (next - w.padding_at.result) next w.loop-place-test.true
+          w.block_at-block.result w.block_at-block.ensures.value w.if-end-after.true)
+    ] in
+    c.unless_faulty.ensures ∙ left ∙ all_left _ _ _

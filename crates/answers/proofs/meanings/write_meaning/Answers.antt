@@ -1,5 +1,4 @@
 use mathlib.Core.Path.{refl}
-use Prim.Native.Nat.{◌-◌}
 use native.Mathlib.Omega.{arith}
 use Rattle.answers.specs.Meanings.{meaning_of}
 use Rattle.answers.specs.Parts.{parts_fit, parts_of}

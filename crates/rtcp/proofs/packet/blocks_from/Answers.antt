@@ -5,8 +5,8 @@ use Rattle.rtcp.proofs.packet.blocks_from.Goals as goal
 
 pub returns-then-header-eq-SR : goal.returns-then-header-eq-SR
 unfolding blocks_from
-returns-then-header-eq-SR c = record { value = rw (eq-eqb _ _ c.if-header-eq-SR.true); bounded = omega arith; }
+returns-then-header-eq-SR c = record { value = rw (eq-eqb _ _ c.if-header-eq-SR.true); bounded = omega arith }
 
 pub returns : goal.returns
 unfolding blocks_from
-returns c = record { value = rw (ne_eqb _ _ c.if-header-eq-SR.false); bounded = omega arith; }
+returns c = record { value = rw (ne_eqb _ _ c.if-header-eq-SR.false); bounded = omega arith }

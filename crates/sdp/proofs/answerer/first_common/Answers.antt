@@ -1,6 +1,5 @@
 use borrow.Author.Rules.{rules}
 use mathlib.Core.Path.{refl, sym, ◌∙◌}
-use Prim.Native.Nat.{◌-◌}
 use Rattle.sdp.specs.Writing.{methods_in}
 use Rattle.sdp.specs.declared.Method.TheVariants.{Rtp}
 use Rattle.sdp.specs.Reading.{listed}
@@ -22,8 +21,7 @@ returns-then-is_named c =
 
 pub loop-i-preserved : goal.loop-i-preserved
 loop-i-preserved c =
-    let loop = c.loop-i in
-    (
+    let loop = c.loop-i in (
       search rules,
       loop.invariant.1,
       first_goes (methods_in c.args.offer) (methods_in c.args.ours) c.args.ours _ loop.i

@@ -1,6 +1,5 @@
 use borrow.Author.Rules.{rules}
 use mathlib.Core.Path.{refl, sym, ◌∙◌}
-use Prim.Native.Nat.{◌-◌}
 use Rattle.sdp.specs.Writing.{methods_in}
 use Rattle.sdp.specs.declared.Method.TheVariants.{Rtp}
 use Rattle.sdp.specs.Reading.{listed}
@@ -18,8 +17,7 @@ returns-then-is_same c =
 
 pub loop-i-preserved : goal.loop-i-preserved
 loop-i-preserved c =
-    let loop = c.loop-i in
-    (
+    let loop = c.loop-i in (
       search rules,
       loop.invariant.1,
       names_goes (methods_in c.args.a) c.args.m _ loop.i

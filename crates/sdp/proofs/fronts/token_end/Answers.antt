@@ -1,6 +1,5 @@
 use borrow.Author.Rules.{rules}
 use mathlib.Core.Path.{refl, ◌∙◌}
-use Prim.Native.Nat.{◌-◌}
 use Rattle.answers.proofs.Conditions.{was_true, was_false}
 use Rattle.sdp.proofs.Tokens.{token_goes, token_stops, token_ends}
 use Rattle.sdp.proofs.fronts.token_end.Goals as goal

@@ -1,6 +1,5 @@
 use Prim.Native.Nat.{◌-◌}
 use lib.ListN.{length}
-use Rattle.sdp.specs.declared.steps.Part.TheVariants as part
 use Rattle.sdp.proofs.Walking.{Walking}
 use Rattle.sdp.proofs.reader.read.Given as goal
 

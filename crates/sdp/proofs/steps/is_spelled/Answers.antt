@@ -1,6 +1,5 @@
 use borrow.Author.Rules.{rules}
 use mathlib.Core.Path.{refl, sym, ◌∙◌}
-use Prim.Native.Nat.{◌-◌}
 use Rattle.sdp.specs.Steps.{spelled}
 use Rattle.sdp.proofs.Spelling.{same_goes, same_stops, same_ends, long_not}
 use Rattle.sdp.proofs.steps.is_spelled.Goals as goal

@@ -12,4 +12,5 @@ with_parms-requires c =
 pub returns : goal.returns
 returns c =
     let l : length c.args.a.methods ≡ 8 = search length-mapped in
-    text_whole c.args.a refl c.requires.0 c.requires.1 l c.with-name.ensures c.with_methods-methods.ensures c.with_parms.ensures
+    let t = text_whole c.args.a refl c.requires.0 c.requires.1 l c.with-name.ensures c.with_methods-methods.ensures c.with_parms.ensures in
+    record { numbered = t.0; counted = t.1 }

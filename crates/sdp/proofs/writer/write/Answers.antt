@@ -18,11 +18,11 @@ pub returns-then-out-long : goal.returns-then-out-long
 unfolding write_fault
 returns-then-out-long c =
     let t = c.text_of-text.ensures in
-    wrote_short _ _ (rw (ne_eqb _ _ c.if-used-eq0.false, le-ltb _ _ c.if-used-gt8.false)) (omega (arith, t.1.0, c.if-out-long.true)) t.1.0
+    wrote_short _ _ (rw (ne_eqb _ _ c.if-used-eq0.false, le-ltb _ _ c.if-used-gt8.false)) (omega (arith, t.counted.0, c.if-out-long.true)) t.counted.0
 
 pub returns : goal.returns
 unfolding write_fault
 returns c =
     let t = c.text_of-text.ensures in
-    wrote_all _ _ (rw (ne_eqb _ _ c.if-used-eq0.false, le-ltb _ _ c.if-used-gt8.false)) (omega (arith, t.1.0, c.if-out-long.false)) t.1.0
-    (c.put_text.ensures ∙ ap (sets c.args.out.now 0) t.0)
+    wrote_all _ _ (rw (ne_eqb _ _ c.if-used-eq0.false, le-ltb _ _ c.if-used-gt8.false)) (omega (arith, t.counted.0, c.if-out-long.false)) t.counted.0
+    (c.put_text.ensures ∙ ap (sets c.args.out.now 0) t.numbered)

@@ -1,6 +1,5 @@
 use mathlib.Core.Path.{sym}
 use Rattle.answers.proofs.Conditions.{was_false, was_true}
-use Rattle.answers.proofs.Numbers.{numbered}
 use Rattle.source.specs.Numbered.{arrival_as}
 use Rattle.source.proofs.Answers.{arrival_malformed, arrival_mark}
 use mathlib.Core.Path.{ap}
@@ -25,5 +24,8 @@ returns-then-mark-gt3-clause-numbered c = ap arrival_as (returns-then-mark-gt3-c
 pub step-requires : goal.step-requires
 step-requires c = (was_true c.is_sound.ensures c.if-not-is_sound.false, c.if-mark-gt3.false)
 
-pub returns : goal.returns
-returns c = numbered arrival_as c.step.ensures
+pub returns-clause-value : goal.returns-clause-value
+returns-clause-value c = c.step.ensures
+
+pub returns-clause-numbered : goal.returns-clause-numbered
+returns-clause-numbered c = ap arrival_as c.step.ensures

@@ -8,7 +8,8 @@ use Rattle.source.specs.Record.{sound}
 use Rattle.source.specs.Arrivals.{arrival, after}
 use Rattle.source.specs.Blocks.{Packet}
 use Rattle.source.proofs.Kept.{sound_stays}
-use Rattle.source.proofs.Packets.{packet, packet_is, room_left, limits, CountLeft, count_start, mark_here, room_here, jump_le, restart_le, count_next, count_end}
+use Rattle.source.proofs.Packets.{packet, packet_is, room_left, limits, CountLeft, count_start}
+use Rattle.source.proofs.Packets.{mark_here, room_here, jump_le, restart_le, count_next, count_end}
 use Rattle.source.proofs.block.count.Goals.{In-loop-at}
 use Rattle.source.proofs.block.count.Goals as goal
 
@@ -85,7 +86,8 @@ loop-at-preserved c =
     let good = ap (λ (b : Arrival). sound (after b)) is ∙ sound_stays l.next _ _ wire l.invariant.1.good in
     let turn = count_next a.width s a.s l.at l.next l.jumps l.restarts l.invariant.1 c.loop-at-test.true answer.result is good in (
       l.invariant.0,
-      subst (λ (t : Source). CountLeft a.width s a.s (l.at + a.width) t (l.jumps + c.jump-jumps.result) (l.restarts + c.restart-restarts.result)) (sym c.after-next.ensures)
+      subst (λ (t : Source). CountLeft a.width s a.s (l.at + a.width) t (l.jumps + c.jump-jumps.result) (l.restarts + c.restart-restarts.result))
+          (sym c.after-next.ensures)
           (rw (c.jump-jumps.ensures, c.restart-restarts.ensures) turn),
     )
 

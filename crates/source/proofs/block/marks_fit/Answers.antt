@@ -29,7 +29,8 @@ pub returns-then-records-place-gt3 : goal.returns-then-records-place-gt3
 returns-then-records-place-gt3 c =
     let l = c.loop-at in
     let a = c.args in
-    marks_fail a.width a.records.now l.at l.invariant.1 c.loop-at-test.true (rw (place (goal.at.returns-then-records-place-gt3 c).In-loop-at) at c.if-records-place-gt3.true)
+    marks_fail a.width a.records.now l.at l.invariant.1 c.loop-at-test.true
+    (rw (place (goal.at.returns-then-records-place-gt3 c).In-loop-at) at c.if-records-place-gt3.true)
 
 pub overflow_add-at : goal.overflow_add-at
 overflow_add-at c = omega (arith, room (goal.at.overflow_add-at c).In-loop-at)
@@ -40,8 +41,11 @@ loop-at-smaller c = omega arith
 pub loop-at-preserved : goal.loop-at-preserved
 loop-at-preserved c =
     let l = c.loop-at in
-    let a = c.args in
-    (l.invariant.0, marks_next a.width a.records.now l.at l.invariant.1 c.loop-at-test.true (rw (place (goal.at.loop-at-preserved c).In-loop-at) at c.if-records-place-gt3.false))
+    let a = c.args in (
+      l.invariant.0,
+      marks_next a.width a.records.now l.at l.invariant.1 c.loop-at-test.true
+          (rw (place (goal.at.loop-at-preserved c).In-loop-at) at c.if-records-place-gt3.false),
+    )
 
 pub returns : goal.returns
 returns c =

@@ -1,20 +1,17 @@
 use mathlib.Core.Path.{◌≡◌, sym, ap, ◌∙◌}
+use mathlib.Core.Bool.{true, false}
 use native.Mathlib.Omega.{arith}
 use Prim.Native.Nat.{ℕ, ◌+◌, ◌-◌, ◌^◌, ◌≤◌, ◌<◌}
 use lib.IntN.{ℤ, pos, negsuc, ◌-ℤ◌}
 use mir.Syntax.{w64}
 use mir.Val.{to_z}
 use mir.ValLaws.{to_z_pos, to_z-of_z}
-use Rattle.source.proofs.Facts.{facts, highest_fits, Facts}
+use Rattle.source.proofs.Facts.{facts, highest_fits}
 use Rattle.source.specs.declared.Source.{Source}
 use Rattle.numbers.proofs.Integers.{minus_pos, minus_neg}
-use Rattle.source.specs.Record.{arrivals, distinct, lost}
-use Rattle.source.proofs.loss.packets.Lts.View.{up-Start}
-use Rattle.source.proofs.loss.packets.Goals.{After-struct_known-1, Start}
+use Rattle.source.specs.Record.{distinct, lost, fresh, has_counted}
+use Rattle.source.proofs.loss.packets.Goals.{After-struct_known-1}
 use Rattle.source.proofs.loss.packets.Goals as goal
-
-known : (c : Start) → Facts c.args.s
-known c = facts c.args.s c.requires.1
 
 -- the numbers from base to highest, the distinct arrivals, and lost
 record Sizes (s : Source) (h b : ℕ) : Type 0 where
@@ -22,18 +19,17 @@ record Sizes (s : Source) (h b : ℕ) : Type 0 where
   near : h - b < 2 ^ 62
   lost_is_lem : lost s ≡ pos (h - b + 1) -ℤ pos (distinct s)
 
-sizes : (c : Start) {h b : ℕ} → c.args.s.highest.0 ≡ pos h → c.args.s.base.0 ≡ pos b → Sizes c.args.s h b
+sizes : (s : Source) {h b : ℕ} → fresh s ≡ false → has_counted s ≡ true → s.highest.0 ≡ pos h → s.base.0 ≡ pos b → Sizes s h b
 unfolding lost
-sizes c {h} {b} eh eb =
-    let f = known c in
-    let s = c.args.s in
+sizes s {h} {b} new some eh eb =
+    let f = facts s some in
     let high : f.high ≡ h = pos_inj (sym f.highest ∙ eh) in
     let low : f.low ≡ b = pos_inj (sym f.base ∙ eb) in
     let le : b ≤ h = omega (arith, f.ordered) in
     record {
       ordered = le;
       near = omega (arith, f.spread, f.most);
-      lost_is_lem = rw (c.requires.0, eh, eb, minus_pos h b le);
+      lost_is_lem = rw (new, eh, eb, minus_pos h b le);
     }
   where
     pos_inj : {m n : ℕ} → pos m ≡ pos n → m ≡ n
@@ -55,12 +51,12 @@ module _ (c : After-struct_known-1) where
 
   same-distinct : distinct-here ≡ distinct source
   unfolding distinct-here source
-  same-distinct = omega (arith, (known (up-Start _ _ _ c.before.before.before.before.before.before.before)).most)
+  same-distinct = omega (arith, (facts source c.requires.1).most)
 
   span_small : span < 2 ^ 63
-  unfolding span
+  unfolding span source
   span_small =
-      let z = sizes (up-Start _ _ _ c.before.before.before.before.before.before.before) c.natural.ensures c.natural-2.ensures in
+      let z = sizes source c.requires.0 c.requires.1 c.natural.ensures c.natural-2.ensures in
       omega (arith, z.near)
 
   distinct-small : distinct-here < 2 ^ 63
@@ -70,28 +66,28 @@ module _ (c : After-struct_known-1) where
   lost-here : lost source ≡ pos span -ℤ pos distinct-here
   unfolding span source
   lost-here =
-      let z = sizes (up-Start _ _ _ c.before.before.before.before.before.before.before) c.natural.ensures c.natural-2.ensures in
-      z.lost-is ∙ ap (λ (n : ℕ). pos span -ℤ pos n) (sym same-distinct)
+      let z = sizes source c.requires.0 c.requires.1 c.natural.ensures c.natural-2.ensures in
+      z.lost_is_lem ∙ ap (λ (n : ℕ). pos span -ℤ pos n) (sym same-distinct)
 
 pub natural-requires : goal.natural-requires
-natural-requires c = (highest_fits c.args.s (known (goal.at.natural-requires c).Start)).0
+natural-requires c = (highest_fits c.args.s (facts c.args.s c.requires.1)).0
 
 pub natural-requires-2 : goal.natural-requires-2
 natural-requires-2 c =
-    let f = known (goal.at.natural-requires-2 c).Start in
+    let f = facts c.args.s c.requires.1 in
     rw f.base tt
 
 pub overflow_sub-span : goal.overflow_sub-span
-overflow_sub-span c = (sizes (goal.at.overflow_sub-span c).Start c.natural.ensures c.natural-2.ensures).ordered
+overflow_sub-span c = (sizes c.args.s c.requires.0 c.requires.1 c.natural.ensures c.natural-2.ensures).ordered
 
 pub overflow_add-span : goal.overflow_add-span
 overflow_add-span c =
-    let z = sizes (goal.at.overflow_add-span c).Start c.natural.ensures c.natural-2.ensures in
+    let z = sizes c.args.s c.requires.0 c.requires.1 c.natural.ensures c.natural-2.ensures in
     omega (arith, z.near)
 
 pub overflow_sub-distinct : goal.overflow_sub-distinct
 overflow_sub-distinct c =
-    let f = known (goal.at.overflow_sub-distinct c).Start in
+    let f = facts c.args.s c.requires.1 in
     omega (arith, f.fewer, f.most)
 
 pub overflow_cast-result : goal.overflow_cast-result
@@ -102,18 +98,31 @@ overflow_cast-result c =
 pub returns-then-distinct-span : goal.returns-then-distinct-span
 unfolding span distinct-here source
 returns-then-distinct-span c =
-    to_z_pos w64 (span (goal.at.returns-then-distinct-span c).After-struct_known-1 - distinct-here (goal.at.returns-then-distinct-span c).After-struct_known-1) (omega (arith, span_small (goal.at.returns-then-distinct-span c).After-struct_known-1))
-    ∙ sym (lost-here (goal.at.returns-then-distinct-span c).After-struct_known-1 ∙ minus_pos (span (goal.at.returns-then-distinct-span c).After-struct_known-1) (distinct-here (goal.at.returns-then-distinct-span c).After-struct_known-1) c.if-distinct-span.true)
+    let p = (goal.at.returns-then-distinct-span c).After-struct_known-1 in
+    to_z_pos w64 (span p - distinct-here
+    p) (omega (arith, span_small p))
+    ∙ sym (lost-here p
+    ∙ minus_pos (span p)
+    (distinct-here p) c.if-distinct-span.true)
 
 pub overflow_sub-result-3 : goal.overflow_sub-result-3
 unfolding span distinct-here source
 overflow_sub-result-3 c =
-    let x = distinct-here (goal.at.overflow_sub-result-3 c).After-struct_known-1 - span (goal.at.overflow_sub-result-3 c).After-struct_known-1 in
-    rw (turned x (omega arith) (omega (arith, distinct-small (goal.at.overflow_sub-result-3 c).After-struct_known-1))) (record { sfits = omega (arith, distinct-small (goal.at.overflow_sub-result-3 c).After-struct_known-1) })
+    let p = (goal.at.overflow_sub-result-3 c).After-struct_known-1 in
+    let x = distinct-here p - span p in
+    rw (turned x (omega arith) (omega (arith, distinct-small p)))
+    (record { sfits = omega (arith, distinct-small p) })
 
 pub returns : goal.returns
 unfolding span distinct-here source
 returns c =
-    let x = distinct-here (goal.at.returns c).After-struct_known-1 - span (goal.at.returns c).After-struct_known-1 in
-    rw (turned x (omega arith) (omega (arith, distinct-small (goal.at.returns c).After-struct_known-1)), to_z-of_z w64 (negsuc (x - 1)) (record { sfits = omega (arith, distinct-small (goal.at.returns c).After-struct_known-1) }))
-    (ap negsuc (omega arith) ∙ sym (lost-here (goal.at.returns c).After-struct_known-1 ∙ minus_neg (span (goal.at.returns c).After-struct_known-1) (distinct-here (goal.at.returns c).After-struct_known-1) c.if-distinct-span.false))
+    let p = (goal.at.returns c).After-struct_known-1 in
+    let x = distinct-here p - span p in
+    rw (
+      turned x (omega arith) (omega (arith, distinct-small p)),
+      to_z-of_z w64 (negsuc (x - 1))
+          (record { sfits = omega (arith, distinct-small p) }),
+    )
+    (ap negsuc (omega arith)
+    ∙ sym (lost-here p
+    ∙ minus_neg (span p) (distinct-here p) c.if-distinct-span.false))

@@ -1,5 +1,4 @@
 use borrow.Author.Rules.{rules}
-use Prim.Native.Nat.{◌-◌}
 use Rattle.source.proofs.Shifts.{moved_far, moved_out}
 use Rattle.source.proofs.places.moved_on.Goals as goal
 

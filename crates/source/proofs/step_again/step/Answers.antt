@@ -1,6 +1,5 @@
 use mathlib.Core.Path.{sym, ap, ◌∙◌}
 use native.Mathlib.Omega.{arith}
-use Prim.Native.Nat.{◌-◌}
 use Rattle.source.specs.declared.Arrival.TheVariants.{Accepted}
 use Rattle.source.proofs.Answers.{arrival_full, arrival_first, arrival_later}
 use Rattle.source.proofs.Facts.{sound_most, some_has_counted}

@@ -1,0 +1,28 @@
+use mathlib.Core.Path.{sym, ap, ◌∙◌}
+use Rattle.lent.specs.RunWords.{run_words}
+use Rattle.lent.proofs.RunLaws.{length_run}
+use Rattle.capi.specs.RunCalls.{start_code, start_words}
+use Rattle.capi.proofs.Fronts.{sets-whole}
+use Rattle.capi.proofs.RunSteps.{starts_other, starts_begun}
+use Rattle.capi.proofs.runs.flasknib_run_start.Goals as goal
+
+pub returns-then-run-ne-WORDS : goal.returns-then-run-ne-WORDS
+returns-then-run-ne-WORDS c =
+    let a = c.args in
+    starts_other a.zeroth.now a.run.now c.if-run-ne-WORDS.true c.number.ensures
+
+pub returns-in-Started : goal.returns-in-Started
+returns-in-Started c =
+    let a = c.args in
+    let told = c.in-Started.is in
+    let sized = c.if-run-ne-WORDS.false in
+    let whole = sets-whole a.run.now (run_words c.in-Started.first) (sized ∙ sym (length_run c.in-Started.first)) in
+    starts_begun a.zeroth.now a.run.now sized c.start.ensures.value
+    (sym (ap start_code told)) (c.store.ensures ∙ whole ∙ sym (ap (start_words a.run.now) told))
+
+pub returns-in-Refused : goal.returns-in-Refused
+returns-in-Refused c =
+    let a = c.args in
+    let told = c.in-Refused.is in
+    starts_begun a.zeroth.now a.run.now c.if-run-ne-WORDS.false c.start.ensures.value
+    (c.number-in-Refused.ensures ∙ sym (ap start_code told)) (sym (ap (start_words a.run.now) told))

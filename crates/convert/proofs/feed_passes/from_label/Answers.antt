@@ -1,0 +1,32 @@
+use mathlib.Core.Path.{refl, sym, ◌∙◌}
+use native.Mathlib.Omega.{arith}
+use Rattle.walk.specs.Pieces.{whole_in}
+use Rattle.convert.proofs.Feeding.{taken_few, label_goes, label_refused, passes_label, passes_no_label}
+use Rattle.convert.proofs.Fitted.{kept}
+use Rattle.convert.proofs.Kept.{sound_good, start_good}
+use Rattle.convert.proofs.feed_passes.from_label.Goals as goal
+
+pub take_all-last-requires : goal.take_all-last-requires
+take_all-last-requires c =
+    let a = c.args in
+    let e = sym c.start.ensures.value ∙ c.in-Started.is in
+    record { sound = sound_good (start_good a.block.now c.in-Started.run' e); short = c.requires.1; small = omega arith }
+
+pub overflow_add-result : goal.overflow_add-result
+overflow_add-result c =
+    let a = c.args in
+    let p = c.take_all-last.ensures.passed 1 in
+    omega (arith, p.taken, taken_few 1 a.rest.now (kept c.in-Started.run' a.block.now), c.requires.1)
+
+pub returns-in-Started : goal.returns-in-Started
+returns-in-Started c = λ zeroth.
+    let a = c.args in
+    let b = a.block.now in
+    let e = sym c.start.ensures.value ∙ c.in-Started.is in
+    passes_label (kept c.in-Started.run' b) (label_goes (record { run = a.given; zeroth = zeroth }) b (whole_in a.rest.now) e) (c.take_all-last.ensures.passed 1) refl
+
+pub returns-in-Refused : goal.returns-in-Refused
+returns-in-Refused c = λ zeroth.
+    let a = c.args in
+    let e = sym c.start.ensures.value ∙ c.in-Refused.is in
+    passes_no_label (record { run = a.given; zeroth = zeroth }) a.out.now (label_refused (record { run = a.given; zeroth = zeroth }) a.block.now (whole_in a.rest.now) e)

@@ -1,0 +1,6 @@
+use mathlib.Core.Path.{sym, ap, ◌∙◌}
+use Rattle.convert.specs.Feeds.{keepable}
+use Rattle.convert.proofs.feed_soundness.is_kept.Goals as goal
+
+pub returns-in-Refused : goal.returns-in-Refused
+returns-in-Refused c = c.is_fault.ensures ∙ sym (ap keepable c.in-Refused.is)

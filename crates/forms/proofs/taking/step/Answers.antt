@@ -1,0 +1,14 @@
+use mathlib.Core.Path.{sym, ◌∙◌}
+use Rattle.trace.proofs.Placed.{later_arrivals}
+use Rattle.forms.proofs.Steps.{takes_refuses, next_refused}
+use Rattle.forms.proofs.taking.step.Goals as goal
+
+pub timed-requires : goal.timed-requires
+timed-requires c =
+    (c.requires, later_arrivals c.args.c.form c.args.c.ssrc c.args.block.now (sym c.read_own.ensures.value ∙ c.in-Arrivals.is))
+
+pub returns-in-Refused : goal.returns-in-Refused
+returns-in-Refused c =
+    rw c.refused.ensures
+    (takes_refuses c.args.c c.args.part.now c.args.out.now
+    (next_refused c.args.c.form c.args.c.ssrc c.args.block.now (sym c.read_own.ensures.value ∙ c.in-Refused.is)))

@@ -1,0 +1,4 @@
+use Rattle.shell.proofs.transfers.Transfer.with_kept.Goals as goal
+
+pub returns : goal.returns
+returns c = rw c.with_written-next.ensures

@@ -1,0 +1,4 @@
+use Rattle.sources.proofs.calls.not_counting.Goals as goal
+
+pub returns : goal.returns
+returns c = rw c.no_change-change.ensures
