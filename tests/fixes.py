@@ -47,15 +47,14 @@ def bare(text):
 
 
 def named(term):
-    """The name that a term is, or is a field of; of a lent part at its exit, the name with `.exit`; of what `carries` puts together, each."""
+    """The name that a term is, or is a field of; of a lent part as the call leaves it, the name with `.new`; of what `carries` puts together, each."""
     head, *rest = parts(bare(term)) or [""]
     if head == "carries":
         return {name for word in rest for name in named(word)}
-    if head == "now" and rest:
-        return named(rest[0])
-    if all(word.startswith(".") for word in rest):
-        return {f"{head} .exit"} if rest == [".exit"] else {head}
-    return set()
+    if rest:
+        return set()
+    name, *fields = head.split(".")
+    return {f"{name}.new"} if fields[:1] == ["new"] else {name}
 
 
 class Specs:
@@ -110,7 +109,7 @@ def loose(specs, crate, contract):
     head = contract.partition("ensures")[0]
     lent = re.findall(r"(\w+): &(?:'\w+ )?mut ", head)
     left = set(lent) | ({"its result"} if "-> " in head else set())
-    for result, says in re.findall(r"ensures (?:\w+ )?\{ (?:λ (\w+)\. )?⌜ (.*?) ⌝ \}", contract, re.S):
+    for says in re.findall(r"^ *ensures (?:\w+ )?\{ (.*?) \}$", contract, re.S | re.M):
         pinned = specs.pins(crate, says)
-        left -= {name for name in lent if f"{name} .exit" in pinned} | ({"its result"} if result in pinned else set())
+        left -= {name for name in lent if f"{name}.new" in pinned} | ({"its result"} if "result" in pinned else set())
     return sorted(left)

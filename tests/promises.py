@@ -23,7 +23,7 @@ EXCEPTED = {"show": None, "cases": None, "shell": {"tell", "may_wait", "has_argu
 
 # (crate, function): what its promise leaves open, and why
 OPEN = {
-    ("sdp", "read"): (["its result"], "`Reads` is a relation, by the grammar's derivations; `one-reading` proves that a line has one reading at most"),
+    ("sdp", "read"): (["its result"], "`Reads` is a relation, by the grammar's derivations; `one_reading` proves that a line has one reading at most"),
     ("shell", "fill"): (["buffer", "its result"], "which bytes come, and how many, is for the system to say"),
     ("shell", "read_on"): (["buffer", "its result"], "the same"),
     ("shell", "with_read"): (["piece"], "the same, of a piece of a trace"),
@@ -87,15 +87,15 @@ def faults(crates):
 PROMISE = re.compile(r"^    ensures .*\n", re.M)
 BROKEN = {
     "a promise dropped": ("numbers/src/since.rt", lambda text: PROMISE.sub("", text, count=1)),
-    "a requirement added": ("capi/src/rows.rt", lambda text: PROMISE.sub("    requires { ⌜ 1 ≤ 2 ⌝ }\n\\g<0>", text, count=1)),
-    "the promise dropped of a function that is passed on": ("between/src/calls.rt", lambda text: re.sub(r"^    ensures .*callFor.*\n", "", text, flags=re.M)),
+    "a requirement added": ("capi/src/rows.rt", lambda text: PROMISE.sub("    requires { 1 ≤ 2 }\n\\g<0>", text, count=1)),
+    "the promise dropped of a function that is passed on": ("between/src/calls.rt", lambda text: re.sub(r"^    ensures .*call_for.*\n", "", text, flags=re.M)),
     "a function with no promise": ("source/src/lib.rt", lambda text: text + "\npub fn more() -> u8 {\n    1\n}\n"),
-    "a promise that fixes nothing": ("source/src/lib.rt", lambda text: text + "\npub fn more() -> u8\n    ensures { λ r. ⌜ r ≡ r ⌝ }\n{\n    1\n}\n"),
-    "a bound in the place of an equality": ("source/src/lib.rt", lambda text: text + "\npub fn more() -> u8\n    ensures { λ r. ⌜ r ≤ 1 ⌝ }\n{\n    1\n}\n"),
-    "a lent part left open": ("numbers/src/big_endian.rt", lambda text: text.replace("now (out .exit) ≡ sets (now (out .entry)) at (bytes 2 n)", "now (out .entry) ≡ now (out .entry)")),
-    "a predicate that fixes no answer": ("report/src/lib.rt", lambda text: text.replace(" r (now (out .exit))", " (Room 1) (now (out .exit))", 1)),
-    "a predicate that fixes less": ("convert/specs/Feeds.antt", lambda text: text.replace("  pub keeps : lent ≡ g .lent\n", "")),
-    "a clause that fixes less": ("forms/specs/Pieces.antt", lambda text: text.replace("(r .progress ≡ p) × (kept ≡ part)", "(r .progress ≡ p) × (part ≡ part)")),
+    "a promise that fixes nothing": ("source/src/lib.rt", lambda text: text + "\npub fn more() -> u8\n    ensures { result ≡ result }\n{\n    1\n}\n"),
+    "a bound in the place of an equality": ("source/src/lib.rt", lambda text: text + "\npub fn more() -> u8\n    ensures { result ≤ 1 }\n{\n    1\n}\n"),
+    "a lent part left open": ("numbers/src/big_endian.rt", lambda text: text.replace("out.new ≡ sets out.old at (bytes 2 n)", "out.old ≡ out.old")),
+    "a predicate that fixes no answer": ("report/src/lib.rt", lambda text: text.replace(" result out.new", " (Room 1) out.new", 1)),
+    "a predicate that fixes less": ("convert/specs/Feeds.antt", lambda text: text.replace("  pub keeps : lent ≡ g.lent\n", "")),
+    "a clause that fixes less": ("forms/specs/Pieces.antt", lambda text: text.replace("(r.progress ≡ p) × (kept ≡ part)", "(r.progress ≡ p) × (part ≡ part)")),
 }
 
 
