@@ -1,12 +1,12 @@
 -- Calls of flasknib_count_block in turn. Assumes nothing.
 use mathlib.Core.Path.{◌≡◌, refl, sym, ap, ap₂, ◌∙◌, subst, subst⁻¹}
 use mathlib.Core.Bool.{Bool, true, false, cond, not}
-use mathlib.Core.List.{List, [], ◌∷◌, ◌++◌, map, append-nil}
+use mathlib.Core.List.{List, [], ◌∷◌, ◌++◌, append-nil}
 use Prim.Native.Nat.{ℕ, ◌+◌, ◌/◌}
 use native.Mathlib.Nat.{add-zero}
 use native.Mathlib.Omega.{arith}
 use lib.Dec.{leb}
-use lib.ListN.{length, replicate}
+use lib.ListN.{length}
 use Rattle.answers.specs.Conditions.{all}
 use Rattle.answers.specs.declared.Refusal.TheVariants.{Malformed, Limits}
 use Rattle.answers.proofs.Conditions.{and_left, and_right}
@@ -18,28 +18,24 @@ use Rattle.source.specs.Record.{fresh_record, sound, wire_number}
 use Rattle.source.specs.Blocks.{Packet, packets, marks_fit, in_limits, count_all, block_count}
 use Rattle.source.proofs.Facts.{fresh_sound}
 use Rattle.source.proofs.Packets.{limits}
-use Rattle.source.proofs.Totalled.{packets_wires, AllCounted, all_counted}
+use Rattle.source.proofs.Totalled.{packets_wires, all_counted}
 use Rattle.engine.proofs.Parting.{count_append}
 use Rattle.trace.specs.Contents.{every}
 use Rattle.trace.proofs.Limits.{below}
 use Rattle.sources.specs.Answers.{behind}
-use Rattle.walk.specs.Pieces.{Octets}
 use Rattle.lent.specs.SourceWords.{source_of, is_source, source_words, loaded}
-use Rattle.lent.specs.declared.source_words.Loaded.TheVariants.{Held}
 use Rattle.lent.proofs.SourceLaws.{held, sound_back}
 use Rattle.capi.specs.OneSource.{count_code, count_words, block_answer, block_words}
 use Rattle.capi.proofs.FeedChains.{all_typed}
-use Rattle.demands.specs.Calls.{TruePacket, run, Described}
+use Rattle.demands.specs.Calls.{run}
 use Rattle.demands.specs.Count.{count}
-use Rattle.demands.specs.PrintedTable.{of_arrival}
 use Rattle.demands.specs.Witnesses.{c1_packets}
-use Rattle.demands.proofs.Members.{Marks}
 use Rattle.demands.proofs.Traces.{all_arrivals, count_accepted}
 use Rattle.demands.proofs.OneCall.{marks_fit_lem}
 use Rattle.demands.proofs.Demand.{demand3}
 use Rattle.demands.proofs.Witnesses.{met}
 use Rattle.callers.specs.InTurn.{left_by, answers_of, Every, ReadOn}
-use Rattle.callers.specs.BlocksFromC.{Block, BlockFits, blocks_left, blocks_answered, counts, jumps_in, restarts_in, next, after_blocks, sum, packets_in, packets_of, BlocksInTurn, CountsBlocksInTurn, BlocksHoldCount, c1_first, c1_second, c1_blocks}
+use Rattle.callers.specs.BlocksFromC.{Block, BlockFits, counts, jumps_in, restarts_in, next, after_blocks, sum, packets_in, packets_of, CountsBlocksInTurn, BlocksHoldCount, c1_first, c1_second, c1_blocks}
 use Rattle.callers.proofs.InTurn.{in_turn}
 
 -- ---- one block

@@ -1,5 +1,5 @@
 -- Demand 3 for a caller from C. Assumes nothing.
-use mathlib.Core.Path.{◌≡◌, refl, sym, ap, ap₂, ◌∙◌}
+use mathlib.Core.Path.{◌≡◌, refl, ap, ap₂, ◌∙◌}
 use mathlib.Core.Bool.{Bool, true, false, cond}
 use mathlib.Core.List.{List, [], ◌∷◌, map}
 use Prim.Native.Nat.{ℕ}
@@ -10,7 +10,6 @@ use Rattle.answers.specs.Conditions.{all}
 use Rattle.answers.specs.declared.Refusal.TheVariants.{Limits}
 use Rattle.numbers.proofs.Integers.{modulo_lt}
 use Rattle.source.specs.declared.Source.{Source}
-use Rattle.source.specs.declared.Arrival.{Arrival}
 use Rattle.source.specs.declared.Arrival.TheVariants.{Accepted, Refused}
 use Rattle.source.specs.Record.{fresh_record}
 use Rattle.source.specs.Arrivals.{after}

@@ -1,6 +1,6 @@
 -- The theorems on the calls of flasknib_feed are applied to values: C1's trace, cut inside a record, and an empty one. Assumes nothing.
 use mathlib.Core.Path.{refl}
-use mathlib.Core.List.{List, [], ◌∷◌}
+use mathlib.Core.List.{[], ◌∷◌}
 use native.Mathlib.Omega.{arith}
 use lib.ListN.{replicate}
 use Rattle.answers.specs.declared.Refusal.TheVariants.{Incomplete}

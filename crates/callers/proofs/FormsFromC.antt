@@ -1,17 +1,15 @@
 -- The converter of forms from C prints what ecnforms prints. Assumes nothing.
 use mathlib.Core.Path.{◌≡◌, refl, sym, ap, ◌∙◌, subst, subst⁻¹}
 use mathlib.Core.List.{List}
-use mathlib.Core.Bool.{Bool, true, false, cond}
-use mathlib.Core.Option.{Option, none, some}
+use mathlib.Core.Bool.{Bool, true, false}
+use mathlib.Core.Option.{Option, none}
 use Prim.Native.Nat.{ℕ, ◌^◌, ◌<◌}
 use native.Mathlib.Omega.{arith}
 use borrow.Author.Tests.{eq-eqb}
 use lib.Dec.{ltb}
-use lib.IntN.{ℤ}
 use lib.ListN.{length}
 use Rattle.answers.specs.Writers.{written, stored}
 use Rattle.answers.specs.declared.Refusal.{Refusal}
-use Rattle.answers.specs.declared.Refusal.TheVariants.{Malformed}
 use Rattle.answers.specs.declared.Written.{Written}
 use Rattle.answers.specs.declared.Written.TheVariants.{Length, Room, Refused}
 use Rattle.numbers.proofs.BigEndian.{word_lt}
@@ -21,10 +19,9 @@ use Rattle.trace.specs.declared.Zeroth.{Zeroth}
 use Rattle.trace.specs.declared.Zeroth.TheVariants as zeroth
 use Rattle.trace.proofs.Accepted.{accepted}
 use Rattle.trace.proofs.Placed.{zeroth_label}
-use Rattle.walk.specs.Programs.{Printed}
 use Rattle.walk.specs.Pieces.{Octets}
 use Rattle.walk.specs.Steps.{Next, goes, refuses, fault_in, state_after}
-use Rattle.forms.specs.Conversions.{begin_fault, begin_bytes, begin_by, begin_of, begin_stored, call_next, bytes_in, Carried, carries, holding, carried_by, close_fault, close_bytes}
+use Rattle.forms.specs.Conversions.{begin_fault, begin_bytes, begin_by, call_next, bytes_in, Carried, carries, holding, carried_by, close_fault, close_bytes}
 use Rattle.forms.specs.Converted.{told}
 use Rattle.forms.specs.Pieces.{end_by}
 use Rattle.forms.specs.Theorems.{started_on, brought_to, block_calls}

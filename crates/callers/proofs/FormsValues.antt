@@ -1,10 +1,10 @@
 -- The theorems on the converter of forms from C are applied to values: C1's trace, a label and one arrivals block, and a part of 502 zeros. Assumes nothing.
-use mathlib.Core.Path.{◌≡◌, refl}
+use mathlib.Core.Path.{refl}
 use mathlib.Core.List.{List, []}
 use Prim.Native.Nat.{ℕ}
 use native.Mathlib.Omega.{arith}
 use lib.ListN.{replicate}
-use Rattle.answers.specs.Writers.{written, stored}
+use Rattle.answers.specs.Writers.{written}
 use Rattle.numbers.specs.BigEndian.{word, bytes}
 use Rattle.trace.specs.Checksum.{words, ones_add, ones_sum}
 use Rattle.trace.specs.Contents.{every, label_byte, label_body, count_ok, good_records, arrivals_body}
@@ -22,7 +22,7 @@ use Rattle.forms.specs.Packing.{full_blocks}
 use Rattle.forms.specs.Conversions.{timed, next_of, call_next, holding, sound}
 use Rattle.lent.specs.ConversionWords.{conversion_words}
 use Rattle.capi.specs.Codes.{length_code}
-use Rattle.capi.specs.FormsCalls.{begins, begin_code, begin_words, BeginsForms, forms_next}
+use Rattle.capi.specs.FormsCalls.{forms_next}
 use Rattle.demands.specs.Witnesses.{label, c1_block, whole}
 use Rattle.demands.proofs.WitnessesPieces.{met_pieces}
 use Rattle.callers.specs.FormsFromC.{forms_calls}

@@ -1,14 +1,13 @@
 -- Demand 3 for a caller from C, all of it. Assumes nothing.
 use mathlib.Core.Path.{◌≡◌, refl, sym, ap, ap₂, ◌∙◌}
-use mathlib.Core.Bool.{Bool, true, cond}
+use mathlib.Core.Bool.{true}
 use mathlib.Core.List.{List, []}
-use mathlib.Core.Option.{Option, none, some}
+use mathlib.Core.Option.{Option, none}
 use Prim.Native.Nat.{ℕ}
 use Rattle.answers.specs.Writers.{written, stored}
 use Rattle.answers.specs.declared.Refusal.{Refusal}
 use Rattle.answers.specs.declared.Written.{Written}
 use Rattle.source.specs.declared.Source.{Source}
-use Rattle.source.specs.declared.Lost.{Lost}
 use Rattle.source.specs.declared.Lost.TheVariants.{Packets}
 use Rattle.source.specs.Record.{fresh_record, sound, wire_number, lost_answer}
 use Rattle.source.proofs.Facts.{fresh_sound}

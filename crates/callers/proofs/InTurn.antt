@@ -1,5 +1,5 @@
 -- Calls in turn on words and on a record. Assumes nothing.
-use mathlib.Core.Path.{◌≡◌, refl, ap₂}
+use mathlib.Core.Path.{refl, ap₂}
 use mathlib.Core.List.{List, [], ◌∷◌}
 use Rattle.callers.specs.InTurn.{left_by, answers_of, InTurn}
 

@@ -1,18 +1,16 @@
 -- A run of ecntable from C prints what ecntable prints. Assumes nothing.
 use mathlib.Core.Path.{◌≡◌, refl, sym, ◌∙◌, subst, subst⁻¹}
 use mathlib.Core.List.{List}
-use mathlib.Core.Bool.{Bool, true, false, cond}
 use mathlib.Core.Option.{none}
-use Prim.Native.Nat.{ℕ, ◌<◌}
+use Prim.Native.Nat.{ℕ}
 use native.Mathlib.Omega.{arith}
 use borrow.Author.Tests.{eq-eqb}
-use lib.IntN.{ℤ}
 use lib.ListN.{length}
 use Rattle.answers.specs.Writers.{written, stored}
 use Rattle.answers.specs.declared.Written.{Written}
 use Rattle.answers.specs.declared.Written.TheVariants.{Length, Room, Refused}
 use Rattle.walk.specs.Pieces.{Octets}
-use Rattle.walk.specs.Steps.{Next, goes, refuses, fault_in, state_after}
+use Rattle.walk.specs.Steps.{Next, goes, refuses, state_after}
 use Rattle.convert.specs.declared.Run.{Run}
 use Rattle.convert.specs.declared.Begin.{Begin}
 use Rattle.convert.specs.declared.Begin.TheVariants as begin
@@ -23,7 +21,7 @@ use Rattle.convert.specs.Feeds.{labelled}
 use Rattle.convert.proofs.Kept.{Good, sound_good, next_good, start_good}
 use Rattle.convert.proofs.Steps.{call_sound}
 use Rattle.convert.proofs.Whole.{calls_print}
-use Rattle.lent.specs.RunWords.{run_of, is_run, run_words}
+use Rattle.lent.specs.RunWords.{run_of, run_words}
 use Rattle.lent.proofs.RunLaws.{held, run_back}
 use Rattle.capi.specs.Codes.{length_code}
 use Rattle.capi.specs.StepCalls.{words_after, Takes}

@@ -1,9 +1,9 @@
 -- Calls on a table of several sources from C. Assumes nothing.
 use mathlib.Core.Path.{◌≡◌, refl, sym, ap, ap₂, ◌∙◌, subst}
-use mathlib.Core.Bool.{Bool, true, false, cond, not, ◌&&◌}
+use mathlib.Core.Bool.{Bool, true, false, cond}
 use mathlib.Core.List.{List, [], ◌∷◌, ◌++◌, map}
 use mathlib.Core.Option.{Option, none, some}
-use Prim.Native.Nat.{ℕ, zero, suc, ◌/◌, ◌^◌, ◌<◌}
+use Prim.Native.Nat.{ℕ, zero, suc, ◌^◌, ◌<◌}
 use borrow.Author.Tests.{lt-ltb, le-ltb, leb-true}
 use lib.Dec.{eqb, ltb}
 use lib.IntN.{ℤ, pos}
@@ -14,7 +14,6 @@ use Rattle.answers.specs.declared.Refusal.{Refusal}
 use Rattle.answers.proofs.Conditions.{and_left, and_right, all_true}
 use Rattle.format.specs.declared.Wire.{Wire}
 use Rattle.source.specs.declared.Source.{Source}
-use Rattle.source.specs.declared.BlockCount.{BlockCount}
 use Rattle.source.specs.Record.{wire_number}
 use Rattle.source.specs.Arrivals.{arrival, after}
 use Rattle.source.specs.Blocks.{block_count}
@@ -29,7 +28,6 @@ use Rattle.sources.specs.Rules.{most_places, rules, fault}
 use Rattle.sources.specs.Stands.{found, record_in, record_of, put, with_place}
 use Rattle.sources.specs.Answers.{refusal, kept, behind, outside, arrive_answer, arrive_places, count_answer, count_places}
 use Rattle.sources.specs.Compounds.{compound_bytes}
-use Rattle.sources.specs.Theorems.{answer}
 use Rattle.sources.specs.Tables as table
 use Rattle.sources.proofs.Checking as checking
 use Rattle.sources.proofs.Sorted.{all_put}
@@ -37,7 +35,7 @@ use Rattle.sources.proofs.Leaves.{refusal_leaves, block_refusal_leaves}
 use Rattle.sources.proofs.Behind.{record_sound, arrival_keeps_rules, block_keeps_rules}
 use Rattle.sources.proofs.Loaded.{few_lent}
 use Rattle.walk.specs.Pieces.{Octets}
-use Rattle.lent.specs.TableWords.{table_words, places_in, words_fault, typed_place, loaded}
+use Rattle.lent.specs.TableWords.{table_words, places_in, words_fault, typed_place}
 use Rattle.lent.proofs.TableLaws.{table_back}
 use Rattle.lent.proofs.Taking.{taken}
 use Rattle.lent.specs.declared.table_words.Loaded.{Loaded}
@@ -49,8 +47,8 @@ use Rattle.demands.specs.Witnesses.{wrapped}
 use Rattle.demands.specs.WitnessesSources.{mixed_calls}
 use Rattle.demands.proofs.EachSource.{each_source}
 use Rattle.demands.proofs.WitnessesSources.{met_sources}
-use Rattle.callers.specs.InTurn.{left_by, answers_of, Every, ReadOn}
-use Rattle.callers.specs.TableFromC.{table_left, table_told, places_told, TableInTurn, TableCallsInTurn, EachSourceFromC}
+use Rattle.callers.specs.InTurn.{left_by, Every, ReadOn}
+use Rattle.callers.specs.TableFromC.{table_left, table_told, places_told, TableCallsInTurn, EachSourceFromC}
 use Rattle.callers.proofs.FromC.{gives_same, gave}
 use Rattle.callers.proofs.InTurn.{in_turn}
 use Rattle.callers.proofs.BlocksFromC.{one}

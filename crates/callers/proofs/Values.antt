@@ -1,5 +1,5 @@
 -- The theorems on the runs from C are applied to values: C1's trace, a label and one arrivals block. Assumes nothing.
-use mathlib.Core.Path.{◌≡◌, refl}
+use mathlib.Core.Path.{refl}
 use mathlib.Core.List.{List, []}
 use Prim.Native.Nat.{ℕ}
 use native.Mathlib.Omega.{arith}
@@ -16,10 +16,9 @@ use Rattle.source.specs.Places.{pack, marks, place, places, moved, added}
 use Rattle.source.specs.Record.{sound, fresh, has_counted, lost}
 use Rattle.trace.specs.Checksum.{words, ones_add, ones_sum}
 use Rattle.trace.specs.Contents.{every, label_byte, label_ok, label_body, count_ok, good_records, arrivals_body}
-use Rattle.trace.specs.Layout.{record_at, record_bytes, records_bytes, header, filled, checked, label_block, arrivals_block}
+use Rattle.trace.specs.Layout.{record_bytes, records_bytes, header, filled, checked, label_block, arrivals_block}
 use Rattle.trace.specs.Places.{zeroth_of, later_of}
 use Rattle.trace.specs.Reading.{right_check, contents_of, block_of}
-use Rattle.trace.specs.Theorems.{records_in, list_of}
 use Rattle.trace.specs.Writing.{records_of}
 use Rattle.table.specs.Decimal.{digits_of, decimal, signed}
 use Rattle.table.specs.Field.{special, any_special, doubled_byte, doubled, as_field, line}

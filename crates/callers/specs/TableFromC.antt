@@ -14,8 +14,8 @@ use Rattle.capi.specs.Codes.{length_code, Gives}
 use Rattle.capi.specs.Tables.{table_arrived, arrived_code, arrived_words, table_counted, counted_code, counted_words, WritesTableCompound}
 use Rattle.demands.specs.Calls.{TruePacket, arrivals}
 use Rattle.demands.specs.Count.{count}
-use Rattle.demands.specs.EachSource.{Call, arrives, counts, Fits, AllFit, behind_call, behind_all, Brings}
-use Rattle.callers.specs.InTurn.{left_by, answers_of, Every}
+use Rattle.demands.specs.EachSource.{Call, arrives, counts, AllFit, behind_call, behind_all, Brings}
+use Rattle.callers.specs.InTurn.{left_by, answers_of}
 
 -- ---- a call on words: flasknib_sources_arrive or flasknib_sources_count_block
 
