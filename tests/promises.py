@@ -3,8 +3,8 @@
 anything of its caller. What fixes them is an equality, or a predicate whose definition fixes them by equalities (tests/fixes.py).
 
 A crate's public functions are those of its root and of its public modules, those that a `pub use` passes on by name, and the methods of every
-`impl`, wherever it stands. What is excepted stands in EXCEPTED: the test programs' own libraries, and of the program shell the three calls of
-which no contract can say anything; and in OPEN, with the reason. A copy of the crates is then broken in several ways, and each must be found.
+`impl`, wherever it stands. What is excepted stands in EXCEPTED: the test programs' own libraries, and of the program shell the calls of which no
+contract can say anything, those of the standard streams among them, where they promise nothing; and in OPEN, with the reason. A copy of the crates is then broken in several ways, and each must be found.
 """
 import os
 import re
@@ -19,7 +19,7 @@ TOP = os.path.dirname(os.path.dirname(os.path.abspath(__file__)))
 CRATES = os.path.join(TOP, "crates")
 
 # crate: its functions with no promise; None: all of them
-EXCEPTED = {"show": None, "cases": None, "shell": {"tell", "may_wait", "has_arguments"}}
+EXCEPTED = {"show": None, "cases": None, "shell": {"tell", "may_wait", "has_arguments", "new", "errno", "read", "write", "print_error", "fail"}}
 
 # (crate, function): what its promise leaves open, and why
 OPEN = {
@@ -47,7 +47,8 @@ def modules(crate):
         yield file, public, passed
         text = read(file)
         for shown, name in re.findall(r"^(pub )?mod (\w+);", text, re.M):
-            passed_on = set(re.findall(rf"^pub use {name}::(\w+);", text, re.M)) if public else set()
+            named = re.findall(rf"^pub use {name}::\{{?([\w,\s]+)\}}?;", text, re.M) if public else []
+            passed_on = {each.strip() for names in named for each in names.split(",")}
             yield from below(os.path.join(folder, name + ".rt"), os.path.join(folder, name), public and bool(shown), passed_on)
     source = os.path.join(crate, "src")
     return below(os.path.join(source, "lib.rt"), source, True, set())
@@ -72,7 +73,7 @@ def faults(crates):
         for name, contract in public_functions(os.path.join(crates, crate)):
             if re.search(r"^\s*requires\b", contract, re.M):
                 wrong.append(f"{crate}: {name} asks something of its caller")
-            if excepted is None or name in excepted:
+            if excepted is None or (name in excepted and not re.search(r"^\s*ensures\b", contract, re.M)):
                 continue
             seen += 1
             if not re.search(r"^\s*ensures\b", contract, re.M):

@@ -54,7 +54,7 @@ def misnamed(top, crate, text):
 def left_out(top, page):
     """Public calls and wrong programs that the page does not name."""
     for crate in promises.libraries(os.path.join(top, "crates")):
-        text = "".join(text for of, text in sections(page) if of == crate)
+        text = "".join(text for of, text in sections(page) if of in (crate, crate.removesuffix("_c")))
         for name, _ in promises.public_functions(os.path.join(top, "crates", crate)):
             if promises.EXCEPTED.get(crate, set()) is not None and not re.search(rf"`(?:\w+::)*{name}`", text):
                 yield f"{crate}: the call {name} is left out"
