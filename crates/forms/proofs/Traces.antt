@@ -86,7 +86,7 @@ module _ (form : Form) (rs : List Record) (fine : Fine (shape_of form) rs) (some
 -- ---- the blocks of a packing
 
 abbrev last_of : Shape → ℕ → List Record → List (List ℕ)
-last_of shape ssrc [] = []
+last_of _ ssrc [] = []
 last_of shape ssrc (r ∷ rs) = arrivals_block shape (r ∷ rs) ssrc ∷ []
 
 -- n full blocks and the last
@@ -95,7 +95,7 @@ blocks_in shape ssrc zero rs = last_of shape ssrc rs
 blocks_in shape ssrc (suc n) rs = arrivals_block shape (take shape.most rs) ssrc ∷ blocks_in shape ssrc n (drop shape.most rs)
 
 last_joined : (shape : Shape) (ssrc : ℕ) (rs : List Record) → last_block shape ssrc rs ≡ joined (last_of shape ssrc rs)
-last_joined shape ssrc [] = refl
+last_joined _ ssrc [] = refl
 last_joined shape ssrc (r ∷ rs) = sym (append-nil (arrivals_block shape (r ∷ rs) ssrc))
 
 module _ (shape : Shape) (ssrc : ℕ) where

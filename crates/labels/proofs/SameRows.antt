@@ -8,7 +8,6 @@ use Rattle.format.specs.declared.Form.{Form}
 use Rattle.source.specs.declared.Totals.{Totals}
 use Rattle.source.specs.Totals.{fresh_totals}
 use Rattle.table.specs.Lines.{head_bytes, row_bytes}
-use Rattle.trace.specs.declared.Zeroth.TheVariants as zeroth
 use Rattle.trace.proofs.Accepted.{accepted}
 use Rattle.trace.proofs.Placed.{zeroth_label}
 use Rattle.walk.specs.Blocks.{Blocks, blocks_of}

@@ -4,7 +4,6 @@ use mathlib.Core.List.{List}
 use Prim.Native.Nat.{ℕ}
 use Rattle.format.specs.declared.Form.{Form}
 use Rattle.trace.specs.Places.{zeroth_of}
-use Rattle.trace.specs.declared.Zeroth.TheVariants as zeroth
 use Rattle.walk.specs.Blocks.{Blocks, blocks_of}
 use Rattle.walk.specs.Programs.{Printed, to_output, both}
 use Rattle.walk.proofs.Cuts.{blocks_join}
