@@ -56,7 +56,11 @@ module _ (line old : List ℕ) (reading : Reading) (reads : Reads line reading) 
 
     pub read_told : 11 ≤ length old → ReadsAttribute line old 0 (sets old 0 new)
     read_told h =
-        record { reading = reading; reads = reads; gives = gives refusal_code (wrote_all new old (ap verdict_fault e) (omega (arith, size)) (sym size) refl) refl }
+        record {
+          reading = reading;
+          reads = reads;
+          gives = gives refusal_code (wrote_all new old (ap verdict_fault e) (omega (arith, size)) (sym size) refl) refl;
+        }
 
 -- ---- a record is written
 
@@ -66,7 +70,8 @@ unfolding loaded attribute_in attribute_of
 places words = go (is_attribute words)
   where
     go : (b : Bool)
-        → length (cond {A = Loaded} b (record { attribute = attribute_in words; answer = Held }) (record { attribute = nothing; answer = Malformed })).attribute.methods ≡ 8
+        → length (cond {A = Loaded} b (record { attribute = attribute_in words; answer = Held })
+        (record { attribute = nothing; answer = Malformed })).attribute.methods ≡ 8
     go true = refl
     go false = refl
 
@@ -81,7 +86,8 @@ module _ (words : List ℕ) {l : Loaded} (q : l ≡ loaded words) where
   pub which_loaded : l.answer ≡ Held → l.attribute ≡ attribute_in words
   which_loaded e = ap (λ (x : Loaded). x.attribute) q ∙ laws.its words (one_loaded e)
 
-  pub write_refused : (old : List ℕ) → l.answer ≡ Malformed → Wrote (record_fault words) (attribute_bytes (attribute_in words)) old (Refused refusal.Malformed) old
+  pub write_refused : (old : List ℕ) → l.answer ≡ Malformed
+      → Wrote (record_fault words) (attribute_bytes (attribute_in words)) old (Refused refusal.Malformed) old
   unfolding record_fault
   write_refused old e = wrote_refused (attribute_bytes (attribute_in words)) old (rw (none_loaded e))
 

@@ -70,7 +70,8 @@ called_in_turn b (c ∷ cs) t n =
     let q = is_record_lem b t in
     let back = (breaker_restored b t).0 in
     let left = left_of_lem c words q ∙ ap (λ (x : Breaker). breaker_words (called x c).breaker) back in
-    let answer : call_answer c words ≡ answer_code (called b c).answer = sym (cond_goes _ _ _ _ (ap not q) (sym (ap (λ (x : Breaker). answer_code (called x c).answer) back))) in
+    let answer : call_answer c words ≡ answer_code (called b c).answer = sym
+    (cond_goes _ _ _ _ (ap not q) (sym (ap (λ (x : Breaker). answer_code (called x c).answer) back))) in
     let rest = called_in_turn (called b c).breaker cs (typed_call b c t (and_left _ _ n)) (and_right (number_fits c) _ n) in
     record {
       left = ap (λ (w : List ℕ). breaker_chain w cs) left ∙ rest.left;

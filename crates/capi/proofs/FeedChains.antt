@@ -51,7 +51,9 @@ use Rattle.convert.specs.declared.feeds.FeedAnswer.TheVariants as answer
 use Rattle.convert.specs.Runs.{start_by, start_of, arrived, next_by, next_of, sound_totals}
 use Rattle.table.specs.Lines.{head_bytes}
 use Rattle.convert.specs.Tables.{Kept, taken, closing, ecntable, no_run}
-use Rattle.convert.specs.Feeds.{TakenBy, most_fed, zeroth_in, part_in, kept_in, is_no_run, own_by, run_ok, keepable, sound_upload, labelled, feeding, through, held_by, completed, rest_in, fed_by, in_room, bytes_at, feed_by, feed_of, ends_whole, broken, close_by, close_of, Given, unchanged}
+use Rattle.convert.specs.Feeds.{TakenBy, most_fed, zeroth_in, part_in, kept_in, is_no_run, own_by, run_ok, keepable}
+use Rattle.convert.specs.Feeds.{sound_upload, labelled, feeding, through, held_by, completed, rest_in, fed_by, in_room}
+use Rattle.convert.specs.Feeds.{bytes_at, feed_by, feed_of, ends_whole, broken, close_by, close_of, Given, unchanged}
 use Rattle.convert.specs.FeedTheorems.{FeedRefused, FreshLent, unfed, and_fed, feed_all, ending_in, closed_as}
 use Rattle.convert.proofs.SoundUploads.{well_formed}
 use Rattle.convert.proofs.FeedRefusals.{refused_is_unchanged}
@@ -63,7 +65,8 @@ use Rattle.lent.specs.declared.feed_words.Loaded.{Loaded}
 use Rattle.lent.specs.declared.feed_words.Loaded.TheVariants.{Held, Malformed}
 use Rattle.lent.proofs.FeedLaws.{held, other, feed_back, feed_words_back, fresh_is_zeros}
 use Rattle.capi.specs.Feeds.{fed_of, closed_of, close_code}
-use Rattle.capi.specs.FeedChains.{Holding, zero_words, and_fed_words, feed_chain, closed_words, end_number, WordsInOne, WordsPrint, WordsAgree, RefusedLeavesWords}
+use Rattle.capi.specs.FeedChains.{Holding, zero_words, and_fed_words, feed_chain, closed_words}
+use Rattle.capi.specs.FeedChains.{end_number, WordsInOne, WordsPrint, WordsAgree, RefusedLeavesWords}
 use Rattle.capi.proofs.FeedSteps.{fed_is, closed_is, words_after_lem}
 
 -- ---- what fits its words stays so: the SSRC, and the remembered number
@@ -136,13 +139,18 @@ module _ (u : Upload) (lent stretch : List ℕ) (room : ℕ) (ol : Octets lent) 
       done : Typed (completed u lent bytes).state.run
       done =
           through_typed u.blocks (whole_in bytes) (held_by u lent)
-          (octets_wholes bytes (octets_append (kept_in u lent) stretch (octets_take u.kept (part_in lent) (octets_take block_bytes (drop block_bytes lent) (octets_drop block_bytes lent ol))) os)) h
+          (octets_wholes bytes
+          (octets_append (kept_in u lent) stretch
+          (octets_take u.kept (part_in lent) (octets_take block_bytes (drop block_bytes lent) (octets_drop block_bytes lent ol))) os)) h
 
-      fits : (b : Bool) → Typed (cond b (unchanged u lent (answer.Room (length (completed u lent bytes).printed.out))) (fed_by u lent (rest_in bytes) (completed u lent bytes))).upload.run
+      fits : (b : Bool) → Typed
+          (cond b (unchanged u lent (answer.Room (length (completed u lent bytes).printed.out)))
+          (fed_by u lent (rest_in bytes) (completed u lent bytes))).upload.run
       fits true = h
       fits false = done
 
-      within : (b : Bool) → Typed (cond b (unchanged u lent (answer.Refused refusal.Limits)) (in_room u lent (rest_in bytes) (completed u lent bytes) room)).upload.run
+      within : (b : Bool) → Typed
+          (cond b (unchanged u lent (answer.Refused refusal.Limits)) (in_room u lent (rest_in bytes) (completed u lent bytes) room)).upload.run
       within true = h
       within false = fits (ltb room (length (completed u lent bytes).printed.out))
 
@@ -158,7 +166,10 @@ fits n e h = rw e (record { least = record { le = tt }; most = record { lt = lt�
 
 fresh_fits : (s : Source) → fresh s ≡ true → FitsWord s.base.0 × FitsWord s.highest.0
 unfolding fresh
-fresh_fits s f = (fits 0 (eq_z_eq s.base.0 (pos 0) (true_is _ (all_true (zeros s) 0 f))) (omega arith), fits 0 (eq_z_eq s.highest.0 (pos 0) (true_is _ (all_true (zeros s) 1 f))) (omega arith))
+fresh_fits s f = (
+  fits 0 (eq_z_eq s.base.0 (pos 0) (true_is _ (all_true (zeros s) 0 f))) (omega arith),
+  fits 0 (eq_z_eq s.highest.0 (pos 0) (true_is _ (all_true (zeros s) 1 f))) (omega arith),
+)
 
 pub sound_fits : (s : Source) → sound s ≡ true → FitsWord s.base.0 × FitsWord s.highest.0
 sound_fits s e = go (fresh s) refl
@@ -197,7 +208,8 @@ abbrev holding_of : Given → Holding
 holding_of g = record { words = feed_words g.upload; lent = g.lent; rows = g.rows }
 
 -- one call more
-fed_held : (g : Given) (stretch : List ℕ) (room : ℕ) → loaded (feed_words g.upload) ≡ Held g.upload → and_fed_words (holding_of g) stretch room ≡ holding_of (and_fed g stretch room)
+fed_held : (g : Given) (stretch : List ℕ) (room : ℕ) → loaded (feed_words g.upload) ≡ Held g.upload
+    → and_fed_words (holding_of g) stretch room ≡ holding_of (and_fed g stretch room)
 fed_held g stretch room e =
     let words = feed_words g.upload in
     let is = fed_is words g.lent e stretch room in
@@ -208,7 +220,8 @@ fed_held g stretch room e =
     }
 
 chain_is : (rooms : ℕ → ℕ) (xs : List (List ℕ)) (i : ℕ) (g : Given) → Ongoing g.upload g.lent (length (joined xs)) → Octets (joined xs) → Typed g.upload.run
-    → (feed_chain rooms i (holding_of g) xs ≡ holding_of (feed_all rooms i g xs)) × (sound_upload (feed_all rooms i g xs).upload (feed_all rooms i g xs).lent ≡ true) × Typed (feed_all rooms i g xs).upload.run
+    → (feed_chain rooms i (holding_of g) xs ≡ holding_of (feed_all rooms i g xs))
+    × (sound_upload (feed_all rooms i g xs).upload (feed_all rooms i g xs).lent ≡ true) × Typed (feed_all rooms i g xs).upload.run
 unfolding feed_chain feed_all
 chain_is rooms [] i g h o t = (refl, h.sound, t)
 chain_is rooms (x ∷ xs) i g h o t =
@@ -235,35 +248,44 @@ module _ (rooms : ℕ → ℕ) (lent : List ℕ) (xs : List (List ℕ)) (f : Fre
       (ap (λ (w : List ℕ). feed_chain rooms 0 (record { words = w; lent = lent; rows = [] }) xs) (sym fresh_is_zeros) ∙ c.0, c.1, c.2)
 
 -- a closing call's upload is sound and typed too
-close_sound : (u : Upload) (lent : List ℕ) → sound_upload u lent ≡ true → Typed u.run → loaded (feed_words (close_of u lent).upload) ≡ Held (close_of u lent).upload
+close_sound : (u : Upload) (lent : List ℕ) → sound_upload u lent ≡ true → Typed u.run
+    → loaded (feed_words (close_of u lent).upload) ≡ Held (close_of u lent).upload
 unfolding close_of
 close_sound u lent s h = go (not (sound_upload u lent)) u.ended
   where
-    back : (e : Ended) → keepable e ≡ true → loaded (feed_words (record { run = u.run; blocks = u.blocks; kept = u.kept; ended = e })) ≡ Held (record { run = u.run; blocks = u.blocks; kept = u.kept; ended = e })
+    back : (e : Ended) → keepable e ≡ true
+        → loaded (feed_words (record { run = u.run; blocks = u.blocks; kept = u.kept; ended = e })) ≡ Held
+        (record { run = u.run; blocks = u.blocks; kept = u.kept; ended = e })
     back e k =
         let w = well_formed s in
         let f = run_fits u.blocks u lent refl w.run in
         feed_back (record { run = u.run; blocks = u.blocks; kept = u.kept; ended = e }) h.0 f.0 f.1 h.1 k f.2
 
-    whole : (b : Bool) → let g = cond b (unchanged u lent (answer.Length 0)) (unchanged (broken u) lent (answer.Faulty refusal.Incomplete u.blocks 0)) in loaded (feed_words g.upload) ≡ Held g.upload
+    whole : (b : Bool) → let g = cond b (unchanged u lent (answer.Length 0)) (unchanged (broken u) lent (answer.Faulty refusal.Incomplete u.blocks 0)) in
+        loaded (feed_words g.upload) ≡ Held g.upload
     whole true = sound_back u lent s h
     whole false = back (ended.Refused refusal.Incomplete) refl
 
-    go : (b : Bool) (e : Ended) → let g = cond b (unchanged u lent (answer.Refused refusal.Malformed)) (close_by u lent e) in loaded (feed_words g.upload) ≡ Held g.upload
+    go : (b : Bool) (e : Ended)
+        → let g = cond b (unchanged u lent (answer.Refused refusal.Malformed)) (close_by u lent e) in loaded (feed_words g.upload) ≡ Held g.upload
     go true e = sound_back u lent s h
     go false (ended.Refused refusal) = sound_back u lent s h
     go false ended.Going = whole (ends_whole u)
 
 -- the block of its answer is the upload's
-close_block : (u : Upload) (lent : List ℕ) (fault : Refusal) (block n : ℕ) → (close_of u lent).answer ≡ answer.Faulty fault block n → (close_of u lent).upload.blocks ≡ block
+close_block : (u : Upload) (lent : List ℕ) (fault : Refusal) (block n : ℕ) → (close_of u lent).answer ≡ answer.Faulty fault block n
+    → (close_of u lent).upload.blocks ≡ block
 unfolding close_of
 close_block u lent fault block n = go (not (sound_upload u lent)) u.ended
   where
-    whole : (b : Bool) → let g = cond b (unchanged u lent (answer.Length 0)) (unchanged (broken u) lent (answer.Faulty refusal.Incomplete u.blocks 0)) in g.answer ≡ answer.Faulty fault block n → g.upload.blocks ≡ block
+    whole : (b : Bool) → let g = cond b (unchanged u lent (answer.Length 0)) (unchanged (broken u) lent (answer.Faulty refusal.Incomplete u.blocks 0)) in
+        g.answer ≡ answer.Faulty fault block n → g.upload.blocks ≡ block
     whole true e = let z : ◌≡◌ {A = ℕ} 0 1 = cc in absurd (omega arith)
     whole false e = cc
 
-    go : (b : Bool) (e : Ended) → let g = cond b (unchanged u lent (answer.Refused refusal.Malformed)) (close_by u lent e) in g.answer ≡ answer.Faulty fault block n → g.upload.blocks ≡ block
+    go : (b : Bool) (e : Ended)
+        → let g = cond b (unchanged u lent (answer.Refused refusal.Malformed)) (close_by u lent e) in g.answer ≡ answer.Faulty fault block n
+        → g.upload.blocks ≡ block
     go true e q = let z : ◌≡◌ {A = ℕ} 0 1 = cc in absurd (omega arith)
     go false (ended.Refused kept) q = cc
     go false ended.Going q = whole (ends_whole u) q
@@ -285,7 +307,8 @@ words_print rooms lent xs f o few enough =
     let words = feed_words g.upload in
     let back = sound_back g.upload g.lent all.1 all.2 in
     let is = closed_is words g.lent back in
-    let left : closed_words (holding_of g) ≡ feed_words (close_of g.upload g.lent).upload = words_after_lem words g.lent back (closed_of words g.lent) ∙ ap (λ (x : Given). feed_words x.upload) is in
+    let left : closed_words (holding_of g) ≡ feed_words (close_of g.upload g.lent).upload = words_after_lem words g.lent back (closed_of words g.lent)
+    ∙ ap (λ (x : Given). feed_words x.upload) is in
     let again = held (feed_words (close_of g.upload g.lent).upload) (close_sound g.upload g.lent all.1 all.2) in
     let answers : (closed_of words g.lent).answer ≡ closed_as (walked ecntable (blocks_of (joined xs))).ended = ap (λ (x : Given). x.answer) is ∙ one.answer in
     subst (WordsInOne (joined xs)) (sym all.0)
@@ -317,7 +340,8 @@ refused_leaves_words h stretch room base highest refused = go (loaded h.words) r
         let is = fed_is h.words h.lent e stretch room in
         let same = is ∙ refused_is_unchanged u h.lent stretch room (subst (λ (x : Given). FeedRefused x.answer) is refused) in
         λ i. record {
-          words = (words_after_lem h.words h.lent e (fed_of h.words h.lent stretch room) ∙ ap (λ (x : Given). feed_words x.upload) same ∙ feed_words_back h.words u base highest e) i;
+          words = (words_after_lem h.words h.lent e (fed_of h.words h.lent stretch room) ∙ ap (λ (x : Given). feed_words x.upload) same
+              ∙ feed_words_back h.words u base highest e) i;
           lent = ap (λ (x : Given). x.lent) same i;
           rows = (ap (λ (x : Given). h.rows ++ x.rows) same ∙ append-nil h.rows) i;
         }

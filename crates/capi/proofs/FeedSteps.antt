@@ -22,7 +22,8 @@ use Rattle.convert.specs.declared.feeds.Upload.{Upload}
 use Rattle.convert.specs.declared.feeds.FeedAnswer.TheVariants as answer
 use Rattle.convert.specs.declared.feeds.Fed.{Fed}
 use Rattle.convert.specs.Tables.{Kept}
-use Rattle.convert.specs.Feeds.{most_fed, TakenBy, zeroth_in, part_in, kept_in, sound_upload, rest_in, in_limits, feed_by, feed_of, close_of, Given, unchanged, answer_by, fed_by, Feeds, Closes}
+use Rattle.convert.specs.Feeds.{most_fed, TakenBy, zeroth_in, part_in, kept_in, sound_upload, rest_in, in_limits}
+use Rattle.convert.specs.Feeds.{feed_by, feed_of, close_of, Given, unchanged, answer_by, fed_by, Feeds, Closes}
 use Rattle.convert.specs.Passes.{done_by, added_by, kept_more}
 use Rattle.convert.proofs.Lents.{more_kept}
 use Rattle.convert.proofs.SoundUploads.{WellFormed, well_formed, feed_malformed, feed_sound}
@@ -77,19 +78,22 @@ module _ (words lent : List ℕ) where
         let is = fed_is stretch (length old) in
         record {
           answers = l.answers ∙ ap feed_code f.answer ∙ ap (λ (g : Given). feed_code g.answer) (sym is);
-          keeps = l.stores ∙ ap feed_words f.upload ∙ ap (λ (g : Given). feed_words g.upload) (sym is) ∙ sym (words_after_lem (fed_of words lent stretch (length old)));
+          keeps = l.stores ∙ ap feed_words f.upload ∙ ap (λ (g : Given). feed_words g.upload) (sym is)
+              ∙ sym (words_after_lem (fed_of words lent stretch (length old)));
           holds = f.keeps ∙ ap (λ (g : Given). g.lent) (sym is);
           stores = f.stores ∙ ap (λ (g : Given). g.rows ++ drop (length g.rows) old) (sym is);
         }
 
-    pub close_held : {fed : Fed} {r : ℕ} {left : List ℕ} → Closes (close_of u lent) fed → Leaves (close_code fed.answer) (feed_words fed.upload) r left → ClosesWords words lent r left
+    pub close_held : {fed : Fed} {r : ℕ} {left : List ℕ} → Closes (close_of u lent) fed → Leaves (close_code fed.answer) (feed_words fed.upload) r left
+        → ClosesWords words lent r left
     close_held f l = record {
       answers = l.answers ∙ ap close_code f.answer ∙ ap (λ (g : Given). close_code g.answer) (sym closed_is);
       keeps = l.stores ∙ ap feed_words f.upload ∙ ap (λ (g : Given). feed_words g.upload) (sym closed_is) ∙ sym (words_after_lem (closed_of words lent));
     }
 
 -- with an equal answer
-pub feeds_as : {words lent stretch old left kept out : List ℕ} {r told : ℤ} → r ≡ told → FeedsWords words lent stretch old told left kept out → FeedsWords words lent stretch old r left kept out
+pub feeds_as : {words lent stretch old left kept out : List ℕ} {r told : ℤ} → r ≡ told → FeedsWords words lent stretch old told left kept out
+    → FeedsWords words lent stretch old r left kept out
 feeds_as e f = record { answers = e ∙ f.answers; keeps = f.keeps; holds = f.holds; stores = f.stores }
 
 pub closes_as : {words lent left : List ℕ} {r told : ℕ} → r ≡ told → ClosesWords words lent told left → ClosesWords words lent r left
@@ -118,7 +122,9 @@ added_size u lent rest room = go (ltb room n)
     n : ℕ
     n = length done.printed.out
 
-    go : (b : Bool) → feed_size (cond b (unchanged u (sets lent (block_bytes + u.kept) (replicate (block_bytes - u.kept) 0)) (answer.Room n)) (fed_by u lent (rest_in rest) done)).answer ≡ n
+    go : (b : Bool) → feed_size
+        (cond b (unchanged u (sets lent (block_bytes + u.kept) (replicate (block_bytes - u.kept) 0)) (answer.Room n))
+        (fed_by u lent (rest_in rest) done)).answer ≡ n
     go true = refl
     go false = answer_size (u.blocks + done.taken) n done.refusal
 
@@ -128,31 +134,38 @@ module _ (u : Upload) (lent stretch old : List ℕ) (small : u.run.ssrc < 2 ^ 32
       let start = take (block_bytes - u.kept) stretch in
       let is = more_kept lent u.kept w.long (omega (arith, w.kept)) w.zeros start (omega (arith, w.kept, length-take (block_bytes - u.kept) stretch)) in
       let kept = kept_in u lent ++ start in
-      let part = octets_append (kept_in u lent) start (octets_take u.kept (part_in lent) (octets_take block_bytes (drop block_bytes lent) (octets_drop block_bytes lent ol))) (octets_take (block_bytes - u.kept) stretch os) in
+      let part = octets_append (kept_in u lent) start
+      (octets_take u.kept (part_in lent) (octets_take block_bytes (drop block_bytes lent) (octets_drop block_bytes lent ol)))
+      (octets_take (block_bytes - u.kept) stretch os) in
       let zeros : List ℕ = replicate (block_bytes - length kept) 0 in
       subst⁻¹ (λ (l : List ℕ). Octets l) is
       (octets_append (zeroth_in lent) ((kept ++ zeros) ++ drop 1024 lent) (octets_take block_bytes lent ol)
       (octets_append (kept ++ zeros) (drop 1024 lent) (octets_append kept zeros part (octets_zeros (block_bytes - length kept))) (octets_drop 1024 lent ol)))
 
-  complete_size : (w : WellFormed u lent) (long : block_bytes ≤ u.kept + length stretch) → TakenBy u + length stretch ≤ most_fed → feed_size (in_limits u lent stretch (length old)).answer < 2 ^ 54
+  complete_size : (w : WellFormed u lent) (long : block_bytes ≤ u.kept + length stretch) → TakenBy u + length stretch ≤ most_fed
+      → feed_size (in_limits u lent stretch (length old)).answer < 2 ^ 54
   unfolding wholes
   complete_size w long few =
       let is = within_most u lent stretch (length old) few ∙ sym (added_is u lent stretch w long (length old)) in
       let r = rest u lent stretch w long in
       let f = filled u lent stretch w long in
-      let bound = done_few u f r (can_add u lent stretch w long (omega arith)).ready small (filled_octets w long) (octets_drop (block_bytes - u.kept) stretch os) in
+      let bound = done_few u f r (can_add u lent stretch w long (omega arith)).ready small (filled_octets w long)
+      (octets_drop (block_bytes - u.kept) stretch os) in
       omega (arith, ap (λ (g : Given). feed_size g.answer) is, added_size u f r (length old), bound, length-drop (block_bytes - u.kept) stretch)
 
   going_size : (w : WellFormed u lent) → u.ended ≡ ended.Going → feed_size (in_limits u lent stretch (length old)).answer < 2 ^ 54
   going_size w going = go (ltb most_fed (TakenBy u + length stretch)) refl (ltb (u.kept + length stretch) block_bytes) refl
     where
-      go : (a : Bool) → ltb most_fed (TakenBy u + length stretch) ≡ a → (b : Bool) → ltb (u.kept + length stretch) block_bytes ≡ b → feed_size (in_limits u lent stretch (length old)).answer < 2 ^ 54
-      go true p b q = omega (arith, ap (λ (g : Given). feed_size g.answer) (past_most u lent stretch (length old) (ltb-true most_fed (TakenBy u + length stretch) p)))
+      go : (a : Bool) → ltb most_fed (TakenBy u + length stretch) ≡ a → (b : Bool) → ltb (u.kept + length stretch) block_bytes ≡ b
+          → feed_size (in_limits u lent stretch (length old)).answer < 2 ^ 54
+      go true p b q = omega
+          (arith, ap (λ (g : Given). feed_size g.answer) (past_most u lent stretch (length old) (ltb-true most_fed (TakenBy u + length stretch) p)))
       go false p true q =
           let fed : Fed = record { answer = answer.Length 0; upload = kept_more u (length stretch) } in
           let few = ltb-false most_fed (TakenBy u + length stretch) p in
           let short = ltb-true (u.kept + length stretch) block_bytes q in
-          let f = kept_more_lem u lent stretch old {r = fed} {after = sets lent (block_bytes + u.kept) stretch} w going (omega (arith, few)) short (refl, refl, refl) in
+          let f = kept_more_lem u lent stretch old {r = fed} {after = sets lent (block_bytes + u.kept) stretch} w going (omega (arith, few)) short
+          (refl, refl, refl) in
           omega (arith, ap feed_size f.answer)
       go false p false q =
           let few = ltb-false most_fed (TakenBy u + length stretch) p in

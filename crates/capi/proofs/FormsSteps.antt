@@ -32,7 +32,8 @@ use Rattle.forms.specs.declared.Conversion.{Conversion}
 use Rattle.forms.specs.declared.Begin.{Begin}
 use Rattle.forms.specs.declared.Step.{Step}
 use Rattle.forms.specs.Packing.{full, last_block}
-use Rattle.forms.specs.Conversions.{to_shape, held_in, sound, begin_fault, begin_bytes, begin_by, Began, next_of, call_next, bytes_in, Carried, carries, carried_by, after_of, TakesBlock, close_fault, close_bytes}
+use Rattle.forms.specs.Conversions.{to_shape, held_in, sound, begin_fault, begin_bytes, begin_by, Began, next_of}
+use Rattle.forms.specs.Conversions.{call_next, bytes_in, Carried, carries, carried_by, after_of, TakesBlock, close_fault, close_bytes}
 use Rattle.forms.proofs.Held.{is_sound_lem}
 use Rattle.forms.proofs.Packed.{full_fits, length-full}
 use Rattle.forms.proofs.Whole.{brings, few_brought}
@@ -78,7 +79,8 @@ begin_size_lem b old w = omega (arith, ap begin_size w.answers, go (zeroth_of b)
         let a = accepted b (zeroth_label b e) in
         let new = begin_bytes b (zeroth.Label form n ssrc) in
         let long : length new ≡ 512 = length-label_block (shape_of (other_form form)) (take n (body_of b)) ssrc (omega (arith, a.block.long, a.block.room)) in
-        let short = wrote_size {fault = none} {new = new} {old = old} {answer = written none new old} 512 (λ _. omega (arith, long)) (record { answers = refl; stores = refl }) in
+        let short = wrote_size {fault = none} {new = new} {old = old} {answer = written none new old} 512 (λ _. omega (arith, long))
+        (record { answers = refl; stores = refl }) in
         omega (arith, short, begun_size form n ssrc (written none new old))
 
 -- ---- a later block
@@ -103,13 +105,17 @@ module _ (words part block old : List ℕ) where
     forms_stepped {s} {r} {left} {kept} {out} w l =
         let h = held words e in
         record {
-          takes = subst₂ (λ (x : Conversion) (n : Next (List Record)). Takes length_code words_of words (carries x part) (carried_by x part n) (bytes_in x part n) old r left out) h.2 next_is
+          takes = subst₂ (λ (x : Conversion) (n : Next (List Record)). Takes length_code words_of words (carries x part) (carried_by x part n)
+              (bytes_in x part n) old r left out) h.2 next_is
               (takes_step length_code words_of words w l);
-          holds = ap (λ (k : Carried). k.part) (w.after ∙ ap (state_after (carries c part) (carried_by c part (call_next c part block))) w.wrote.answers ∙ (λ i. after_of (h.2 i) part (next_is i) old));
+          holds = ap (λ (k : Carried). k.part)
+              (w.after ∙ ap (state_after (carries c part) (carried_by c part (call_next c part block))) w.wrote.answers
+              ∙ (λ i. after_of (h.2 i) part (next_is i) old));
         }
 
 -- two blocks are the most that a call writes
-two_most : (form : Form) (k held n : ℕ) → held < (shape_of (other_form form)).most → n ≤ (shape_of form).most → k * (shape_of (other_form form)).most ≤ held + n → k ≤ 2
+two_most : (form : Form) (k held n : ℕ) → held < (shape_of (other_form form)).most → n ≤ (shape_of form).most
+    → k * (shape_of (other_form form)).most ≤ held + n → k ≤ 2
 two_most One k held n h f e = omega arith
 two_most Two k held n h f e = omega arith
 
@@ -121,7 +127,8 @@ module _ (c : Conversion) (part block : List ℕ) where
       let fit = full_fits (to_shape c) rs in
       let many = length-append (held_in c part) records in
       let kept = length-records_in (to_shape c) c.held part in
-      let few = two_most c.form (full (to_shape c) rs) c.held (length records) (is_sound_lem g).few (few_brought (brings c.form c.ssrc block e)) (omega (arith, fit, many, kept)) in
+      let few = two_most c.form (full (to_shape c) rs) c.held (length records) (is_sound_lem g).few (few_brought (brings c.form c.ssrc block e))
+      (omega (arith, fit, many, kept)) in
       omega (arith, few, length-full (to_shape c) c.ssrc (fits (other_form c.form)).room (full (to_shape c) rs) rs fit)
 
   call_long : length (bytes_in c part (call_next c part block)) ≤ 1024

@@ -67,6 +67,8 @@ spaced_size_lem b old w = omega (arith, ap spaced_size w.answers, go (zeroth_of 
         let a = accepted b (zeroth_label b e) in
         let text : List ℕ = take n (body_of b) in
         let new : List ℕ = block_spaced b (zeroth.Label form n ssrc) in
-        let long : length new ≡ 512 = length-label_block (shape_of form) (spaced_label text) ssrc (omega (arith, length-spaced text, a.block.long, a.block.room)) in
-        let short = wrote_size {fault = none} {new = new} {old = old} {answer = written none new old} 512 (λ _. omega (arith, long)) (record { answers = refl; stores = refl }) in
+        let long : length new ≡ 512 = length-label_block (shape_of form) (spaced_label text) ssrc
+        (omega (arith, length-spaced text, a.block.long, a.block.room)) in
+        let short = wrote_size {fault = none} {new = new} {old = old} {answer = written none new old} 512 (λ _. omega (arith, long))
+        (record { answers = refl; stores = refl }) in
         by_answer (retired_in text) 512 (written none new old) (omega (arith, retired_few text, a.block.long, a.block.room)) short

@@ -29,7 +29,8 @@ use Rattle.sources.specs.declared.Counted.{Counted}
 use Rattle.sources.specs.Places.{empty_place, held_of, rest_of}
 use Rattle.sources.specs.Rules.{rising, rules, all_sound, fault}
 use Rattle.sources.specs.Stands.{stands_at, found, is_new, record_in, put, record_of, new_to, with_place}
-use Rattle.sources.specs.Answers.{refusal, kept, told, told_unless, arrive_answer, arrive_places, outside, behind, told_block, block_unless, count_answer, count_places}
+use Rattle.sources.specs.Answers.{refusal, kept, told, told_unless, arrive_answer, arrive_places}
+use Rattle.sources.specs.Answers.{outside, behind, told_block, block_unless, count_answer, count_places}
 use Rattle.sources.specs.Tables as table
 use Rattle.sources.proofs.Found.{rising_first, rising_rest}
 use Rattle.sources.proofs.Fronts.{front_is, front_rest, front_le}
@@ -204,8 +205,11 @@ module _ (words : List ℕ) (ssrc at : ℕ) (t : Told words ssrc at) where
   set_is : (p : Place) → p.ssrc ≡ ssrc → with_place p ps ≡ set ps at p
   unfolding with_place
   set_is p e =
-      let put_at_lem : put p hs ≡ set hs at p = put_is p 0 hs rises ∙ (λ i. cond (is_new (found (e i) hs)) (take (stands_at (e i) hs) hs ++ p ∷ drop (stands_at (e i) hs) hs) (set hs (stands_at (e i) hs) p)) ∙ rw (is_found, stands) in
-      let whole_set : put p hs ++ rest_of ps ≡ set ps at p = ap (λ (l : List Place). l ++ rest_of ps) put_at_lem ∙ sym (set-append_left hs (rest_of ps) at p t.inside) ∙ ap (λ (l : List Place). set l at p) (front_rest ps) in
+      let put_at_lem : put p hs ≡ set hs at p = put_is p 0 hs rises
+      ∙ (λ i. cond (is_new (found (e i) hs)) (take (stands_at (e i) hs) hs ++ p ∷ drop (stands_at (e i) hs) hs) (set hs (stands_at (e i) hs) p))
+      ∙ rw (is_found, stands) in
+      let whole_set : put p hs ++ rest_of ps ≡ set ps at p = ap (λ (l : List Place). l ++ rest_of ps) put_at_lem
+      ∙ sym (set-append_left hs (rest_of ps) at p t.inside) ∙ ap (λ (l : List Place). set l at p) (front_rest ps) in
       ap (take (length ps)) whole_set ∙ take_all (length ps) (set ps at p) (omega (arith, length-set ps at p))
 
   set-is_put : (p : Place) → p.ssrc ≡ ssrc → table_words (with_place p ps) ≡ put_at words at p
@@ -243,7 +247,8 @@ module _ (words : List ℕ) (ssrc at : ℕ) (t : Told words ssrc at) where
       unfolding arrive_places
       next_is = go (ltb 3 mark) refl
         where
-          go : (b : Bool) → ltb 3 mark ≡ b → arrived_words words (table_words (arrive_places ps ssrc w mark)) (told a) ≡ arrived_words words (put_at words at next) (told a)
+          go : (b : Bool) → ltb 3 mark ≡ b
+              → arrived_words words (table_words (arrive_places ps ssrc w mark)) (told a) ≡ arrived_words words (put_at words at next) (told a)
           go true m =
               let k = ap told (sym e ∙ limits m) in
               ap (arrived_words words (table_words (arrive_places ps ssrc w mark))) k ∙ sym (ap (arrived_words words (put_at words at next)) k)

@@ -36,7 +36,8 @@ module _ (words : List ℕ) (fault : Source → Option Refusal) (bytes : Source 
   held_wrote e w = let h = held words e in rw (h.1, ← h.2) w
 
   -- words that are no record's are refused
-  pub other_wrote : loaded words ≡ Malformed → Wrote (record_fault words (fault (source_of words))) (bytes (source_of words)) old (NotWritten refusal.Malformed) old
+  pub other_wrote : loaded words ≡ Malformed
+      → Wrote (record_fault words (fault (source_of words))) (bytes (source_of words)) old (NotWritten refusal.Malformed) old
   unfolding record_fault
   other_wrote e = wrote_refused (bytes (source_of words)) old (rw (other words e))
 
@@ -55,11 +56,13 @@ module _ (words : List ℕ) (wire mark : ℕ) where
     unfolding source_words
     stored next = sets-whole words (source_words next) (held words e).0
 
-    pub arrives_next : {next : Source} → arrival s (record { 0 = wire }) mark ≡ Accepted next → CountsArrival words wire mark 0 (sets words 0 (source_words next))
+    pub arrives_next : {next : Source} → arrival s (record { 0 = wire }) mark ≡ Accepted next
+        → CountsArrival words wire mark 0 (sets words 0 (source_words next))
     unfolding arrive_answer arrive_words
     arrives_next {next} f = let t = (held words e).1 in record { answers = rw (t, here f); stores = rw (t, here f) (stored next) }
 
-    pub arrives_restarted : {next : Source} → arrival s (record { 0 = wire }) mark ≡ Restarted next → CountsArrival words wire mark 128 (sets words 0 (source_words next))
+    pub arrives_restarted : {next : Source} → arrival s (record { 0 = wire }) mark ≡ Restarted next
+        → CountsArrival words wire mark 128 (sets words 0 (source_words next))
     unfolding arrive_answer arrive_words
     arrives_restarted {next} f = let t = (held words e).1 in record { answers = rw (t, here f); stores = rw (t, here f) (stored next) }
 

@@ -52,7 +52,8 @@ arrives_in_turn s [] e r n = record { left = refl; answers = refl }
 arrives_in_turn s (c ∷ cs) e r n =
     let left = left_of_lem s c e r in
     let wire = ltb-true _ _ (and_left _ _ n) in
-    let rest = arrives_in_turn (after (arrives s c)) cs (sound_stays s (record { 0 = c.0 }) c.1 wire e) (typed_stays s (record { 0 = c.0 }) c.1 r) (and_right (wire_fits c) _ n) in
+    let rest = arrives_in_turn (after (arrives s c)) cs (sound_stays s (record { 0 = c.0 }) c.1 wire e) (typed_stays s (record { 0 = c.0 }) c.1 r)
+    (and_right (wire_fits c) _ n) in
     record {
       left = ap (λ (w : List ℕ). arrive_chain w cs) left ∙ rest.left;
       answers = ap₂ (λ (a : ℕ) (l : List ℕ). a ∷ l) (answer_of_lem s c e r) (ap (λ (w : List ℕ). arrive_codes w cs) left ∙ rest.answers);

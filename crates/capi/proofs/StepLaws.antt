@@ -1,18 +1,13 @@
 -- A function that takes one block, in what it answers and leaves. Assumes nothing.
 use mathlib.Core.Path.{◌≡◌, refl, sym, ap, ap₂, ◌∙◌}
-use mathlib.Core.Logic.{⊎_elim}
-use mathlib.Core.List.{List, [], ◌∷◌}
+use mathlib.Core.List.{List}
 use Prim.Native.Nat.{ℕ}
-use native.Mathlib.Omega.{arith}
-use denote.Enum.Declared.{tag_of}
-use types.Run.{OneOf}
 use lib.ListN.{length}
 use lib.Seq.{sets}
 use Rattle.answers.specs.Writers.{written, stored}
 use Rattle.answers.specs.declared.Refusal.{Refusal}
 use Rattle.answers.specs.declared.Written.{Written}
 use Rattle.answers.specs.declared.Written.TheVariants.{Length, Room, Refused}
-use Rattle.answers.specs.contracts.Written.{the_type}
 use Rattle.walk.specs.Steps.{Next, refuses, state_after, Stepped}
 use Rattle.capi.specs.Codes.{Leaves}
 use Rattle.capi.specs.StepCalls.{words_after, Takes}
@@ -21,14 +16,15 @@ use Rattle.capi.proofs.Fronts.{sets-whole}
 -- ---- the words of the next state in the place of the last, by the answer
 
 module _ {R : Type 0} (code : Written → R) (words next : List ℕ) (answer : Written) {r : R} (told : r ≡ code answer) where
-  pub words_stored : {n : ℕ} {left : List ℕ} → answer ≡ Length n → length words ≡ length next → left ≡ sets words 0 next → Leaves (code answer) (words_after words next answer) r left
+  pub words_stored : {n : ℕ} {left : List ℕ} → answer ≡ Length n → length words ≡ length next → left ≡ sets words 0 next
+      → Leaves (code answer) (words_after words next answer) r left
   words_stored e h k = record { answers = told; stores = k ∙ sets-whole words next h ∙ sym (ap (words_after words next) e) }
 
-  pub words_kept : OneOf (1 ∷ 2 ∷ []) (tag_of the_type answer) → Leaves (code answer) (words_after words next answer) r words
+  pub words_kept : ((n : ℕ) → answer ≡ Length n → ⊥) → Leaves (code answer) (words_after words next answer) r words
   words_kept h = record { answers = told; stores = go answer h }
     where
-      go : (w : Written) → OneOf (1 ∷ 2 ∷ []) (tag_of the_type w) → words ≡ words_after words next w
-      go (Length n) h = ⊎_elim (λ z. absurd (omega arith)) (λ z. absurd (omega arith)) h
+      go : (w : Written) → ((n : ℕ) → w ≡ Length n → ⊥) → words ≡ words_after words next w
+      go (Length n) h = absurd (h n refl)
       go (Room n) h = refl
       go (Refused refusal) h = refl
 
@@ -50,6 +46,7 @@ module _ {R A : Type 0} (code : Written → R) (words_of : A → List ℕ) (word
   takes_none e = record { answers = rw e; keeps = rw e; stores = rw e }
 
 -- with an equal answer
-pub takes_as : {R A : Type 0} {code : Written → R} {words_of : A → List ℕ} {words : List ℕ} {given : A} {next : Next A} {bytes old left out : List ℕ} {r told : R}
+pub takes_as : {R A : Type 0} {code : Written → R} {words_of : A → List ℕ} {words : List ℕ} {given : A} {next : Next A} {bytes old left out : List ℕ}
+    {r told : R}
     → r ≡ told → Takes code words_of words given next bytes old told left out → Takes code words_of words given next bytes old r left out
 takes_as e t = record { answers = e ∙ t.answers; keeps = t.keeps; stores = t.stores }

@@ -51,10 +51,12 @@ module _ (words ws block : List ℕ) where
     unfolding streams_next
     next_is = rw (taken words ws e).0 (ap (λ (x : Run). call_next x block) given)
 
-    pub streams_stepped : {s : Step} {r : ℕ} {left kept : List ℕ} → TakesBlock run (call_next run block) s → kept ≡ words_after ws (stored_lines ws s.run) s.answer
+    pub streams_stepped : {s : Step} {r : ℕ} {left kept : List ℕ} → TakesBlock run (call_next run block) s
+        → kept ≡ words_after ws (stored_lines ws s.run) s.answer
         → Leaves (refusal_code s.answer) (words_after words (run_words s.run) s.answer) r left → TakesStreams words ws block r left kept
     streams_stepped {s} {r} {left} {kept} w k l = record {
-      takes = subst₂ (λ (x : Run) (n : Next Run). Takes refusal_code run_words words x n [] [] r left []) given next_is (takes_step refusal_code run_words words w l);
+      takes = subst₂ (λ (x : Run) (n : Next Run). Takes refusal_code run_words words x n [] [] r left []) given next_is
+          (takes_step refusal_code run_words words w l);
       holds = subst₂ (λ (x : Run) (n : Next Run). Takes refusal_code (stored_lines ws) ws x n [] [] r kept []) given next_is
           (takes_step refusal_code (stored_lines ws) ws w (record { answers = l.answers; stores = k }));
     }
@@ -66,14 +68,16 @@ held_line_lem : (run : Run) (i : ℕ) (zeroth : List ℕ) → row_fault run i ze
 unfolding row_fault
 held_line_lem run i zeroth e = go (rows_fault run zeroth) refl (leb (length (held_of (lent run.table))) i) refl e
   where
-    go : (f : Option Refusal) → rows_fault run zeroth ≡ f → (b : Bool) → leb (length (held_of (lent run.table))) i ≡ b → or_else f (cond b (some Limits) none) ≡ none
+    go : (f : Option Refusal) → rows_fault run zeroth ≡ f → (b : Bool) → leb (length (held_of (lent run.table))) i ≡ b
+        → or_else f (cond b (some Limits) none) ≡ none
         → (f ≡ none) × (i < length (held_of (lent run.table)))
     go none rf false rb e = (refl, leb-false (length (held_of (lent run.table))) i rb)
     go none rf true rb e = let z : ◌≡◌ {A = ℕ} 0 1 = cc in absurd (omega arith)
     go (some r) rf b rb e = let z : ◌≡◌ {A = ℕ} 0 1 = cc in absurd (omega arith)
 
 module _ (words : List ℕ) (i : ℕ) (ws zeroth old : List ℕ) where
-  pub row_refused : {r : Refusal} → (loaded words ws).answer ≡ Refused r → Wrote (line_fault words i ws zeroth) (row_of (run_of words ws) i zeroth) old (written.Refused r) old
+  pub row_refused : {r : Refusal} → (loaded words ws).answer ≡ Refused r
+      → Wrote (line_fault words i ws zeroth) (row_of (run_of words ws) i zeroth) old (written.Refused r) old
   unfolding line_fault
   row_refused e = wrote_refused (row_of (run_of words ws) i zeroth) old (rw (not_taken words ws e))
 

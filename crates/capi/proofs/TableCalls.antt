@@ -33,7 +33,8 @@ use Rattle.sources.specs.declared.TableCounted.{TableCounted}
 use Rattle.sources.specs.Places.{empty_place, held_of}
 use Rattle.sources.specs.Rules.{most_places, rules, all_sound, fault}
 use Rattle.sources.specs.Stands.{stands_at, record_of, new_to}
-use Rattle.sources.specs.Answers.{or_else, refusal, seatless, outside, told_unless, block_unless, told_block, arrive_answer, arrive_places, count_answer, count_places}
+use Rattle.sources.specs.Answers.{or_else, refusal, seatless, outside, told_unless}
+use Rattle.sources.specs.Answers.{block_unless, told_block, arrive_answer, arrive_places, count_answer, count_places}
 use Rattle.sources.specs.Compounds.{compound_bytes}
 use Rattle.sources.specs.Tables as table
 use Rattle.sources.proofs.Fronts.{front_le}
@@ -44,7 +45,8 @@ use Rattle.lent.specs.TableWords.{place_words, table_words, places_in, are_place
 use Rattle.lent.proofs.PlaceRuns.{length-table}
 use Rattle.lent.proofs.Taking.{Fit, taken, not_taken}
 use Rattle.capi.specs.Codes.{refusal_code}
-use Rattle.capi.specs.Tables.{arrived_unless, table_arrived, arrived_code, arrived_words, CountsTableArrival, counted_unless, table_counted, counted_code, counted_words, CountsTableBlock, unheld, GivesPlace, held_code, TellsHeld}
+use Rattle.capi.specs.Tables.{arrived_unless, table_arrived, arrived_code, arrived_words, CountsTableArrival, counted_unless, table_counted}
+use Rattle.capi.specs.Tables.{counted_code, counted_words, CountsTableBlock, unheld, GivesPlace, held_code, TellsHeld}
 use Rattle.capi.specs.TableSteps.{stored_over, LeavesArrived, LeavesCounted, jumps_in, restarts_in, GivesHeld, HeldIn}
 use Rattle.capi.proofs.Answers.{gives}
 use Rattle.capi.proofs.Fronts.{sets-whole}
@@ -71,11 +73,13 @@ module _ (words : List ℕ) where
 -- ---- one arrival
 
 -- the table's answer tells its own faults
-arrived_own : (ps : List Place) (ssrc : ℕ) (wire : Wire) (mark : ℕ) → arrived_unless (fault ps) (arrive_answer ps ssrc wire mark) ≡ arrive_answer ps ssrc wire mark
+arrived_own : (ps : List Place) (ssrc : ℕ) (wire : Wire) (mark : ℕ)
+    → arrived_unless (fault ps) (arrive_answer ps ssrc wire mark) ≡ arrive_answer ps ssrc wire mark
 unfolding arrive_answer refusal
 arrived_own ps ssrc wire mark = go (fault ps) (arrival (record_of ssrc ps) wire mark)
   where
-    go : (f : Option Refusal) (a : Arrival) → arrived_unless f (told_unless (or_else f (seatless (ltb 3 mark) ssrc ps)) a) ≡ told_unless (or_else f (seatless (ltb 3 mark) ssrc ps)) a
+    go : (f : Option Refusal) (a : Arrival)
+        → arrived_unless f (told_unless (or_else f (seatless (ltb 3 mark) ssrc ps)) a) ≡ told_unless (or_else f (seatless (ltb 3 mark) ssrc ps)) a
     go (some r) a = refl
     go none a = refl
 
@@ -92,28 +96,35 @@ module _ (words : List ℕ) (ssrc wire mark : ℕ) where
       let w : Wire = record { 0 = wire } in
       let ps = places_in words in
       let from = et ∙ f.table in
-      let answer = (arrived_back ps ssrc w mark t given from eg).answer ∙ sym (arrived_own ps ssrc w mark) ∙ ap (λ (x : Option Refusal). arrived_unless x (arrive_answer ps ssrc w mark)) (sym f.faults) in
-      let places = ap (λ (x : TableArrived). table.lent x.table) (eg ∙ ap (λ (x : Table). table.arrived_in x ssrc w mark) from) ∙ arrived_lent ps ssrc w mark f.short in
+      let answer = (arrived_back ps ssrc w mark t given from eg).answer ∙ sym (arrived_own ps ssrc w mark)
+      ∙ ap (λ (x : Option Refusal). arrived_unless x (arrive_answer ps ssrc w mark)) (sym f.faults) in
+      let places = ap (λ (x : TableArrived). table.lent x.table) (eg ∙ ap (λ (x : Table). table.arrived_in x ssrc w mark) from)
+      ∙ arrived_lent ps ssrc w mark f.short in
       let next = stored_whole words f given.table (arrive_places ps ssrc w mark) places (arrive_long ps ssrc w mark) in
       record { answers = l.answers ∙ ap arrived_code answer; stores = l.stores ∙ ap₂ (arrived_words words) next answer }
 
 -- ---- a block
 
-counted_own : (ps : List Place) (ssrc width : ℕ) (bytes : List ℕ) → counted_unless (fault ps) (count_answer ps ssrc width bytes) ≡ count_answer ps ssrc width bytes
+counted_own : (ps : List Place) (ssrc width : ℕ) (bytes : List ℕ)
+    → counted_unless (fault ps) (count_answer ps ssrc width bytes) ≡ count_answer ps ssrc width bytes
 unfolding count_answer refusal
 counted_own ps ssrc width bytes = go (fault ps) (told_block (stands_at ssrc (held_of ps)) (new_to ssrc ps) (block_count (record_of ssrc ps) width bytes))
   where
-    go : (f : Option Refusal) (c : Counted) → counted_unless f (block_unless (or_else f (seatless (outside width bytes) ssrc ps)) c) ≡ block_unless (or_else f (seatless (outside width bytes) ssrc ps)) c
+    go : (f : Option Refusal) (c : Counted)
+        → counted_unless f (block_unless (or_else f (seatless (outside width bytes) ssrc ps)) c) ≡ block_unless
+        (or_else f (seatless (outside width bytes) ssrc ps)) c
     go (some r) c = refl
     go none c = refl
 
 -- a block has at most 62 jumps, and as many restarts
-few_told : (ps : List Place) (ssrc width : ℕ) (bytes : List ℕ) → (jumps_in (count_answer ps ssrc width bytes) ≤ 62) × (restarts_in (count_answer ps ssrc width bytes) ≤ 62)
+few_told : (ps : List Place) (ssrc width : ℕ) (bytes : List ℕ) → (jumps_in (count_answer ps ssrc width bytes) ≤ 62)
+    × (restarts_in (count_answer ps ssrc width bytes) ≤ 62)
 unfolding count_answer
 few_told ps ssrc width bytes = go (refusal (outside width bytes) ssrc ps) (block_count (record_of ssrc ps) width bytes) refl
   where
     go : (f : Option Refusal) (b : BlockCount) → block_count (record_of ssrc ps) width bytes ≡ b
-        → (jumps_in (block_unless f (told_block (stands_at ssrc (held_of ps)) (new_to ssrc ps) b)) ≤ 62) × (restarts_in (block_unless f (told_block (stands_at ssrc (held_of ps)) (new_to ssrc ps) b)) ≤ 62)
+        → (jumps_in (block_unless f (told_block (stands_at ssrc (held_of ps)) (new_to ssrc ps) b)) ≤ 62)
+        × (restarts_in (block_unless f (told_block (stands_at ssrc (held_of ps)) (new_to ssrc ps) b)) ≤ 62)
     go (some r) b e = (omega arith, omega arith)
     go none (block.Counted s jumps restarts) e = (few_jumps (record_of ssrc ps) width bytes e, few_restarts (record_of ssrc ps) width bytes e)
     go none (block.Refused r s) e = (omega arith, omega arith)
@@ -123,7 +134,8 @@ module _ (words : List ℕ) (ssrc width : ℕ) (records : List ℕ) where
   unfolding table_counted
   counts_refused e = let f = not_taken words e in record { answers = rw f; stores = rw f }
 
-  module _ {t : Table} {given : TableCounted} (e : (loaded words).answer ≡ Taken) (et : t ≡ (loaded words).table) (eg : given ≡ table.counted_in t ssrc width records) where
+  module _ {t : Table} {given : TableCounted} (e : (loaded words).answer ≡ Taken) (et : t ≡ (loaded words).table)
+      (eg : given ≡ table.counted_in t ssrc width records) where
     told : given.answer ≡ count_answer (places_in words) ssrc width records
     told = (counted_back (places_in words) ssrc width records t given (et ∙ (taken words e).table) eg).answer
 
@@ -135,15 +147,18 @@ module _ (words : List ℕ) (ssrc width : ℕ) (records : List ℕ) where
     counts_taken l =
         let f = taken words e in
         let ps = places_in words in
-        let answer = told ∙ sym (counted_own ps ssrc width records) ∙ ap (λ (x : Option Refusal). counted_unless x (count_answer ps ssrc width records)) (sym f.faults) in
-        let places = ap (λ (x : TableCounted). table.lent x.table) (eg ∙ ap (λ (x : Table). table.counted_in x ssrc width records) (et ∙ f.table)) ∙ counted_lent ps ssrc width records f.short in
+        let answer = told ∙ sym (counted_own ps ssrc width records)
+        ∙ ap (λ (x : Option Refusal). counted_unless x (count_answer ps ssrc width records)) (sym f.faults) in
+        let places = ap (λ (x : TableCounted). table.lent x.table) (eg ∙ ap (λ (x : Table). table.counted_in x ssrc width records) (et ∙ f.table))
+        ∙ counted_lent ps ssrc width records f.short in
         let next = stored_whole words f given.table (count_places ps ssrc width records) places (count_long ps ssrc width records) in
         record { answers = l.answers ∙ ap counted_code answer; stores = l.stores ∙ ap₂ (counted_words words) next answer }
 
 -- ---- the compound
 
 module _ (words : List ℕ) (sender : ℕ) (old : List ℕ) where
-  pub compound_refused : {r : Refusal} → (loaded words).answer ≡ Refused r → Wrote (words_fault words) (compound_bytes sender (places_in words)) old (NotWritten r) old
+  pub compound_refused : {r : Refusal} → (loaded words).answer ≡ Refused r
+      → Wrote (words_fault words) (compound_bytes sender (places_in words)) old (NotWritten r) old
   compound_refused e = wrote_refused (compound_bytes sender (places_in words)) old (not_taken words e)
 
   module _ {t : Table} {answer : Written} {out : List ℕ} (e : (loaded words).answer ≡ Taken) (et : t ≡ (loaded words).table)
@@ -167,14 +182,16 @@ module _ (words : List ℕ) (place : ℕ) (old : List ℕ) where
   pub place_refused : {r : Refusal} → (loaded words).answer ≡ Refused r → GivesPlace words place old (number_of r) old
   place_refused e = gives refusal_code (wrote_refused _ old (ap (λ (x : Option Refusal). or_else x (unheld (places_in words) place)) (not_taken words e))) refl
 
-  pub place_taken : {t : Table} {r : ℕ} {out : List ℕ} → (loaded words).answer ≡ Taken → t ≡ (loaded words).table → GivesHeld t place old r out → GivesPlace words place old r out
+  pub place_taken : {t : Table} {r : ℕ} {out : List ℕ} → (loaded words).answer ≡ Taken → t ≡ (loaded words).table → GivesHeld t place old r out
+      → GivesPlace words place old r out
   place_taken {t} e et g =
       let f = taken words e in
       let from = et ∙ f.table in
       let faults : table.fault_in t ≡ words_fault words = ap (λ (x : Table). table.fault_in x) from ∙ few_fault (places_in words) f.short ∙ sym f.faults in
       let places : table.lent t ≡ places_in words = ap (λ (x : Table). table.lent x) from ∙ few_lent (places_in words) f.short in
       record {
-        answers = g.answers ∙ (λ i. refusal_code (written (or_else (faults i) (unheld (places i) place)) (place_words (get_or (places i) place empty_place)) old));
+        answers = g.answers ∙ (λ i. refusal_code
+            (written (or_else (faults i) (unheld (places i) place)) (place_words (get_or (places i) place empty_place)) old));
         stores = g.stores ∙ (λ i. stored (or_else (faults i) (unheld (places i) place)) (place_words (get_or (places i) place empty_place)) old);
       }
 

@@ -115,7 +115,8 @@ zero_places (suc n) words z =
     let rest = drop 11 words in
     ap (λ (p : Place). empty p && all (map empty (places_by place_of n rest))) (zero_place words z) ∙ zero_places n rest (zero_behind words z)
 
-zero_front : (n : ℕ) (words : List ℕ) → AllZero words → (held_of (places_by place_of n words) ≡ []) × (rest_of (places_by place_of n words) ≡ places_by place_of n words)
+zero_front : (n : ℕ) (words : List ℕ) → AllZero words → (held_of (places_by place_of n words) ≡ [])
+    × (rest_of (places_by place_of n words) ≡ places_by place_of n words)
 unfolding places_by held_of rest_of
 zero_front zero words z = (refl, refl)
 zero_front (suc n) words z =
@@ -175,7 +176,8 @@ first_word words k = let e : k + 0 ≡ k = omega arith in get_or-drop k words 0 
 abbrev pub Left : List ℕ → ℕ → ℕ → ℕ → Type 0
 Left words n least i = (k : ℕ) → Rest least (n - i) (drop (11 * i) words) k → Rest 0 n words (i + k)
 
-pub turn : (words : List ℕ) (n least i : ℕ) → i < n → Left words n least i → Fine least (drop (11 * i) words) → Left words n (get_or words (11 * i) 0 + 1) (i + 1)
+pub turn : (words : List ℕ) (n least i : ℕ) → i < n → Left words n least i → Fine least (drop (11 * i) words)
+    → Left words n (get_or words (11 * i) 0 + 1) (i + 1)
 turn words n least i h left f k r =
     let here = drop (11 * i) words in
     let first = first_word words (11 * i) in
@@ -206,7 +208,8 @@ start words n k r =
 abbrev pub Named : List ℕ → ℕ → ℕ → ℕ → Type 0
 Named words ssrc i at = (at < i) × (get_or words (11 * at) 0 ≡ ssrc)
 
-pub named : (words : List ℕ) (ssrc i at r : ℕ) → r ≡ cond (eqb (get_or words (11 * i) 0) ssrc) i at → (at < 16 → Named words ssrc i at) → r < 16 → Named words ssrc (i + 1) r
+pub named : (words : List ℕ) (ssrc i at r : ℕ) → r ≡ cond (eqb (get_or words (11 * i) 0) ssrc) i at → (at < 16 → Named words ssrc i at) → r < 16
+    → Named words ssrc (i + 1) r
 named words ssrc i at r e before h = go (eqb (get_or words (11 * i) 0) ssrc) refl e
   where
     go : (b : Bool) → eqb (get_or words (11 * i) 0) ssrc ≡ b → r ≡ cond b i at → Named words ssrc (i + 1) r

@@ -1,5 +1,5 @@
--- Many calls of flasknib_feed on one upload, each on the words and the lent bytes that the one before left, and then flasknib_feed_close (include/flasknib.h, "a
--- trace that arrives bit by bit"; document 02, request L7).
+-- Many calls of flasknib_feed on one upload, each on the words and the lent bytes that the one before left, and then flasknib_feed_close (include/flasknib.h,
+-- "a trace that arrives bit by bit"; document 02, request L7).
 use Rattle.std.specs.Prelude.{◌≡◌, List, [], ◌∷◌, ◌++◌, ℕ, suc, ◌^◌, ◌≤◌, ◌<◌, length, get_or, replicate}
 use Rattle.std.proofs.Math.Option.{Option, none, some}
 use Rattle.answers.specs.Refusals.{number_of}

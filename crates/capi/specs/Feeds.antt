@@ -1,4 +1,5 @@
--- What the functions of a trace that arrives bit by bit answer, and what they leave in what they were lent (include/flasknib.h, "a trace that arrives bit by bit").
+-- What the functions of a trace that arrives bit by bit answer, and what they leave in what they were lent (include/flasknib.h,
+-- "a trace that arrives bit by bit").
 use Rattle.std.specs.Prelude.{ℕ, ◌+◌, ◌*◌, ◌≡◌, cond, List, ◌++◌, ℤ, pos, neg_ℤ, length, drop}
 use Rattle.answers.specs.Refusals.{number_of, room_number}
 use Rattle.answers.specs.declared.Refusal.TheVariants.{Malformed}
@@ -20,7 +21,8 @@ fed_of words lent stretch room =
     cond (is_upload words) (feed_of (upload_of words) lent stretch room)
     (unchanged (upload_of words) lent (answer.Refused Malformed))
 
--- the length of the rows, or minus the refusal; 256 times, with 12 the bytes that they would take, and with a block's refusal those that the rows before it took
+-- the length of the rows, or minus the refusal; 256 times, with 12 the bytes that they would take, and with a block's refusal those that the rows before it
+-- took
 abbrev pub feed_code : FeedAnswer → ℤ
 feed_code (answer.Length n) = pos n
 feed_code (answer.Room n) = neg_ℤ (pos (256 * n + room_number))

@@ -1,5 +1,5 @@
--- What a function of a run answers that takes one block, and what it leaves in what it was lent. The run, or whatever stands between two blocks, is a state in lent
--- words.
+-- What a function of a run answers that takes one block, and what it leaves in what it was lent. The run, or whatever stands between two blocks, is a state in
+-- lent words.
 use Rattle.std.specs.Prelude.{◌≡◌, List, ℕ}
 use Rattle.answers.specs.Writers.{written, stored}
 use Rattle.answers.specs.declared.Written.{Written}
@@ -13,7 +13,8 @@ words_after words next (Room n) = words
 words_after words next (Refused refusal) = words
 
 -- `next` is what the block brings to the state `given`, `bytes` what it prints
-pub record Takes {R A : Type 0} (code : Written → R) (words_of : A → List ℕ) (words : List ℕ) (given : A) (next : Next A) (bytes old : List ℕ) (r : R) (left out : List ℕ) : Type 0 where
+pub record Takes {R A : Type 0} (code : Written → R) (words_of : A → List ℕ) (words : List ℕ) (given : A) (next : Next A)
+    (bytes old : List ℕ) (r : R) (left out : List ℕ) : Type 0 where
   pub answers : r ≡ code (written (fault_in next) bytes old)
   pub keeps : left ≡ words_after words (words_of (state_after given next (written (fault_in next) bytes old))) (written (fault_in next) bytes old)
   pub stores : out ≡ stored (fault_in next) bytes old

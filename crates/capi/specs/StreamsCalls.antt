@@ -1,5 +1,5 @@
--- What the functions of a run of ecnstreams answer, and what they leave in what they were lent (include/flasknib.h, "a run of ecnstreams"). `words` are those of
--- the run, `ws` those of the lines.
+-- What the functions of a run of ecnstreams answer, and what they leave in what they were lent (include/flasknib.h, "a run of ecnstreams"). `words` are those
+-- of the run, `ws` those of the lines.
 use Rattle.std.specs.Prelude.{ℕ, cond, List, [], eqb, ℤ, length}
 use Rattle.std.proofs.Math.Option.{Option}
 use Rattle.answers.specs.declared.Refusal.{Refusal}

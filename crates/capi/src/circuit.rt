@@ -2,7 +2,8 @@
 ghost use Rattle.std.specs.Prelude.{◌≡◌, length};
 ghost use Rattle.capi.specs.Codes.{Leaves};
 ghost use Rattle.breaker.specs.declared.Loss.TheVariants.{Fraction};
-ghost use Rattle.capi.specs.BreakerCalls.{answer_code, is_refused, record_in, left_by, PutsStart, StartsBreaker, StartsPreset, counts_given, TakesReport, TakesTick, TakesHeard};
+ghost use Rattle.capi.specs.BreakerCalls.{answer_code, is_refused, record_in, left_by, PutsStart, StartsBreaker};
+ghost use Rattle.capi.specs.BreakerCalls.{StartsPreset, counts_given, TakesReport, TakesTick, TakesHeard};
 
 use answers::Refusal;
 use breaker::{Answer, Breaker, EcnCounts, Loss, Report, Settings, Step};

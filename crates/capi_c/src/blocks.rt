@@ -44,7 +44,14 @@ pub extern "C" fn flasknib_space_label(zeroth: &[u8], out: &mut [u8]) -> i64
 
 // Writes an arrivals block of form 1 or 2. Gives its length, or minus refusal 10 or 12.
 #[unsafe(no_mangle)]
-pub extern "C" fn flasknib_write_arrivals(form: u8, times: &[u64], numbers: &[u16], marks: &[u8], ssrc: u32, out: &mut [u8]) -> i64
+pub extern "C" fn flasknib_write_arrivals(
+    form: u8,
+    times: &[u64],
+    numbers: &[u16],
+    marks: &[u8],
+    ssrc: u32,
+    out: &mut [u8],
+) -> i64
     ensures { WritesArrivals form times.now numbers.now marks.now ssrc out.old result out.new }
 {
     capi::blocks::flasknib_write_arrivals(form, times, numbers, marks, ssrc, out)

@@ -4,7 +4,15 @@ ghost use Rattle.capi.specs.BreakerCalls.{StartsBreaker, StartsPreset, counts_gi
 
 // Starts a breaker: Go and the record in the 77 words of `breaker`, or refusal 9 for another number of words, or 10.
 #[unsafe(no_mangle)]
-pub extern "C" fn flasknib_breaker_start(k: u64, m: u64, timeout: u64, reduce: u8, full: u8, time: u64, breaker: &mut [u64]) -> u16
+pub extern "C" fn flasknib_breaker_start(
+    k: u64,
+    m: u64,
+    timeout: u64,
+    reduce: u8,
+    full: u8,
+    time: u64,
+    breaker: &mut [u64],
+) -> u16
     ensures { StartsBreaker k m timeout reduce full time breaker.old result breaker.new }
 {
     capi::circuit::flasknib_breaker_start(k, m, timeout, reduce, full, time, breaker)
@@ -20,7 +28,15 @@ pub extern "C" fn flasknib_breaker_start_preset(time: u64, breaker: &mut [u64]) 
 
 // A report with the fraction lost.
 #[unsafe(no_mangle)]
-pub extern "C" fn flasknib_breaker_report(breaker: &mut [u64], time: u64, highest: u32, fraction: u64, rtt: u64, size: u64, rate: u64) -> u16
+pub extern "C" fn flasknib_breaker_report(
+    breaker: &mut [u64],
+    time: u64,
+    highest: u32,
+    fraction: u64,
+    rtt: u64,
+    size: u64,
+    rate: u64,
+) -> u16
     ensures { TakesReport breaker.old time highest (Fraction fraction) rtt size rate result breaker.new }
 {
     capi::circuit::flasknib_breaker_report(breaker, time, highest, fraction, rtt, size, rate)
@@ -28,10 +44,22 @@ pub extern "C" fn flasknib_breaker_report(breaker: &mut [u64], time: u64, highes
 
 // A report with ECN counts in the place of the fraction lost.
 #[unsafe(no_mangle)]
-pub extern "C" fn flasknib_breaker_report_ecn(breaker: &mut [u64], time: u64, highest: u32, lost: i64, marked: u64, expected: u64, rtt: u64, size: u64, rate: u64) -> u16
+pub extern "C" fn flasknib_breaker_report_ecn(
+    breaker: &mut [u64],
+    time: u64,
+    highest: u32,
+    lost: i64,
+    marked: u64,
+    expected: u64,
+    rtt: u64,
+    size: u64,
+    rate: u64,
+) -> u16
     ensures { TakesReport breaker.old time highest (counts_given lost marked expected) rtt size rate result breaker.new }
 {
-    capi::circuit::flasknib_breaker_report_ecn(breaker, time, highest, lost, marked, expected, rtt, size, rate)
+    capi::circuit::flasknib_breaker_report_ecn(
+        breaker, time, highest, lost, marked, expected, rtt, size, rate,
+    )
 }
 
 // A tick on the record in `breaker`: the answer, and the next record in its place.

@@ -12,7 +12,12 @@ pub extern "C" fn flasknib_forms_start(zeroth: &[u8], words: &mut [u64], out: &m
 // Takes a later block, and writes the blocks that are full. Gives their length and the next conversion in the place of the last, or minus refusal 9, 1, 13,
 // 14, 17 or 12.
 #[unsafe(no_mangle)]
-pub extern "C" fn flasknib_forms_block(words: &mut [u64], part: &mut [u8], block: &[u8], out: &mut [u8]) -> i64
+pub extern "C" fn flasknib_forms_block(
+    words: &mut [u64],
+    part: &mut [u8],
+    block: &[u8],
+    out: &mut [u8],
+) -> i64
     ensures { TakesForms words.old part.old block.now out.old result words.new part.new out.new }
 {
     capi::conversions::flasknib_forms_block(words, part, block, out)

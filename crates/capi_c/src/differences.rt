@@ -1,11 +1,11 @@
 // What came between two reports, counter by counter.
 ghost use Rattle.std.specs.Prelude.{◌≡◌};
-ghost use Rattle.numbers.specs.Since.{signed};
+ghost use Rattle.numbers.specs.Since.{since as since_of, signed};
 
 // The difference of two 16-bit counters.
 #[unsafe(no_mangle)]
 pub extern "C" fn flasknib_since16(later: u16, earlier: u16) -> u16
-    ensures { result ≡ sinceOf 16 later earlier }
+    ensures { result ≡ since_of 16 later earlier }
 {
     capi::differences::flasknib_since16(later, earlier)
 }
@@ -13,7 +13,7 @@ pub extern "C" fn flasknib_since16(later: u16, earlier: u16) -> u16
 // The difference of two 32-bit counters.
 #[unsafe(no_mangle)]
 pub extern "C" fn flasknib_since32(later: u32, earlier: u32) -> u32
-    ensures { result ≡ sinceOf 32 later earlier }
+    ensures { result ≡ since_of 32 later earlier }
 {
     capi::differences::flasknib_since32(later, earlier)
 }
@@ -21,7 +21,7 @@ pub extern "C" fn flasknib_since32(later: u32, earlier: u32) -> u32
 // The difference of two counters of lost packets, -32,768 to 32,767.
 #[unsafe(no_mangle)]
 pub extern "C" fn flasknib_lost_since(later: u16, earlier: u16) -> i16
-    ensures { result ≡ signed 16 (sinceOf 16 later earlier) }
+    ensures { result ≡ signed 16 (since_of 16 later earlier) }
 {
     capi::differences::flasknib_lost_since(later, earlier)
 }

@@ -19,7 +19,12 @@ pub extern "C" fn flasknib_count_block(words: &mut [u64], records: &[u8], width:
 
 // Writes the ECN feedback packet. Gives its length, or minus refusal 9 or 12.
 #[unsafe(no_mangle)]
-pub extern "C" fn flasknib_write_feedback(words: &[u64], sender: u32, media: u32, out: &mut [u8]) -> i64
+pub extern "C" fn flasknib_write_feedback(
+    words: &[u64],
+    sender: u32,
+    media: u32,
+    out: &mut [u8],
+) -> i64
     ensures { WritesFeedback words.now sender media out.old result out.new }
 {
     capi::one_source::flasknib_write_feedback(words, sender, media, out)

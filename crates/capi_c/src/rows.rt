@@ -11,7 +11,14 @@ pub extern "C" fn flasknib_write_head(out: &mut [u8]) -> i64
 
 // Writes a row of the table. Gives its length, or minus refusal 9, 10 or 12.
 #[unsafe(no_mangle)]
-pub extern "C" fn flasknib_write_row(label: &[u8], ssrc: u32, words: &[u64], jumped: u64, restarts: u64, out: &mut [u8]) -> i64
+pub extern "C" fn flasknib_write_row(
+    label: &[u8],
+    ssrc: u32,
+    words: &[u64],
+    jumped: u64,
+    restarts: u64,
+    out: &mut [u8],
+) -> i64
     ensures { WritesRow label.now ssrc words.now jumped restarts out.old result out.new }
 {
     capi::rows::flasknib_write_row(label, ssrc, words, jumped, restarts, out)

@@ -20,7 +20,13 @@ pub extern "C" fn flasknib_streams_block(run: &mut [u64], lines: &mut [u64], blo
 
 // Writes the row of line i. Gives its length, or minus refusal 16, 9, 10 or 12.
 #[unsafe(no_mangle)]
-pub extern "C" fn flasknib_streams_row(run: &[u64], i: usize, lines: &[u64], zeroth: &[u8], out: &mut [u8]) -> i64
+pub extern "C" fn flasknib_streams_row(
+    run: &[u64],
+    i: usize,
+    lines: &[u64],
+    zeroth: &[u8],
+    out: &mut [u8],
+) -> i64
     ensures { WritesStreams run.now i lines.now zeroth.now out.old result out.new }
 {
     capi::streams_runs::flasknib_streams_row(run, i, lines, zeroth, out)

@@ -11,7 +11,12 @@ pub extern "C" fn flasknib_sources_arrive(words: &mut [u64], ssrc: u32, wire: u1
 
 // Counts the records of one arrivals block of an SSRC. Gives 256 * restarts + jumps and the next table, or minus refusal 16, 9, 10 or 15.
 #[unsafe(no_mangle)]
-pub extern "C" fn flasknib_sources_count_block(words: &mut [u64], ssrc: u32, records: &[u8], width: usize) -> i64
+pub extern "C" fn flasknib_sources_count_block(
+    words: &mut [u64],
+    ssrc: u32,
+    records: &[u8],
+    width: usize,
+) -> i64
     ensures { CountsTableBlock words.old ssrc width records.now result words.new }
 {
     capi::tables::flasknib_sources_count_block(words, ssrc, records, width)

@@ -17,7 +17,8 @@ unfolding starts
 returns-then-reduce-gt1 c =
     let a = c.args in
     let t = lt-leb a.reduce 1 c.if-reduce-gt1.true in
-    start_made a.breaker.now c.if-breaker-ne-WORDS.false (cond_ends _ _ _ unstarted (ap not t) refl) (record { answers = c.code-then-reduce-gt1.ensures; stores = refl })
+    start_made a.breaker.now c.if-breaker-ne-WORDS.false (cond_ends _ _ _ unstarted (ap not t) refl)
+    (record { answers = c.code-then-reduce-gt1.ensures; stores = refl })
 
 pub returns-then-full-gt1 : goal.returns-then-full-gt1
 unfolding starts
@@ -25,7 +26,8 @@ returns-then-full-gt1 c =
     let a = c.args in
     let reduce = le-leb a.reduce 1 c.if-reduce-gt1.false in
     let full = lt-leb a.full 1 c.if-full-gt1.true in
-    start_made a.breaker.now c.if-breaker-ne-WORDS.false (cond_goes _ _ _ _ (ap not reduce) (cond_ends _ _ _ unstarted (ap not full) refl)) (record { answers = c.code-then-full-gt1.ensures; stores = refl })
+    start_made a.breaker.now c.if-breaker-ne-WORDS.false (cond_goes _ _ _ _ (ap not reduce) (cond_ends _ _ _ unstarted (ap not full) refl))
+    (record { answers = c.code-then-full-gt1.ensures; stores = refl })
 
 pub put_back-requires : goal.put_back-requires
 put_back-requires c = c.if-breaker-ne-WORDS.false
@@ -36,4 +38,5 @@ returns c =
     let a = c.args in
     let reduce = le-leb a.reduce 1 c.if-reduce-gt1.false in
     let full = le-leb a.full 1 c.if-full-gt1.false in
-    start_made a.breaker.now c.if-breaker-ne-WORDS.false (cond_goes _ _ _ _ (ap not reduce) (cond_goes _ _ _ _ (ap not full) c.start.ensures.value)) c.put_back.ensures
+    start_made a.breaker.now c.if-breaker-ne-WORDS.false (cond_goes _ _ _ _ (ap not reduce) (cond_goes _ _ _ _ (ap not full) c.start.ensures.value))
+    c.put_back.ensures

@@ -24,5 +24,7 @@ returns c =
     let a = c.args in
     let given = c.record_in-given.ensures in
     let fit = was_true (ap (λ (g : Loaded). g.ok) given) (not-false c.record_in-given.result.ok c.if-not-given.false) in
-    let made = c.report.ensures.value ∙ ap (λ (g : Loaded). report_of g.breaker (record { time = a.time; highest = a.highest; loss = a.loss; rtt = a.rtt; size = a.size; rate = a.rate })) given in
+    let made = c.report.ensures.value
+    ∙ ap (λ (g : Loaded). report_of g.breaker (record { time = a.time; highest = a.highest; loss = a.loss; rtt = a.rtt; size = a.size; rate = a.rate }))
+    given in
     call_made _ a.breaker.now fit made c.put_back.ensures

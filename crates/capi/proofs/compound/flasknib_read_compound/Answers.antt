@@ -12,7 +12,9 @@ pub returns-then-found-lt-WORDS : goal.returns-then-found-lt-WORDS
 returns-then-found-lt-WORDS c =
     let a = c.args in
     let told = sym c.read_by.ensures ∙ c.in-Read.is in
-    rw told (gives refusal_code (wrote_short (compound_words c.in-Read.c) a.found.now refl (omega (arith, length-compound c.in-Read.c, c.if-found-lt-WORDS.true)) (sym (length-compound c.in-Read.c))) refl)
+    rw told (gives refusal_code
+    (wrote_short (compound_words c.in-Read.c) a.found.now refl (omega (arith, length-compound c.in-Read.c, c.if-found-lt-WORDS.true))
+    (sym (length-compound c.in-Read.c))) refl)
 
 pub returns-in-Refused : goal.returns-in-Refused
 returns-in-Refused c =
@@ -24,4 +26,6 @@ pub returns-else-found-lt-WORDS : goal.returns-else-found-lt-WORDS
 returns-else-found-lt-WORDS c =
     let a = c.args in
     let told = sym c.read_by.ensures ∙ c.in-Read.is in
-    rw told (gives refusal_code (wrote_all (compound_words c.in-Read.c) a.found.now refl (omega (arith, length-compound c.in-Read.c, c.if-found-lt-WORDS.false)) refl c.store.ensures) refl)
+    rw told (gives refusal_code
+    (wrote_all (compound_words c.in-Read.c) a.found.now refl (omega (arith, length-compound c.in-Read.c, c.if-found-lt-WORDS.false)) refl
+    c.store.ensures) refl)

@@ -1,4 +1,3 @@
-use borrow.Enum.Refused.{opened}
 use borrow.Author.Rules.{rules}
 use mathlib.Core.Path.{◌∙◌}
 use Rattle.numbers.proofs.Signed.{seen_is}
@@ -16,4 +15,5 @@ returns-in-Length c =
 pub returns-in_default : goal.returns-in_default
 returns-in_default c =
     let a = c.args in
-    words_kept length_code a.words.now (conversion_words a.step.conversion) a.step.answer (seen_is c.length-in_default.result (search rules) ∙ c.length-in_default.ensures) (opened c.in_default.in_default-own.keys2)
+    words_kept length_code a.words.now (conversion_words a.step.conversion) a.step.answer
+    (seen_is c.length-in_default.result (search rules) ∙ c.length-in_default.ensures) c.in_default.not-Length

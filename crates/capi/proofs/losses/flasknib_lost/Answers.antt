@@ -35,7 +35,9 @@ returns-then-found-lt-WORDS c =
     let a = c.args in
     let e = sym c.load.ensures ∙ c.in-Held.is in
     let told = sym c.lost.ensures.value ∙ c.in-Packets.is in
-    gives {answer = Room 1} refusal_code (held_wrote a.words.now fault word a.found.now e (rw told (wrote_short (lost_words c.in-Packets.lost) a.found.now refl c.if-found-lt-WORDS.true refl))) refl
+    gives {answer = Room 1} refusal_code
+    (held_wrote a.words.now fault word a.found.now e
+    (rw told (wrote_short (lost_words c.in-Packets.lost) a.found.now refl c.if-found-lt-WORDS.true refl))) refl
 
 pub returns-else-found-lt-WORDS : goal.returns-else-found-lt-WORDS
 returns-else-found-lt-WORDS c =
@@ -43,7 +45,9 @@ returns-else-found-lt-WORDS c =
     let e = sym c.load.ensures ∙ c.in-Held.is in
     let told = sym c.lost.ensures.value ∙ c.in-Packets.is in
     let stored = c.store.ensures ∙ ap (λ (lost : ℤ). sets a.found.now 0 (lost_words lost)) (seen_is c.in-Packets.lost (search rules)) in
-    gives {answer = Length 1} refusal_code (held_wrote a.words.now fault word a.found.now e (rw told (wrote_all (lost_words c.in-Packets.lost) a.found.now refl c.if-found-lt-WORDS.false refl stored))) refl
+    gives {answer = Length 1} refusal_code
+    (held_wrote a.words.now fault word a.found.now e
+    (rw told (wrote_all (lost_words c.in-Packets.lost) a.found.now refl c.if-found-lt-WORDS.false refl stored))) refl
 
 pub returns-in-Refused : goal.returns-in-Refused
 returns-in-Refused c =

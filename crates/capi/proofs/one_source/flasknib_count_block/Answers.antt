@@ -50,7 +50,11 @@ returns-in-Counted c =
     let jumps = few_jumps _ a.width a.records.now f in
     let restarts = few_restarts _ a.width a.records.now f in
     let w = counts_next a.words.now a.width a.records.now _ e f in
-    record { answers = to_z_pos w64 (256 * c.in-Counted.restarts + c.in-Counted.jumps) (omega (arith, restarts, jumps)) ∙ w.answers; stores = c.store.ensures ∙ w.stores }
+    record {
+      answers = to_z_pos w64 (256 * c.in-Counted.restarts + c.in-Counted.jumps) (omega (arith, restarts, jumps)) ∙ w.answers;
+      stores = c.store.ensures
+          ∙ w.stores;
+    }
 
 pub returns-in-Refused : goal.returns-in-Refused
 returns-in-Refused c =

@@ -19,7 +19,8 @@ use Rattle.capi.proofs.Placed.{told_low, told_long, told_source, counts_told}
 use Rattle.capi.proofs.place_calls.count_at.Goals as goal
 
 -- the answer of the record in the table
-answered : (words : List ℕ) (ssrc at width : ℕ) (records : List ℕ) → Told words ssrc at → {s : Source} {a : BlockCount} → s ≡ source_near (take 10 (drop (11 * at + 1) words))
+answered : (words : List ℕ) (ssrc at width : ℕ) (records : List ℕ) → Told words ssrc at → {s : Source} {a : BlockCount}
+    → s ≡ source_near (take 10 (drop (11 * at + 1) words))
     → block_count s width records ≡ a → block_count (record_of ssrc (places_in words)) width records ≡ a
 answered words ssrc at width records t read is = ap (λ (x : Source). block_count x width records) (sym (told_source words ssrc at t read)) ∙ is
 
@@ -53,7 +54,12 @@ returns-in-Counted c =
     let f = sym c.count_block.ensures.value ∙ c.in-Counted.is in
     let t = c.requires in
     let e = answered a.words.now a.ssrc a.at a.width a.records.now t c.source_at-s.ensures f in
-    counts_told a.words.now a.ssrc a.at t a.width a.records.now e (record { answers = to_z_pos w64 (256 * c.in-Counted.restarts + c.in-Counted.jumps) (omega (arith, few_restarts _ a.width a.records.now f, few_jumps _ a.width a.records.now f)); stores = c.put_at.ensures })
+    counts_told a.words.now a.ssrc a.at t a.width a.records.now e
+    (record {
+      answers = to_z_pos w64 (256 * c.in-Counted.restarts + c.in-Counted.jumps)
+          (omega (arith, few_restarts _ a.width a.records.now f, few_jumps _ a.width a.records.now f));
+      stores = c.put_at.ensures;
+    })
 
 pub returns-in-Refused : goal.returns-in-Refused
 returns-in-Refused c =

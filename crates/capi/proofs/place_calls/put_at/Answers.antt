@@ -17,5 +17,6 @@ returns c =
     let n = from + 11 - from in
     let e : n ≡ 11 = omega arith in
     let part = take n (drop from words) in
-    let long : length part ≡ length (place_words a.p) = omega (arith, length-place a.p, length-take n (drop from words), length-drop from words, c.requires.1) in
+    let long : length part ≡ length (place_words a.p) = omega
+    (arith, length-place a.p, length-take n (drop from words), length-drop from words, c.requires.1) in
     ap₂ (λ (k : ℕ) (l : List ℕ). put_mid from k words l) e (c.store_place.ensures ∙ sets-whole part (place_words a.p) long)

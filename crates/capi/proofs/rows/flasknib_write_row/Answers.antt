@@ -14,7 +14,9 @@ pub returns-in_default : goal.returns-in_default
 returns-in_default c =
     let a = c.args in
     coded (search rules) c.minus.ensures
-    (other_wrote a.words.now (λ (s : Source). row_fault a.label.now (record { source = s; jumped = a.jumped; restarts = a.restarts })) (λ (s : Source). row_bytes a.label.now a.ssrc (record { source = s; jumped = a.jumped; restarts = a.restarts })) a.out.now (sym c.load.ensures ∙ c.in_default.is))
+    (other_wrote a.words.now (λ (s : Source). row_fault a.label.now (record { source = s; jumped = a.jumped; restarts = a.restarts }))
+    (λ (s : Source). row_bytes a.label.now a.ssrc (record { source = s; jumped = a.jumped; restarts = a.restarts })) a.out.now
+    (sym c.load.ensures ∙ c.in_default.is))
 
 pub length-requires : goal.length-requires
 length-requires c = omega (arith, wrote_size row_most (λ e. row_fits _ _ _ (search rules) e) c.write_row.ensures)
@@ -24,4 +26,5 @@ returns c =
     let a = c.args in
     let e = sym c.load.ensures ∙ c.in-Held.is in
     coded (search rules) c.length.ensures
-    (held_wrote a.words.now (λ (s : Source). row_fault a.label.now (record { source = s; jumped = a.jumped; restarts = a.restarts })) (λ (s : Source). row_bytes a.label.now a.ssrc (record { source = s; jumped = a.jumped; restarts = a.restarts })) a.out.now e c.write_row.ensures)
+    (held_wrote a.words.now (λ (s : Source). row_fault a.label.now (record { source = s; jumped = a.jumped; restarts = a.restarts }))
+    (λ (s : Source). row_bytes a.label.now a.ssrc (record { source = s; jumped = a.jumped; restarts = a.restarts })) a.out.now e c.write_row.ensures)

@@ -18,7 +18,7 @@ pub put_back-requires : goal.put_back-requires
 put_back-requires c =
     let a = c.args in
     let e = sym c.load.ensures ∙ c.in-Held.is in
-    let octets : Octets a.block.now = λ i. omega (arith, c.shared_slice_known-2-1.given i) in
+    let octets : Octets a.block.now = λ i. omega (arith, c.type_inv.block i) in
     ((held a.run.now e).0, omega (arith, run_size a.run.now a.zeroth.now a.block.now a.out.now e octets c.block.ensures))
 
 pub returns : goal.returns

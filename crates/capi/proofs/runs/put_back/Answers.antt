@@ -1,4 +1,3 @@
-use borrow.Enum.Refused.{opened}
 use borrow.Author.Rules.{rules}
 use mathlib.Core.Path.{sym, ◌∙◌}
 use Rattle.numbers.proofs.Signed.{seen_is}
@@ -17,4 +16,5 @@ returns-in-Length c =
 pub returns-in_default : goal.returns-in_default
 returns-in_default c =
     let a = c.args in
-    words_kept length_code a.run.now (run_words a.step.run) a.step.answer (seen_is c.length-in_default.result (search rules) ∙ c.length-in_default.ensures) (opened c.in_default.in_default-own.keys2)
+    words_kept length_code a.run.now (run_words a.step.run) a.step.answer (seen_is c.length-in_default.result (search rules) ∙ c.length-in_default.ensures)
+    c.in_default.not-Length

@@ -1,4 +1,3 @@
-use borrow.Enum.Refused.{opened}
 use mathlib.Core.Path.{refl, sym, ap, ◌∙◌}
 use Rattle.lent.specs.StreamWords.{stored_lines}
 use Rattle.capi.specs.Codes.{refusal_code}
@@ -16,4 +15,4 @@ pub returns-in_default : goal.returns-in_default
 returns-in_default c =
     let a = c.args in
     let ws = a.lines.now in
-    (words_kept refusal_code ws (stored_lines ws a.step.run) a.step.answer refl (opened c.in_default.in_default-own.keys2)).stores
+    (words_kept refusal_code ws (stored_lines ws a.step.run) a.step.answer refl c.in_default.not-Length).stores

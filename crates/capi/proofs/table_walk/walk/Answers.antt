@@ -37,7 +37,7 @@ returns-then-not-is_fine c = λ h.
     let words = a.words.now in
     let z = c.ended.ensures h in
     let n = l.invariant.1 (omega (arith, z.1, h)) in
-    let bits : (j : ℕ) → get_or a.words.now j 0 < 2 ^ 64 = λ j. (c.shared_slice_known-1.given j).fits in
+    let bits : (j : ℕ) → get_or a.words.now j 0 < 2 ^ 64 = λ j. (c.type_inv.words j).fits in
     subst (λ (j : ℕ). Told words a.ssrc j) (sym z.1) (told_zeros words a.n a.ssrc l.at bits p.0 p.1 l.least l.i z.0 l.invariant.2 n)
 
 pub offset_bounds-words-from-in-loop-i : goal.offset_bounds-words-from-in-loop-i
@@ -77,7 +77,7 @@ returns c = λ h.
     let l = c.loop-i in
     let a = c.args in
     let p = c.requires in
-    let bits : (j : ℕ) → get_or a.words.now j 0 < 2 ^ 64 = λ j. (c.shared_slice_known-1.given j).fits in
+    let bits : (j : ℕ) → get_or a.words.now j 0 < 2 ^ 64 = λ j. (c.type_inv.words j).fits in
     told_last a.words.now a.n a.ssrc l.at bits p.0 p.1 l.least l.i c.loop-i-test.false l.invariant.2 (l.invariant.1 h)
 
 pub overflow_add-i : goal.overflow_add-i

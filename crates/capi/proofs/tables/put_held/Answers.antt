@@ -47,7 +47,8 @@ returns-then-found-lt-WORDS c =
     let a = c.args in
     let good = told_held a.t (sym c.in-Held.is ∙ c.check.ensures) in
     let p = get_or (lent a.t) a.place empty_place in
-    gives refusal_code (wrote_short (place_words p) a.found.now (inside a.t _ a.place good c.if-n-place.false) (omega (arith, length-place p, c.if-found-lt-WORDS.true)) refl) refl
+    gives refusal_code (wrote_short (place_words p) a.found.now (inside a.t _ a.place good c.if-n-place.false)
+    (omega (arith, length-place p, c.if-found-lt-WORDS.true)) refl) refl
 
 pub offset_bounds-t-place : goal.offset_bounds-t-place
 offset_bounds-t-place c =
@@ -65,7 +66,8 @@ pub returns-in-Refused : goal.returns-in-Refused
 returns-in-Refused c =
     let a = c.args in
     let f = told_refused a.t (sym c.in-Refused.is ∙ c.check.ensures) in
-    gives refusal_code (wrote_refused (place_words (get_or (lent a.t) a.place empty_place)) a.found.now (ap (λ (x : Option Refusal). or_else x (unheld (lent a.t) a.place)) f)) c.number.ensures
+    gives refusal_code (wrote_refused (place_words (get_or (lent a.t) a.place empty_place)) a.found.now
+    (ap (λ (x : Option Refusal). or_else x (unheld (lent a.t) a.place)) f)) c.number.ensures
 
 pub returns-else-found-lt-WORDS : goal.returns-else-found-lt-WORDS
 returns-else-found-lt-WORDS c =
@@ -74,4 +76,5 @@ returns-else-found-lt-WORDS c =
     let h = c.if-n-place.false in
     let p = get_or (lent a.t) a.place empty_place in
     let stored = c.store_place.ensures ∙ ap (λ (q : Place). sets a.found.now 0 (place_words q)) (sym (here a.t _ a.place good h)) in
-    gives refusal_code (wrote_all (place_words p) a.found.now (inside a.t _ a.place good h) (omega (arith, length-place p, c.if-found-lt-WORDS.false)) refl stored) refl
+    gives refusal_code (wrote_all (place_words p) a.found.now (inside a.t _ a.place good h) (omega (arith, length-place p, c.if-found-lt-WORDS.false)) refl
+    stored) refl
