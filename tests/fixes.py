@@ -68,12 +68,17 @@ class Specs:
         self.texts = {name: "\n".join(map(read, sorted(glob.glob(os.path.join(glob.escape(crates), name, "specs", "*.antt"))))) for name in os.listdir(crates)}
         listed = read(os.path.join(os.path.dirname(crates), "crates.txt"))
         uses = {name: below.split() for name, below in re.findall(r"^(\w+)[^:#\n]*:(.*)$", listed, re.M)}
-        self.below = {name: sorted(self.reached(uses, name)) for name in uses}
+        self.below = {name: self.reached(uses, name) for name in uses}
         self.known = {}
 
     def reached(self, uses, name):
         """The crates that one uses, directly or through others."""
-        return set(uses.get(name, [])).union(*(self.reached(uses, other) for other in uses.get(name, [])))
+        found = []
+        for each in uses[name]:
+            found += [each] if each not in found else []
+        for each in found:
+            found += [other for other in uses.get(each, []) if other not in found]
+        return found
 
     def clauses(self, crate, name):
         """(parameters, what it says) of each clause of a definition; of a record one."""

@@ -105,7 +105,7 @@ def unseen():
     for name, (file, change) in BROKEN.items():
         with tempfile.TemporaryDirectory() as work:
             copy = os.path.join(work, "crates")
-            shutil.copytree(CRATES, copy, ignore=shutil.ignore_patterns("proofs", "edits", "must-fail"))
+            shutil.copytree(CRATES, copy, ignore=shutil.ignore_patterns("out", "proofs", "edits", "must-fail"))
             shutil.copy(os.path.join(TOP, "crates.txt"), work)
             path = os.path.join(copy, file)
             before = read(path)
