@@ -83,7 +83,7 @@ class Specs:
     def clauses(self, crate, name):
         """(parameters, what it says) of each clause of a definition; of a record one."""
         for text in (self.texts[each] for each in [crate, *self.below.get(crate, [])] if each in self.texts):
-            record = re.search(rf"^pub record {name} (.*?) : Type \d where\n((?:  .*\n|\n)*)", text, re.M)
+            record = re.search(rf"^pub record {name} ((?:.|\n +)*?) : Type \d where\n((?:  .*\n|\n)*)", text, re.M)
             if record:
                 names = [each for group in re.findall(r"\(([^():]+) :", record[1]) for each in group.split()]
                 fields = re.findall(r"^  pub \w+ :(.*(?:\n {4,}.*)*)", record[2], re.M)
