@@ -104,7 +104,7 @@ fn place(files: &impl Files) -> i64 {
 }
 
 // Whether a read of standard input may wait for bytes that are not there yet: of a pipe, a socket or a terminal, which have no place. A read of a file does not
-// wait. It is asked before the first read: it may change errno, which names a failed read until that is reported.
+// wait. It is asked once, before the first read.
 pub fn may_wait(files: &impl Files) -> bool {
     is_placeless(place(files))
 }
