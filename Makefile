@@ -28,9 +28,7 @@ to := $(DESTDIR)$(PREFIX)
 .DELETE_ON_ERROR:
 
 all:
-	rt check $(PROGRAMS)
-	rm -f $(archive)
-	rt staticlib capi
+	packaging/build
 	$(MAKE) built
 
 built: $(built)

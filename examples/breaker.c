@@ -6,7 +6,7 @@
  * Then what a sender does with each RTCP packet that it gets: on a path that marks every packet with CE and drops none, it stops at the fourth
  * compound (L2; RFC 8083, section 5). And what it does with what is refused.
  *
- *   rt staticlib capi
+ *   packaging/build capi
  *   cc -Iinclude examples/breaker.c target/staticlib/libcapi.a -o breaker
  */
 #include <stdio.h>

@@ -75,22 +75,23 @@ extern "C" {
  * A call takes at most so many bytes of stack, its return address among them, as measured on the
  * library's code for x86-64; what memcpy and its like take of their own comes to it.
  *      256 bytes: flasknib_version, flasknib_arrive, flasknib_lost, flasknib_write_summary,
- *                 flasknib_read_compound,
- *                 flasknib_ecn_between, flasknib_since16, flasknib_since32, flasknib_lost_since,
- *                 flasknib_breaker_call, flasknib_read_attribute, flasknib_answer,
- *                 flasknib_read_block, flasknib_read_own, flasknib_record_at, flasknib_write_label,
+ *                 flasknib_read_compound, flasknib_ecn_between, flasknib_since16, flasknib_since32,
+ *                 flasknib_lost_since, flasknib_breaker_call, flasknib_read_block,
+ *                 flasknib_read_own, flasknib_record_at, flasknib_write_label,
  *                 flasknib_space_label, flasknib_write_arrivals, flasknib_write_records,
  *                 flasknib_write_head, flasknib_write_refused, flasknib_run_start,
- *                 flasknib_forms_start, flasknib_forms_close, flasknib_streams_start
- *      512 bytes: flasknib_write_feedback, flasknib_write_row, flasknib_forms_block
- *    1,024 bytes: flasknib_refusal_text, flasknib_count_block, flasknib_write_attribute,
+ *                 flasknib_forms_start, flasknib_forms_close, flasknib_streams_start,
+ *                 flasknib_refusal_text
+ *      512 bytes: flasknib_read_attribute, flasknib_answer, flasknib_write_feedback,
+ *                 flasknib_forms_block
+ *    1,024 bytes: flasknib_write_row, flasknib_count_block, flasknib_write_attribute,
  *                 flasknib_feed_close
  *    2,048 bytes: flasknib_breaker_start, flasknib_breaker_start_preset, flasknib_run_block
- *    4,096 bytes: flasknib_breaker_tick, flasknib_breaker_heard, flasknib_feed
- *    8,192 bytes: flasknib_breaker_report, flasknib_breaker_report_ecn
- *   16,384 bytes: flasknib_sources_arrive, flasknib_sources_count_block,
- *                 flasknib_sources_write_compound, flasknib_sources_place,
- *                 flasknib_sources_held, flasknib_streams_block, flasknib_streams_row
+ *    4,096 bytes: flasknib_feed
+ *    8,192 bytes: flasknib_breaker_tick, flasknib_breaker_heard, flasknib_sources_held
+ *   16,384 bytes: flasknib_breaker_report, flasknib_breaker_report_ecn, flasknib_sources_arrive,
+ *                 flasknib_sources_count_block, flasknib_sources_write_compound,
+ *                 flasknib_sources_place, flasknib_streams_block, flasknib_streams_row
  */
 
 /* What a compiler that can (GCC, Clang) warns of: an answer that nobody looks at, and a null

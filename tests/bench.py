@@ -1,6 +1,6 @@
 """tests/bench.py: bench/compare on small files of figures, and the file that bench/run --json writes.
 
-The figures of a run are not timed here: an `rt` and a `rustc` of ours stand for the real ones. Each try that goes wrong is printed.
+The figures of a run are not timed here: a `packaging/build` and a `rustc` of ours stand for the real ones. Each try that goes wrong is printed.
 """
 import json
 import os
@@ -59,7 +59,7 @@ def written(words, work):
     top, found = pathlib.Path(work, "ward 3 ü"), pathlib.Path(work, "bin")
     (top / "bench").mkdir(parents=True)
     shutil.copy(TOP / "bench/run", top / "bench/run")
-    script(found / "rt", "exit 0\n")
+    script(top / "packaging/build", "exit 0\n")
     tells = 'printf "#!/bin/sh\\necho told \\$0 \\"\\$@\\"\\n" >"$out"; case $out in */programs) n=1 ;; */calls) n=2 ;; *) n=0 ;; esac\n'
     script(found / "rustc", 'for word; do case $before in -o) out=$word ;; esac; before=$word; done\n' + tells + 'echo "sed -n ${n}p \\"$LINES\\" >>\\"\\${FIGURES:-/dev/null}\\"" >>"$out"; chmod +x "$out"\n')
     lines = pathlib.Path(work, "lines")

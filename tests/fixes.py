@@ -2,11 +2,15 @@
 
 A promise, or a part of one that `×` joins, fixes what stands on the left of its `≡`, as it is or by a field. A predicate (`Wrote` and its like) fixes the parameters
 that its definition fixes in each of its clauses: a record by its fields, any other by what it stands for. Definitions are looked up in the crate's specs/ and in those
-of the crates below it (crates.txt). Of a struct one field is enough here: that the others are promised too is for the reader.
+of the crates below it (crates.txt). Of a struct one field is enough here: that the others are promised too is for the reader. What is lent of the
+system, HANDLES, has no value that a promise could name.
 """
 import glob
 import os
 import re
+
+
+HANDLES = {"Streams"}
 
 
 def read(path):
@@ -47,15 +51,14 @@ def bare(text):
 
 
 def named(term):
-    """The name that a term is, or is a field of; of a lent part at its exit, the name with `.exit`; of what `carries` puts together, each."""
+    """The name that a term is, or is a field of; of a lent part as the call leaves it, the name with `.new`; of what `carries` puts together, each."""
     head, *rest = parts(bare(term)) or [""]
     if head == "carries":
         return {name for word in rest for name in named(word)}
-    if head == "now" and rest:
-        return named(rest[0])
-    if all(word.startswith(".") for word in rest):
-        return {f"{head} .exit"} if rest == [".exit"] else {head}
-    return set()
+    if rest:
+        return set()
+    name, *fields = head.split(".")
+    return {f"{name}.new"} if fields[:1] == ["new"] else {name}
 
 
 class Specs:
@@ -64,8 +67,13 @@ class Specs:
     def __init__(self, crates):
         self.texts = {name: "\n".join(map(read, sorted(glob.glob(os.path.join(glob.escape(crates), name, "specs", "*.antt"))))) for name in os.listdir(crates)}
         listed = read(os.path.join(os.path.dirname(crates), "crates.txt"))
-        self.below = {name: below.split() for name, below in re.findall(r"^(\w+):(.*)$", listed, re.M)}
+        uses = {name: below.split() for name, below in re.findall(r"^(\w+)[^:#\n]*:(.*)$", listed, re.M)}
+        self.below = {name: sorted(self.reached(uses, name)) for name in uses}
         self.known = {}
+
+    def reached(self, uses, name):
+        """The crates that one uses, directly or through others."""
+        return set(uses.get(name, [])).union(*(self.reached(uses, other) for other in uses.get(name, [])))
 
     def clauses(self, crate, name):
         """(parameters, what it says) of each clause of a definition; of a record one."""
@@ -108,9 +116,9 @@ class Specs:
 def loose(specs, crate, contract):
     """Of a function's result and lent parts those that its promises leave open."""
     head = contract.partition("ensures")[0]
-    lent = re.findall(r"(\w+): &(?:'\w+ )?mut ", head)
+    lent = [name for name, type_ in re.findall(r"(\w+): &(?:'\w+ )?mut (\S+?)[,)\s]", head) if type_ not in HANDLES]
     left = set(lent) | ({"its result"} if "-> " in head else set())
-    for result, says in re.findall(r"ensures (?:\w+ )?\{ (?:λ (\w+)\. )?⌜ (.*?) ⌝ \}", contract, re.S):
+    for says in re.findall(r"^ *ensures (?:\w+ )?\{ (.*?) \}$", contract, re.S | re.M):
         pinned = specs.pins(crate, says)
-        left -= {name for name in lent if f"{name} .exit" in pinned} | ({"its result"} if result in pinned else set())
+        left -= {name for name in lent if f"{name}.new" in pinned} | ({"its result"} if "result" in pinned else set())
     return sorted(left)

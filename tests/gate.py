@@ -14,12 +14,10 @@ import signal
 import subprocess
 import sys
 import tempfile
-import threading
-import time
 
 TOP = pathlib.Path(__file__).resolve().parent.parent
 IGNORED = (signal.SIGINT, signal.SIGQUIT, signal.SIGPIPE, signal.SIGHUP, signal.SIGXFSZ)
-TOOLS = "sh env dirname mkdir rm ln cat sed sort cut diff wc grep tail nm python3".split()
+TOOLS = "sh env dirname mkdir mktemp rm cp ln cat sed sort cut diff wc grep tail nm python3".split()
 
 
 def script(path, text):
@@ -56,6 +54,9 @@ ENDS = {
     "a part that ends with another status": (("3 passed, 0 failed", "2 passed, 0 failed", "1 passed, 0 failed"), (0, 0, 3), "6 passed, 1 failed"),
     "a part that fails": (("3 passed, 0 failed", "1 passed, 2 failed", "1 passed, 0 failed"), (0, 1, 0), "5 passed, 2 failed"),
     "a crate that is not proved": (("2 passed, 1 failed", None, None), (1, 0, 0), "2 passed, 1 failed"),
+    "bad edits": (("rt: ok; must-fail edits: 3 refused, 2 bad; all in this run\n3 passed, 0 failed", None, None), (0, 0, 0), "3 passed, 2 failed"),
+    "bad edits, the last words": (("rt: ok; must-fail edits: 3 refused, 2 bad\n3 passed, 0 failed", None, None), (0, 0, 0), "3 passed, 2 failed"),
+    "no bad edit": (("rt: ok; must-fail edits: 3 refused; all in this run\n3 passed, 0 failed", "2 passed, 0 failed", "1 passed, 0 failed"), (0, 0, 0), "6 passed, 0 failed"),
 }
 
 
@@ -64,51 +65,38 @@ def sums(name, work):
     said, ended, wanted = ENDS[name]
     tree = Tree(work, ".ci/run")
     for path, words, status in zip((tree.bin / "rt", tree.top / "tests/edits", tree.top / "tests/run"), said, ended):
-        script(path, f"echo '{words}'; exit {status}\n")
+        script(path, f"printf '%s\\n' '{words}'; exit {status}\n")
     status, text = tree.run(".ci/run", f"{tree.bin}:{os.environ['PATH']}")
     if text.splitlines()[-1] != wanted or (status == 0) != wanted.endswith(" 0 failed") or "None" in text:
         yield f"it ends with {text.splitlines()[-1]!r} and status {status}"
 
 
-# tests/edits runs beside the others: what it finds of an earlier run, and what becomes of it where `rt ci` fails. It is there for half a minute.
-LONG = """[ ! -e target/stamp/old ] || echo old >>"$RAN"
-trap 'echo stopped >>"$RAN"; exit' TERM
-i=0
-while [ $i -lt 300 ] && [ ! -e "$2" ]; do sleep 0.1; i=$((i + 1)); done
-[ "$ENDS" = 1 ] || while [ $i -lt 300 ]; do sleep 0.1; i=$((i + 1)); done
-echo ended >>"$RAN"
-echo 2 passed, 0 failed
-"""
-ASIDE = {
-    "crates that are proved": ("3 passed, 0 failed", 0, "1", ["ended"], "6 passed, 0 failed"),
-    "a crate that is not proved": ("2 passed, 1 failed", 1, "0", ["stopped"], "2 passed, 1 failed"),
+# What the gate runs, with its words, where it is called, and what it must not find removed.
+ORDER = {
+    "crates that are proved": (0, ["ci in ward 3 ü, out kept", "edits", "run"]),
+    "a crate that is not proved": (1, ["ci in ward 3 ü, out kept"]),
 }
 
 
-def aside(name, work):
-    """What is wrong with the wrong programs that are tried beside `rt ci`."""
-    said, ended, ends, wanted, last = ASIDE[name]
+def order(name, work):
+    """What is wrong with the parts of the gate: `rt ci` with no name, first and on the tree as it stands."""
+    ended, wanted = ORDER[name]
     tree = Tree(work, ".ci/run")
-    script(tree.top / "target/stamp/old", "")
-    script(tree.bin / "rt", f"sleep 1; echo '{said}'; exit {ended}\n")
-    script(tree.top / "tests/edits", LONG)
-    script(tree.top / "tests/run", "echo '1 passed, 0 failed'\n")
-    status, text = tree.run(".ci/run", f"{tree.bin}:{os.environ['PATH']}", ENDS=ends)
-    ran = tree.bin.parent / "ran"
-    for _ in range(50):
-        if ran.exists():
-            break
-        time.sleep(0.1)
-    told = ran.read_text().splitlines() if ran.exists() else []
-    if told != wanted or text.splitlines()[-1] != last or (status == 0) != (ended == 0):
-        yield f"it ends with {text.splitlines()[-1]!r} and status {status}, and the wrong programs tell {told}"
+    script(tree.top / "crates/one/out/old", "")
+    script(tree.bin / "rt", f'[ -e crates/one/out/old ] && echo "$* in ${{PWD##*/}}, out kept" >>"$RAN"; echo 1 passed, {ended} failed; exit {ended}\n')
+    for part in ("edits", "run"):
+        script(tree.top / "tests" / part, f'echo "{part}${{*:+ $*}}" >>"$RAN"; echo 1 passed, 0 failed\n')
+    status, text = tree.run(".ci/run", f"{tree.bin}:{os.environ['PATH']}")
+    told = (tree.bin.parent / "ran").read_text().splitlines()
+    if told[:1] != wanted[:1] or sorted(told) != wanted or (status == 0) != (ended == 0):
+        yield f"it ends with {text.splitlines()[-1]!r} and status {status}, and these were run: {told}"
 
 
 # What .ci/run is asked for, what must then be tried, in order, the status of the last part, and how its last line begins.
 SOME = {
-    "one that others need": (["low"], ["check low high", "edits high", "run --of low high"], 0, "no verdict, 4 tries passed and 0 failed: only low high were tried"),
-    "one that none needs": (["lone"], ["check lone", "run --of lone"], 0, "no verdict, 2 tries passed and 0 failed: only lone were tried"),
-    "a part that fails": (["high"], ["check high", "edits high", "run --of high"], 1, "no verdict, 2 tries passed and 1 failed: only high were tried"),
+    "one that others need": (["low"], ["check in low", "check in high", "edits high", "run --of low high"], 0, "no verdict, 4 tries passed and 0 failed: only low high were tried"),
+    "one that none needs": (["lone"], ["check in lone", "run --of lone"], 0, "no verdict, 2 tries passed and 0 failed: only lone were tried"),
+    "a part that fails": (["high"], ["check in high", "edits high", "run --of high"], 1, "no verdict, 2 tries passed and 1 failed: only high were tried"),
     "a name that is not listed": (["none"], [], 0, "none is not listed"),
 }
 
@@ -117,9 +105,10 @@ def some(name, work):
     """What is wrong with the gate of some crates."""
     words, wanted, ended, begins = SOME[name]
     tree = Tree(work, ".ci/run")
-    (tree.top / "crates.txt").write_text("low:\nhigh: low # both\nlone: std\n")
-    (tree.top / "crates/high/edits").mkdir(parents=True)
-    script(tree.bin / "rt", 'echo "$@" >>"$RAN"\n')
+    (tree.top / "crates.txt").write_text("low:\nhigh staticlib: low # both\nlone: std\n")
+    for crate in ("low", "high/edits", "lone"):
+        (tree.top / "crates" / crate).mkdir(parents=True)
+    script(tree.bin / "rt", 'echo "$* in ${PWD##*/}" >>"$RAN"\n')
     script(tree.top / "tests/edits", 'echo "edits $*" >>"$RAN"; echo 1 passed, 0 failed\n')
     script(tree.top / "tests/run", f'echo "run $*" >>"$RAN"; echo {1 - ended} passed, {ended} failed; exit {ended}\n')
     status, text = tree.run(".ci/run", f"{tree.bin}:{os.environ['PATH']}", *words)
@@ -136,7 +125,16 @@ RUSTC = """for word; do out=$word; done
 case " $* " in *" tests/$BROKEN/main.rs "*) exit 1 ;; esac
 printf '#!/bin/sh\\necho built' >"$out" && chmod +x "$out"
 """
-RT = 'case $1 in check) exit "$CHECK" ;; staticlib) echo built >target/staticlib/libcapi.a; exit "$LIBRARY" ;; esac\n'
+RT = """mkdir -p out
+case $1 in
+run)
+    echo built >"out/${PWD##*/}"
+    [ "$CHECK" != 0 ] || echo "rt: running out/${PWD##*/}; to give it other input, run that file yourself"
+    exit 3
+    ;;
+lib) echo built >out/libcapi_c.a; exit "$LIBRARY" ;;
+esac
+"""
 OVER_PROGRAMS = {"program", "tables", "faults", "package", "installation", "wheel", "tools", "commands"}
 OVER_LIBRARY = {"compare", "header", "languages", "capture", "dissector", "received", "examples", "rust", "package", "installation", "wheel", "tools", "commands"}
 # What fails (rustc is missing, the source of a part, the programs, the library), and the parts that must fail for it.
@@ -150,6 +148,8 @@ FAILING = {
 
 def left(tree):
     """What an earlier run left, each file of which tells where it is run."""
+    for name in ("ecntable", "ecnforms", "ecnstreams", "ecnlabel", "ecnsalvage", "capi_c"):
+        (tree.top / "crates" / name).mkdir(parents=True)
     built = "program compare capture received count breaker answer count_rust rust libmodel.rlib libdraw.rlib libflasknib.rlib"
     for name in [*built.split(), "compare.table", "capture.lines"]:
         script(tree.top / "target/tests" / name, f"echo {name} >>\"$RAN\"\n")
@@ -161,7 +161,7 @@ def left(tree):
 def failing(name, work):
     """What is wrong where something cannot be built."""
     broken, check, library, wanted = FAILING[name]
-    tree = Tree(work, "tests/run")
+    tree = Tree(work, "tests/run", "packaging/build")
     left(tree)
     script(tree.bin / "rt", RT)
     for tool in TOOLS:
@@ -183,7 +183,7 @@ OF = {"a program": ("ecnforms", OVER_PROGRAMS - OVER_LIBRARY), "the library": ("
 def parts_of(name, work):
     """What is wrong where only the parts that see some crates are asked for: with no programs and no library, those fail."""
     crate, wanted = OF[name]
-    tree = Tree(work, "tests/run")
+    tree = Tree(work, "tests/run", "packaging/build")
     script(tree.bin / "rt", RT)
     for tool in TOOLS:
         (tree.bin / tool).symlink_to(sys.executable if tool == "python3" else shutil.which(tool))
@@ -195,61 +195,67 @@ def parts_of(name, work):
 
 # ---- tests/edits
 
-PROOF = "crates/one/proofs/f/Proof.antt:3:5: error: `returns`: "
-WALK = "Rattle·one·proofs.proofs.f.Lts.oantt"
+PROOF = "./proofs/f/Answers.antt:3:5: error: `returns`: "
+WALK = "Rattle-one-proofs.f.Proof.oantt"
 DIFFER = "computed as far as they go, the two types first differ where one has `{}`\n  (expected) and the other has `{}` (found)"
-PLACES = DIFFER.format("Rattle·one·proofs.proofs.f.Lts.After-g", "Rattle·one·proofs.proofs.f.Lts.After-h")
+PLACES = DIFFER.format("Rattle.one.proofs.f.Lts.After-g", "Rattle.one.proofs.f.Lts.After-h")
+GONE = "`goal.returns-then-old`: module `Rattle.one.proofs.f.Goals` has no `returns-then-old` that can be named from here"
+OPEN = "note: src/lib.rt:2:5: it is not proved that what the function ensures holds when it returns (`returns`)"
 # An error, and the kind of fact that it is of: None where it is of the proof's form, or of nothing that is known.
 SAMPLES = {
     DIFFER.format("2147483648", "2147483649"): "terms differ",
-    DIFFER.format("c .args .time", "Rattle·one·proofs.proofs.f.Lts.m1 (Rattle·one·proofs.proofs.f.Lts.After-g·gave (c .before))"): "terms differ",
+    DIFFER.format("c.args.time", "Rattle.one.proofs.f.Lts.m1 (Rattle.one.proofs.f.Lts.gave-After-g c.before)"): "terms differ",
     "expected type `fresh s ≡ false`, but this has type `fresh s ≡ t`\n  `t` is not in scope here, so what is shown does not paste back": "terms differ",
     "computed as far as they go, the two values are `record {ssrc = 0}` (found) and `record {ssrc = 1}` (required)": "terms differ",
-    "`omega`: the goal does not follow from what it read. All of that holds, and the goal fails, at `c .n` = 3": "it fails at values",
-    "`search`: no proof of `Post c`": "a need is open",
+    "`omega`: the goal does not follow from what it read. All of that holds, and the goal fails, at `c.n` = 3": "it fails at values",
+    "`search`: no proof of `Post c`": "a goal is open",
     "`rw`: no occurrence of the path's left endpoint in the goal: write the family yourself": "an equation is not there",
     "`rw`: no occurrence of the path's left endpoint in the hypothesis's type: write the family": "an equation is not there",
+    "give a proof of that as the last argument, `rw L t` (`rw L ?` shows it as a hole's goal), or add what is missing to the list": "an equation is not there",
     "`reading b Compound`\n  ≟ `reading b ReducedSize`\n  does not hold (this comparison, made at this position, had to wait)": "terms differ",
     PLACES: None,
     PLACES.replace("first differ", "differ only"): None,
-    "expected type `tie.After-g`, but this has type `Rattle·one·proofs.proofs.f.Lts.Then1 (c .before)`": None,
-    "record `Rattle·one·proofs.proofs.f.Lts.After-g`\n  has no field `read16`": None,
+    "expected type `goal.After-g`, but this has type `Rattle.one.proofs.f.Lts.Then1 c.before`": None,
+    "record `Rattle.one.proofs.f.Lts.After-g`\n  has no field `read16`": None,
+    GONE: None,
     "`returns-2` is not in scope": None,
     "the solver gave up": None,
 }
-# rt dev of a copy with the edit: the error, and the names that its walk then has.
+# A check of a copy with the edit: its errors, the goals that the code then has (before it is `returns-2` and `returns`), and what is said of the edit.
 TRIED = {
-    "refused": (DIFFER.format("1", "2"), ["After-g", "Need-returns"], ": refused, terms differ ("),
-    "an error of form": (PLACES, ["After-g", "Need-returns"], ": FAILED: the first error is of the proof's form"),
-    "one need more": (DIFFER.format("1", "2"), ["After-g", "Need-add-n", "Need-returns"], ": refused, terms differ ("),
-    "another place": (DIFFER.format("1", "2"), ["After-h", "Need-returns"], ": FAILED: the proof's form is not that of the code any more (src/f: After-g)"),
-    "a need that is gone": (DIFFER.format("1", "2"), ["After-g"], ": FAILED: the proof's form is not that of the code any more (src/f: Need-returns)"),
-    "an error of no kind": ("the solver gave up", ["After-g", "Need-returns"], ": FAILED: the first error is of no known kind"),
+    "refused": (PROOF + DIFFER.format("1", "2"), ["returns-2", "returns"], ": refused, terms differ ("),
+    "an error of form": (PROOF + PLACES, ["returns-2", "returns"], ": FAILED: the errors are only of the proof's form"),
+    "one of form and one of a fact": (PROOF + GONE + "\n" + PROOF + DIFFER.format("1", "2"), ["returns-2", "returns"], ": refused, terms differ ("),
+    "one goal more": (PROOF + DIFFER.format("1", "2"), ["add-n", "returns-2", "returns"], ": refused, terms differ ("),
+    "one more of a number": (PROOF.replace("returns", "returns-2") + DIFFER.format("1", "2"), ["returns-2", "returns-3", "returns"], ": FAILED: the proof's form is not that of the code"),
+    "an open goal": (OPEN, ["returns-2", "returns"], ": refused, a goal is open ("),
+    "an open goal and an error of form": (PROOF + GONE + "\n" + OPEN, ["returns-2", "returns"], ": FAILED: the errors are only of the proof's form"),
+    "a false goal and an error of form": (PROOF + GONE + "\n" + OPEN + "; the facts known there allow values at which this goal is false", ["returns-2", "returns"], ": refused, a goal is open ("),
+    "an error of no kind": (PROOF + "the solver gave up", ["returns-2", "returns"], ": FAILED: the error is of no known kind"),
+    "other names, and a fact": (PROOF + GONE, ["returns-then-new", "returns"], ": refused, terms differ ("),
 }
-DEV = f"""case $1 in
-check)
-    [ -z "${{NOCHECK:-}}" ] || echo check >>"$RAN"
-    [ "$CHECK" = 0 ] && echo 'rt: one proved (unchanged)'
-    exit "$CHECK"
-    ;;
+KIT = """case $1 in
+doc) echo "$KIT/START-HERE.md" ;;
+all) printf '== one\\nlogic=%s\\n== summary\\none: ok\\n' "$PROVED" ;;
 esac
-[ "$CHECK" = 0 ] || echo dev >>"$RAN"
-if grep -q right crates/one/src/lib.rt; then
+"""
+# The check of the tree's crate as it stands, with the edit, and with the names in its proof that the code then gives.
+CHECK = f"""[ "$PROVED" = proved ] || echo check >>"$RAN"
+if grep -q right src/lib.rt; then
     printf 'crate one: modules loaded=1 checked=0\\nlogic=proved \\n'
     exit 0
 fi
-rm "target/inc/one/k/{WALK}"
-cp "$WALKED" "target/inc/one/k/{WALK}"
-cat "$SAID"
+rm "incremental/k/{WALK}"
+cp "$WALKED" "incremental/k/{WALK}"
+if grep -q returns-then-new proofs/f/Answers.antt; then cat "$AGAIN"; else cat "$SAID"; fi
 exit 1
 """
 
 
-def module(path, names, steps):
-    """A checked module that declares these names, and some of a walk's steps, which are no part of its form."""
+def module(path, names):
+    """A checked module that declares these names."""
     path.parent.mkdir(parents=True, exist_ok=True)
-    named = [{"name": name, "kind": "record" if name.startswith("After-") else "def"} for name in steps + names]
-    path.write_text("--@ kernel k\n--@ interface " + json.dumps({"globals": named}) + "\n")
+    path.write_text("--@ kernel k\n--@ interface " + json.dumps({"globals": [{"name": name, "kind": "def"} for name in names]}) + "\n")
 
 
 def one_crate(work):
@@ -258,28 +264,37 @@ def one_crate(work):
     files = {
         "crates.txt": "one:\n",
         "crates/one/src/lib.rt": "fn f() {\n    right\n}\n",
-        "crates/one/proofs/f/Proof.antt": "returns : tie.Need-returns\n",
+        "crates/one/proofs/f/Answers.antt": "returns-then-old c = c.if-old.true\n",
         "crates/one/edits/wrong.edit": "file: src/lib.rt\nold: right\nnew: wrong\n",
-        "target/stamp/one": "",
         "target/edits/one/old.log": "",
     }
     for name, text in files.items():
         (tree.top / name).parent.mkdir(parents=True, exist_ok=True)
         (tree.top / name).write_text(text)
-    module(tree.top / "target/rlib/one.rlib/toolchain/checked" / WALK, ["After-g", "Need-returns"], ["m1"])
-    script(tree.bin / "rt", DEV)
+    module(tree.top / "crates/one/out/incremental/k" / WALK, ["returns-2", "returns"])
+    module(tree.top / "crates/one/out/incremental/k" / WALK.replace("Proof", "Statement"), [])
+    script(tree.bin / "rt", KIT)
     return tree
+
+
+def tries(tree, proved="proved", **variables):
+    """The status of tests/edits in a tree, and what it prints."""
+    path = f"{tree.bin}:{os.path.dirname(sys.executable)}:{os.environ['PATH']}"
+    return tree.run("tests/edits", path, PROVED=proved, KIT=str(tree.bin), **{name: str(value) for name, value in variables.items()})
 
 
 def tried(name, work):
     """What is wrong with the line of an edit."""
     error, names, wanted = TRIED[name]
     tree = one_crate(work)
-    said, walked = tree.bin / "said", tree.bin / "walked"
-    said.write_text(PROOF + error + "\nlogic=not-proved\n")
-    module(walked, names, ["m1", "m2"])
-    path = f"{tree.bin}:{os.path.dirname(sys.executable)}:{os.environ['PATH']}"
-    _, text = tree.run("tests/edits", path, CHECK="0", SAID=str(said), WALKED=str(walked))
+    script(tree.bin / "rattle", CHECK)
+    if "returns-then-new" in names:
+        module(tree.top / "crates/one/out/incremental/k" / WALK, ["returns-then-old", "returns"])
+    said, again, walked = tree.bin / "said", tree.bin / "again", tree.bin / "walked"
+    said.write_text(error + "\nlogic=not-proved\n")
+    again.write_text(PROOF + DIFFER.format("1", "2") + "\nlogic=not-proved\n")
+    module(walked, names)
+    _, text = tries(tree, SAID=said, AGAIN=again, WALKED=walked)
     if f"edits one/wrong{wanted}" not in text:
         yield text
     if (tree.top / "target/edits/one/old.log").exists():
@@ -288,7 +303,7 @@ def tried(name, work):
 
 # Wrong definitions in copies beside the files themselves: what the check says of the copies, the definitions that the first wrong one has, and for each
 # of the two edits whether it is refused so, or tried alone.
-LAW = "crates/one/proofs/Law{}.antt:3:1: error: `law`: " + DIFFER.format("1", "2") + "\n"
+LAW = "./proofs/Law{}.antt:3:1: error: `law`: " + DIFFER.format("1", "2") + "\n"
 COPIED = {
     "both refused": (LAW.format("Wrong0") + LAW.format("Wrong1"), ["def"], (True, True)),
     "one of them": (LAW.format("Wrong1"), ["def"], (False, True)),
@@ -297,22 +312,20 @@ COPIED = {
     "a right copy that is not proved": (LAW.format("Right0") + LAW.format("Wrong0") + LAW.format("Wrong1"), ["def"], (False, False)),
     "an error of no copy": (LAW.format("") + LAW.format("Wrong0") + LAW.format("Wrong1"), ["def"], (False, False)),
 }
-BESIDE = f"""case $1 in
-check) echo 'rt: one proved (unchanged)'; exit 0 ;;
-esac
-if [ ! -e crates/one/specs/DefWrong0.antt ]; then
-    grep -q 'def = right' crates/one/specs/Def.antt && printf 'crate one: modules loaded=1 checked=0\\nlogic=proved \\n' && exit 0
-    printf '%s\\nlogic=not-proved\\n' "{LAW.format("").replace("`", "")[:-1]}" | sed "s/one has /one has \\`/"
+BESIDE = """if [ ! -e specs/DefWrong0.antt ]; then
+    grep -q 'def = right' specs/Def.antt && printf 'crate one: modules loaded=1 checked=0\\nlogic=proved \\n' && exit 0
+    cat "$ALONE"
+    echo logic=not-proved
     exit 1
 fi
-cd target/inc/one/k || exit 2
+cd incremental/k || exit 2
 for each in Right0 Wrong0 Wrong1; do
-    grep -q "^use Rattle·one·specs.specs.Def$each.{{def}}" "../../../../crates/one/proofs/Law$each.antt" || exit 2
-    grep -q "^pub mod Law$each" ../../../../crates/one/proofs/Lib.antt || exit 2
-    cp Rattle·one·specs.specs.Def.oantt "Rattle·one·specs.specs.Def$each.oantt"
+    grep -q "^use Rattle.one.specs.Def$each.{def}" "../../proofs/Law$each.antt" || exit 2
+    grep -q "^pub mod Law$each" ../../proofs/Lib.antt || exit 2
+    cp Rattle-one-specs.Def.oantt "Rattle-one-specs.Def$each.oantt"
 done
-grep -q 'def = right' ../../../../crates/one/specs/DefRight0.antt && grep -q 'def = wrong' ../../../../crates/one/specs/DefWrong1.antt || exit 2
-cp "$WALKED" Rattle·one·specs.specs.DefWrong0.oantt
+grep -q 'def = right' ../../specs/DefRight0.antt && grep -q 'def = wrong' ../../specs/DefWrong1.antt || exit 2
+cp "$WALKED" Rattle-one-specs.DefWrong0.oantt
 cat "$SAID"
 echo logic=not-proved
 exit 1
@@ -327,20 +340,20 @@ def copied(name, work):
         "specs/Lib.antt": "pub mod Def\n",
         "specs/Def.antt": "pub def : ℕ\ndef = right\n",
         "proofs/Lib.antt": "pub mod Law\n",
-        "proofs/Law.antt": "use Rattle·one·specs.specs.Def.{def}\n\nlaw : def ≡ right\n",
+        "proofs/Law.antt": "use Rattle.one.specs.Def.{def}\n\nlaw : def ≡ right\n",
         "edits/wrong.edit": "file: specs/Def.antt\nold: right\nnew: wrong\n",
         "edits/also.edit": "file: specs/Def.antt\nold: def = right\nnew: def = other\n",
     }
     for file, text in files.items():
         (tree.top / "crates/one" / file).parent.mkdir(parents=True, exist_ok=True)
         (tree.top / "crates/one" / file).write_text(text)
-    module(tree.top / "target/rlib/one.rlib/toolchain/checked/Rattle·one·specs.specs.Def.oantt", ["def"], [])
-    script(tree.bin / "rt", BESIDE)
-    said, walked = tree.bin / "said", tree.bin / "walked"
+    module(tree.top / "crates/one/out/incremental/k/Rattle-one-specs.Def.oantt", ["def"])
+    script(tree.bin / "rattle", BESIDE)
+    said, alone, walked = tree.bin / "said", tree.bin / "alone", tree.bin / "walked"
     said.write_text(said_of_copies)
-    module(walked, names, [])
-    path = f"{tree.bin}:{os.path.dirname(sys.executable)}:{os.environ['PATH']}"
-    status, text = tree.run("tests/edits", path, SAID=str(said), WALKED=str(walked))
+    alone.write_text(LAW.format(""))
+    module(walked, names)
+    status, text = tries(tree, SAID=said, ALONE=alone, WALKED=walked)
     beside = tuple(f"edits one/{label}: refused, terms differ (proofs/Law.antt; with 1 others" in text for label in ("also", "wrong"))
     if beside != wanted or text.count("edits one/") != 2 or text.count(": refused, terms differ (proofs/Law.antt; ") != 2:
         yield f"{beside}, status {status}\n{text}"
@@ -348,17 +361,18 @@ def copied(name, work):
 
 # A crate of functions f and g, of which f calls g, over a definition d that g's contract names, and a law that names it: who sees which change.
 IMPORTS = {
-    "specs.specs.d": [], "proofs.proofs.law": ["specs.specs.d"],
-    "proofs.proofs.g": ["specs.specs.d"], "proofs.proofs.g.Statement": ["proofs.proofs.g"], "proofs.proofs.g.Lts": [],
-    "proofs.proofs.g.Proof": ["proofs.proofs.g.Statement", "proofs.proofs.g.Lts", "proofs.proofs.law"], "proofs.proofs.g.Met": ["proofs.proofs.g.Statement", "proofs.proofs.g.Proof"],
-    "proofs.proofs.f": [], "proofs.proofs.f.Statement": ["proofs.proofs.f"], "proofs.proofs.f.Proof": ["proofs.proofs.f.Statement", "proofs.proofs.g.Met"],
+    "specs.d": [], "proofs.law": ["specs.d"],
+    "specs.contracts.g": ["specs.d"], "proofs.g.Statement": ["specs.contracts.g"], "proofs.g.Lts": [], "proofs.g.Answers": ["proofs.g.Lts", "proofs.law"],
+    "proofs.g.Proof": ["proofs.g.Statement", "proofs.g.Lts", "proofs.g.Answers"], "proofs.g.Met": ["proofs.g.Statement", "proofs.g.Proof"],
+    "specs.contracts.f": [], "proofs.f.Statement": ["specs.contracts.f"], "proofs.f.Proof": ["proofs.f.Statement", "proofs.g.Met"],
+    "proofs.TheLinks": ["specs.contracts.g"],
 }
 SEEN = {
-    "a body": ((True, "proofs.proofs.g"), {"proofs.proofs.g.Proof"}),
-    "a contract": ((False, "proofs.proofs.g"), {"proofs.proofs.g.Proof", "proofs.proofs.f.Proof"}),
-    "a contract that none calls": ((False, "proofs.proofs.f"), {"proofs.proofs.f.Proof"}),
-    "a definition": ((False, "specs.specs.d"), {"proofs.proofs.law", "proofs.proofs.g.Proof", "proofs.proofs.f.Proof"}),
-    "a law": ((False, "proofs.proofs.law"), {"proofs.proofs.law", "proofs.proofs.g.Proof"}),
+    "a body": ((True, "proofs.g"), {"proofs.g.Proof"}),
+    "a contract": ((False, "specs.contracts.g"), {"proofs.g.Proof", "proofs.f.Proof"}),
+    "a contract that none calls": ((False, "specs.contracts.f"), {"proofs.f.Proof"}),
+    "a definition": ((False, "specs.d"), {"proofs.law", "proofs.g.Proof", "proofs.f.Proof"}),
+    "a law": ((False, "proofs.law"), {"proofs.law", "proofs.g.Proof"}),
 }
 
 
@@ -368,52 +382,20 @@ def seen_of(name, work):
     import reach
     (body, place), wanted = SEEN[name]
     for module_name, others in IMPORTS.items():
-        text = "".join(f"--@ import Rattle·one·{other} - -\n" for other in others)
-        pathlib.Path(work, f"Rattle·one·{module_name}.oantt").write_text(f"--@ kernel k\n{text}--@ reaches\n--@ import Rattle·one·specs.specs.d - -\n")
-    modules = reach.Modules("one", work)
-    found = {each for each in modules.judged() if modules.sees(each, (body, "Rattle·one·" + place))}
-    if found != {"Rattle·one·" + each for each in wanted}:
+        text = "".join(f"--@ import Rattle-one-{other} - -\n" for other in others)
+        pathlib.Path(work, f"Rattle-one-{module_name}.oantt").write_text(f"--@ kernel k\n{text}--@ reaches\n--@ import Rattle-one-specs.d - -\n")
+    modules = reach.Modules("one", work, {"Rattle-one-proofs.law", "Rattle-one-proofs.g.Answers"})
+    found = {each for each in modules.judged() if modules.sees(each, (body, "Rattle-one-" + place))}
+    if found != {"Rattle-one-" + each for each in wanted}:
         yield f"it is seen by {sorted(found)}"
 
 
 def unproved(_, work):
     """What is wrong where a crate is not proved as it stands: no edit of it may be tried over what was proved before."""
     tree = one_crate(work)
-    status, text = tree.run("tests/edits", f"{tree.bin}:{os.path.dirname(sys.executable)}:{os.environ['PATH']}", CHECK="1")
+    script(tree.bin / "rattle", CHECK)
+    status, text = tries(tree, proved="not-proved")
     if status == 0 or text.splitlines()[-1] != "0 passed, 1 failed" or (tree.bin.parent / "ran").exists():
-        yield text
-
-
-# What tests/edits --as-proved says of a crate: whether it is proved at first, and a second later, when `rt ci` has ended.
-REFUSED = "edits one/wrong: refused, terms differ ("
-PROVED = {
-    "proved at first": (True, True, REFUSED),
-    "proved meanwhile": (False, True, REFUSED),
-    "not proved": (False, False, "edits one: FAILED: it is not proved as it stands\n0 passed, 1 failed"),
-}
-
-
-def while_proved(name, work):
-    """What is wrong with edits that are tried as their crate is proved: nothing but `rt dev` may be asked for."""
-    first, then, wanted = PROVED[name]
-    tree = one_crate(work)
-    said, walked, ended = tree.bin / "said", tree.bin / "walked", tree.bin / "ended"
-    said.write_text(PROOF + DIFFER.format("1", "2") + "\nlogic=not-proved\n")
-    module(walked, ["After-g", "Need-returns"], ["m1"])
-    stamp = tree.top / "target/stamp/one"
-    if not first:
-        stamp.unlink()
-
-    def prove():
-        if then:
-            stamp.write_text("")
-        ended.write_text("")
-    later = threading.Timer(1, prove)
-    later.start()
-    path = f"{tree.bin}:{os.path.dirname(sys.executable)}:{os.environ['PATH']}"
-    _, text = tree.run("tests/edits", path, "--as-proved", str(ended), CHECK="0", SAID=str(said), WALKED=str(walked), NOCHECK="1")
-    later.join()
-    if not text.startswith(wanted) or (tree.bin.parent / "ran").exists():
         yield text
 
 
@@ -422,7 +404,7 @@ def told_apart(words, _):
     loader = importlib.machinery.SourceFileLoader("edits", str(TOP / "tests/edits"))
     edits = importlib.util.module_from_spec(importlib.util.spec_from_loader("edits", loader))
     loader.exec_module(edits)
-    (error,) = edits.errors(PROOF + words + "\nfn one::f: not proved\n")
+    (error,) = edits.errors(PROOF[2:] + words + "\nfn one::f: not proved\n")
     if edits.fact(error) != SAMPLES[words]:
         yield f"it is of the kind {edits.fact(error)!r}, not {SAMPLES[words]!r}"
 
@@ -431,8 +413,8 @@ def main():
     sys.dont_write_bytecode = True
     wrong, count = [], 0
     parts = (
-        (sums, ENDS), (aside, ASIDE), (some, SOME), (failing, FAILING), (parts_of, OF), (tried, TRIED), (copied, COPIED), (seen_of, SEEN),
-        (unproved, ["a crate that is not proved"]), (while_proved, PROVED), (told_apart, SAMPLES),
+        (sums, ENDS), (order, ORDER), (some, SOME), (failing, FAILING), (parts_of, OF), (tried, TRIED), (copied, COPIED), (seen_of, SEEN),
+        (unproved, ["a crate that is not proved"]), (told_apart, SAMPLES),
     )
     for part, names in parts:
         for name in names:

@@ -291,11 +291,11 @@ def check_proved(scale):
 def check_full():
     """The facts of the full equation's examples are among those that the prover computes."""
     n, a, b, parts, rate = full_example()
-    facts = [f"roundTripRoot {n} ≡ {a}", f"timeoutRoot {n} ≡ {b}", f"scaledDenominator {n} ≡ {parts['the bracket']}"]
-    verdicts = [("fullCondition", rate - 1, FULL, "false"), ("fullCondition", rate, FULL, "true")]
+    facts = [f"round_trip_root {n} ≡ {a}", f"timeout_root {n} ≡ {b}", f"scaled_denominator {n} ≡ {parts['the bracket']}"]
+    verdicts = [("full_condition", rate - 1, FULL, "false"), ("full_condition", rate, FULL, "true")]
     for given in ROUNDED.values():
         (rate,) = first_rate(exact_sides, given)
-        verdicts += [("exactCondition", rate, given, "true"), ("fullCondition", rate, given, "false")]
+        verdicts += [("exact_condition", rate, given, "true"), ("full_condition", rate, given, "false")]
     facts += [f"{name} {rate} {rtt} {p} {size} {w} ≡ {verdict}" for name, rate, (p, w, size, rtt), verdict in verdicts]
     for fact in facts:
         if f"({fact})" not in read(ROOTS / "specs" / "Theorems.antt"):

@@ -1,7 +1,7 @@
 #!/usr/bin/env python3
 """tests/prototypes.py: every function of the C library is declared as its source has it, wherever it is declared.
 
-The source is each `pub extern "C" fn` of crates/capi. Declarations stand in include/flasknib.h; made from it by packaging/declarations, in the package in
+The source is each `pub extern "C" fn` of crates/capi_c. Declarations stand in include/flasknib.h; made from it by packaging/declarations, in the package in
 Python and the crate in Rust; and, by hand, in the benchmarks. Result, order, types, constness and names of the parameters are compared; a slice is a
 pointer, to const unless it is `&mut`, and the count behind it. Two rules on names: what the source calls `words` is called by its record elsewhere (`source`, `sources`, `forms`, `upload`); and the
 count behind a pointer is `words` or `NAME_words`, of bytes `length` or `NAME_length`, of the lists of an arrivals block `n_NAME`, of `out` always `room`.
@@ -27,7 +27,7 @@ RATTLE = re.compile(r'^pub extern "C" fn (?P<name>flasknib_\w+)\((?P<parameters>
 
 def texts():
     """The files that are compared, by their names."""
-    names = [os.path.relpath(path, TOP) for path in glob.glob(os.path.join(TOP, "crates/capi/src/*.rt"))]
+    names = [os.path.relpath(path, TOP) for path in glob.glob(os.path.join(TOP, "crates/capi_c/src/*.rt"))]
     found = {}
     for name in [*names, HEADER, MANUAL, PACKAGE, CRATE, TIMED]:
         with open(os.path.join(TOP, name), encoding="utf-8") as file:
@@ -197,10 +197,10 @@ def unreturned(files, header):
 def faults(files):
     """(what is wrong, the functions of the source)."""
     source, header = sources(files), in_c(files[HEADER])
-    wrong = [f"{name} is not in both crates/capi and {HEADER}" for name in sorted(set(source) ^ set(header))]
+    wrong = [f"{name} is not in both crates/capi_c and {HEADER}" for name in sorted(set(source) ^ set(header))]
     for name in sorted(set(source) & set(header)):
         if not fits(header[name], source[name]):
-            wrong.append(f"{HEADER}: {name} is {shown(header[name])}, and in crates/capi {shown(source[name])}")
+            wrong.append(f"{HEADER}: {name} is {shown(header[name])}, and in crates/capi_c {shown(source[name])}")
     return wrong + [*undeclared(files, header), *different(files, header), *unmarked(files), *unreturned(files, header)], len(source)
 
 

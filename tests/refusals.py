@@ -35,7 +35,7 @@ def paths(pattern):
 
 def unnumbered(text, numbers):
     """(refusal, definition) of each refusal that a definition names without its number."""
-    taken = set(re.findall(r"\w+", " ".join(re.findall(r"^use Rattle·answers\.specs\.declared\.Refusal\.the-variants\.\{(.*)\}$", text, re.M))))
+    taken = set(re.findall(r"\w+", " ".join(re.findall(r"^use Rattle\.answers\.specs\.declared\.Refusal\.TheVariants\.\{(.*)\}$", text, re.M))))
     for part in re.split(r"\n\s*\n", text):
         lines = [line.strip() for line in part.splitlines() if not line.startswith("use ")]
         comment = " ".join(line for line in lines if line.startswith("--"))
@@ -46,10 +46,10 @@ def unnumbered(text, numbers):
 
 
 def number_faults():
-    numbers = dict(re.findall(r"^numberOf (\w+) = (\d+)$", read(TABLE), re.M))
+    numbers = dict(re.findall(r"^number_of (\w+) = (\d+)$", read(TABLE), re.M))
     files = paths("crates/*/specs/*.antt")
     wrong = [f"{file}: {name} ({numbers[name]}) in {code}" for file in files if file != TABLE for name, code in unnumbered(read(file), numbers)]
-    example = "use Rattle·answers.specs.declared.Refusal.the-variants.{Full}\n\n-- %s\nfault : Refusal\nfault = Full\n"
+    example = "use Rattle.answers.specs.declared.Refusal.TheVariants.{Full}\n\n-- %s\nfault : Refusal\nfault = Full\n"
     if len(numbers) < 13 or not list(unnumbered(example % "full", numbers)) or list(unnumbered(example % "8 when full", numbers)):
         wrong.append("the test itself: the table is not read, or a definition without its number is not found")
     return wrong, len(files)

@@ -51,9 +51,9 @@ def stated(crate, theorem, proof):
     call = re.fullmatch(r"`(\w+)::(\w+)` is `(\w+)`", theorem)
     if call:
         owner, function, definition = call.groups()
-        equals = rf"\bensures \{{ λ (\w+)\. ⌜ \1 ≡ {definition}\b"
+        equals = rf"\bensures (?:\w+ )?\{{ result ≡ {definition}\b"
         cites = any(name == function and re.search(equals, text) for name, text in promises.public_functions(crate))
-        return definition if cites and proof == os.path.join(crate, "proofs", owner, function, "Proof.antt") else None
+        return definition if cites and os.path.dirname(proof) == os.path.join(crate, "proofs", owner, function) else None
     found = re.search(rf"^pub {re.escape(theorem.strip('`'))} : (\w+)$", read(proof), re.M)
     return found and found.group(1)
 
@@ -99,8 +99,9 @@ def astray(top, page):
         if not os.path.isfile(os.path.normpath(os.path.join(top, "docs", to.partition("#")[0]))):
             yield f"a link leads to no file: {text}"
     proofs = "".join(read(path) for path in glob.glob(os.path.join(glob.escape(top), "crates/*/proofs/**/*.antt"), recursive=True))
-    for name in sorted(set(re.findall(r"`([a-z0-9]+(?:-[a-z0-9]+)+)`", page))):
-        if not re.search(rf"^pub {name} : \w+$", proofs, re.M):
+    code = "".join(read(path) for path in glob.glob(os.path.join(glob.escape(top), "crates/*/src/**/*.rt"), recursive=True))
+    for name in sorted(set(re.findall(r"(?<!\[)`([a-z0-9]+(?:_[a-z0-9]+)+)`", page))):
+        if not re.search(rf"^pub {name} : \w+$", proofs, re.M) and not re.search(rf"\bfn {name}\b", code):
             yield f"{name} is not proved"
 
 
@@ -155,9 +156,9 @@ def faults(top):
 BROKEN = {
     "a line that moved": ("crates/demands/specs/Demand3.antt", ("\n", "\n\n")),
     "a statement of another name": ("crates/table/specs/Theorems.antt", ("abbrev pub RowSplits :", "abbrev pub RowSplit :")),
-    "a theorem that is gone": ("crates/demands/proofs/EachSource.antt", ("pub each-source :", "each-source :")),
-    "a theorem in the text that is gone": ("crates/breaker/proofs/Runs.antt", ("pub refused-keeps :", "refused-keeps :")),
-    "a contract that cites no definition": ("crates/breaker/src/lib.rt", ("s ≡ reportOf self r", "s ≡ s")),
+    "a theorem that is gone": ("crates/demands/proofs/EachSource.antt", ("pub each_source :", "each_source :")),
+    "a theorem in the text that is gone": ("crates/breaker/proofs/Runs.antt", ("pub refused_keeps :", "refused_keeps :")),
+    "a contract that cites no definition": ("crates/breaker/src/lib.rt", ("result ≡ report_of self r", "result ≡ result")),
     "a wrong version that is gone": ("crates/callers/edits/row_of_all_calls.edit", None),
     "a count that is no longer right": ("docs/TESTS.md", ("| 400, 136 |", "| 401, 136 |")),
     "a table that is not found": (PAGE, ("\n## What is proved\n", "\n## Proved\n")),

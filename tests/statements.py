@@ -43,7 +43,7 @@ def misnamed(top, crate, text):
                 if name not in there:
                     yield f"{crate}: {name} is no wrong program"
     proofs = "".join(read(path) for path in glob.glob(os.path.join(glob.escape(top), "crates", crate, "proofs/**/*.antt"), recursive=True))
-    for name, statement in re.findall(r"`([a-z0-9-]+) : (\w+)`", text):
+    for name, statement in re.findall(r"`([\w-]+) : (\w+)`", text):
         if not re.search(rf"^pub {name} : {statement}$", proofs, re.M):
             yield f"{crate}: {name} : {statement} is not proved"
     for other, folder, file in set(re.findall(r"(?:`(\w+)`' |(?<!/)\b)(specs|proofs)/([A-Z]\w+)", text)):
@@ -54,7 +54,7 @@ def misnamed(top, crate, text):
 def left_out(top, page):
     """Public calls and wrong programs that the page does not name."""
     for crate in promises.libraries(os.path.join(top, "crates")):
-        text = "".join(text for of, text in sections(page) if of == crate)
+        text = "".join(text for of, text in sections(page) if of in (crate, crate.removesuffix("_c")))
         for name, _ in promises.public_functions(os.path.join(top, "crates", crate)):
             if promises.EXCEPTED.get(crate, set()) is not None and not re.search(rf"`(?:\w+::)*{name}`", text):
                 yield f"{crate}: the call {name} is left out"
@@ -72,7 +72,7 @@ def faults(top):
 BROKEN = {
     "a wrong program that is gone": ("crates/wide/edits/above_turned.edit", None),
     "a wrong program of another crate": (PAGE, ("`above_equal`, `above_turned`", "`above_equal`, `product_k`")),
-    "a theorem of another name": ("crates/source/proofs/Kept.antt", ("pub sound-stays :", "sound-stays :")),
+    "a theorem of another name": ("crates/source/proofs/Kept.antt", ("pub sound_stays :", "sound_stays :")),
     "a file that is gone": ("crates/numbers/specs/Since.antt", None),
     "a call that is left out": (PAGE, ("| `Source::lost` |", "| `Source` |")),
     "a section that is not found": (PAGE, ("\n## `wide`\n", "\n## wide\n")),

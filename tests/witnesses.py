@@ -3,7 +3,7 @@
 
 A theorem is a statement of specs/, `abbrev pub NAME : Type 0`, with its proof in proofs/, `pub name : NAME`. What it asks are the parts in front of an arrow
 that bind no name, and so for each field of the record or the product that it gives, but for a field that denies something. It is applied in a definition of
-type `Unit {0}`, where nothing can be assumed, by a line `let x = name arguments in` that goes past the last part asked; a field by `let y = x .field arguments
+type `Unit {0}`, where nothing can be assumed, by a line `let x = name arguments in` that goes past the last part asked; a field by `let y = x.field arguments
 in`. The prover checks such a line as any other. Copies of the crates are then broken in several ways, and each must be found.
 """
 import os
@@ -19,7 +19,7 @@ STATEMENT = re.compile(r"^abbrev pub (\w+) : Type \d\n\1 =(.*\n(?: .*\n)*)", re.
 RECORD = re.compile(r"^pub record (\w+)\b.* : Type \d where\n((?:  .*\n|\n(?=  ))*)", re.M)
 FIELD = re.compile(r"^  pub ([\w-]+) : (.*(?:\n   .*)*)", re.M)
 PROOF = re.compile(r"^pub ([\w-]+) : (\w+)$", re.M)
-IMPORT = re.compile(r"^use Rattle·(\w+?)(?:·proofs)?\.proofs\.[\w.]+\.\{(.*)\}$", re.M)
+IMPORT = re.compile(r"^use Rattle\.(\w+)\.proofs\.[\w.]+\.\{(.*)\}$", re.M)
 CLOSED = re.compile(r"^([\w-]+) : Unit \{0\}\n(?:unfolding .*\n)?\1 =(.*\n(?: .*\n)*)", re.M)
 LINE = re.compile(r"\blet ([\w-]+) = (.*) in(?: tt)?$", re.M)
 
@@ -88,13 +88,14 @@ def applied(crates):
                 known |= {name.split(" as ")[-1]: (other, name.split(" as ")[0], 0) for name in names.split(", ")}
             for x, line in (found for _, body in CLOSED.findall(text) for found in LINE.findall(body)):
                 head, *arguments = parts(line)
+                of, _, field = ("", "", "") if head in known else head.rpartition(".")
+                head, *given = parts(of[1:-1]) if of.startswith("(") else [of or head, *([] if field else arguments)]
                 if head not in known:
                     continue
                 *key, before = known[head]
-                at = next((i for i, part in enumerate(arguments) if re.match(r"\.\w", part)), len(arguments))
-                counts = {tuple(key): before + at} | {(*key, field[1:]): len(arguments) - at - 1 for field in arguments[at : at + 1]}
+                counts = {tuple(key): before + len(given)} | ({(*key, field): len(arguments)} if field else {})
                 most |= {each: max(count, most.get(each, 0)) for each, count in counts.items()}
-                known[x] = (*key, before + at)
+                known[x] = (*key, before + len(given))
     return most
 
 
@@ -107,12 +108,12 @@ def faults(crates):
 
 # ---- broken copies: in a file the first text is replaced by the second
 BROKEN = {
-    "an application dropped": ("demands/proofs/Uses.antt", "let d = demand3 wrapped (met .described) in\n", "let d = met in\n"),
-    "a field's application dropped": ("demands/proofs/Uses.antt", " = d .order reordered", " = d .row reordered"),
+    "an application dropped": ("demands/proofs/Uses.antt", "let d = demand3 wrapped met.described in\n", "let d = met in\n"),
+    "a field's application dropped": ("demands/proofs/Uses.antt", " = d.order reordered", " = d.row reordered"),
     "values that are assumed": ("mixed/proofs/Witnesses.antt", "used : Unit {0}", "used : ⊥ → Unit {0}"),
-    "another theorem of that name": ("mixed/proofs/Witnesses.antt", "proofs.Whole.{calls-print}", "proofs.Whole.{calls-print as print}"),
-    "one thing more asked": ("source/specs/Theorems.antt", "→ wire .0 < 65536 → sound s", "→ wire .0 < 65536 → mark ≤ 3 → sound s"),
-    "a theorem that is not proved": ("walk/proofs/Walks.antt", "pub nothing-follows : NothingFollows", "nothing-follows : NothingFollows"),
+    "another theorem of that name": ("mixed/proofs/Witnesses.antt", "proofs.Whole.{calls_print}", "proofs.Whole.{calls_print as print}"),
+    "one thing more asked": ("source/specs/Theorems.antt", "→ wire.0 < 65536 → sound s", "→ wire.0 < 65536 → mark ≤ 3 → sound s"),
+    "a theorem that is not proved": ("walk/proofs/Walks.antt", "pub nothing_follows : NothingFollows", "nothing_follows : NothingFollows"),
 }
 
 
