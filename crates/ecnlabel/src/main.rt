@@ -7,10 +7,11 @@ use format::block::BLOCK;
 use labels::Progress;
 use shell::copying::copied;
 use shell::failures::has_arguments;
-use shell::reading::{Input, fill, may_wait};
+use shell::reading::{INPUT, Input, fill, may_wait};
 use shell::streams::Streams;
 use shell::transfers::Transfer;
 use shell::turns::{Turn, next_turn};
+use std::env::Env;
 use std::fs::Files;
 
 // At most so many blocks are read at a time: what is copied of them is one write, or a few, and the larger a write, the less time the system takes for it.
@@ -146,7 +147,7 @@ fn run(
 
 // Copies the trace.
 fn copy(
-    files: &impl Files,
+    prompt: bool,
     streams: &mut Streams,
     name: &[u8],
     read: &mut [u8],
@@ -154,7 +155,6 @@ fn copy(
     piece: &mut [u8],
     errors: &mut [u8],
 ) {
-    let prompt = may_wait(files);
     let zeroth = fill(streams, read);
     let start = begin(zeroth, prompt, streams, name, read, kept);
     run(start, streams, name, kept, piece, errors);
@@ -162,15 +162,21 @@ fn copy(
 
 fn main(rt: HostRuntime) {
     let mut streams = Streams::new(rt.stdin(), rt.stdout(), rt.stderr());
-    if has_arguments(&rt, &streams, b"usage: ecnlabel <TRACE >TRACE\n") {
+    let mut word = [0u8; 1];
+    if has_arguments(
+        rt.arg(1, &mut word),
+        &streams,
+        b"usage: ecnlabel <TRACE >TRACE\n",
+    ) {
         return;
     }
+    let prompt = may_wait(rt.metadata(INPUT));
     let mut read = [0u8; BLOCK];
     let mut kept = [0u8; BLOCK];
     let mut piece = [0u8; PIECE];
     let mut errors = [0u8; ERRORS];
     copy(
-        &rt,
+        prompt,
         &mut streams,
         b"ecnlabel",
         &mut read,

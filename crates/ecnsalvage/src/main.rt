@@ -7,10 +7,11 @@ use format::block::BLOCK;
 use salvage::Progress;
 use shell::copying::copied;
 use shell::failures::has_arguments;
-use shell::reading::{Ahead, Input, fill, may_wait};
+use shell::reading::{Ahead, INPUT, Input, fill, may_wait};
 use shell::streams::Streams;
 use shell::transfers::{PRINTED, Transfer};
 use shell::turns::{Turn, next_turn};
+use std::env::Env;
 use std::fs::Files;
 
 // The most that a block lists (salvage, `line_has_room`), and the end (`end_has_room`).
@@ -153,7 +154,7 @@ fn run(
 
 // Copies the trace.
 fn copy(
-    files: &impl Files,
+    prompt: bool,
     streams: &mut Streams,
     name: &[u8],
     read: &mut [u8],
@@ -161,7 +162,6 @@ fn copy(
     piece: &mut [u8],
     errors: &mut [u8],
 ) {
-    let prompt = may_wait(files);
     let zeroth = fill(streams, read);
     let start = begin(zeroth, prompt, streams, name, read);
     run(start, streams, name, kept, piece, errors);
@@ -169,15 +169,21 @@ fn copy(
 
 fn main(rt: HostRuntime) {
     let mut streams = Streams::new(rt.stdin(), rt.stdout(), rt.stderr());
-    if has_arguments(&rt, &streams, b"usage: ecnsalvage <TRACE >TRACE\n") {
+    let mut word = [0u8; 1];
+    if has_arguments(
+        rt.arg(1, &mut word),
+        &streams,
+        b"usage: ecnsalvage <TRACE >TRACE\n",
+    ) {
         return;
     }
+    let prompt = may_wait(rt.metadata(INPUT));
     let mut read = [0u8; BLOCK];
     let mut kept = [0u8; BLOCK];
     let mut piece = [0u8; PIECE];
     let mut errors = [0u8; ERRORS];
     copy(
-        &rt,
+        prompt,
         &mut streams,
         b"ecnsalvage",
         &mut read,

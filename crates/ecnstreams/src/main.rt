@@ -5,11 +5,12 @@
 
 use format::block::BLOCK;
 use shell::failures::has_arguments;
-use shell::reading::{Input, fill, may_wait};
+use shell::reading::{INPUT, Input, fill, may_wait};
 use shell::streams::Streams;
 use shell::transfers::{PRINTED, Transfer};
 use shell::turns::{Turn, next_turn};
 use sources::pieces::Progress;
+use std::env::Env;
 use std::fs::Files;
 
 // The longest row (table, `row_fits`). The blocks print nothing, and the end at most 16 rows (sources, `end_has_room`).
@@ -156,7 +157,7 @@ fn run(
 
 // Converts the trace.
 fn convert(
-    files: &impl Files,
+    prompt: bool,
     streams: &mut Streams,
     name: &[u8],
     kept: &mut [u8],
@@ -164,7 +165,6 @@ fn convert(
     lines: &mut [u8],
     errors: &mut [u8],
 ) {
-    let prompt = may_wait(files);
     let zeroth = fill(streams, kept);
     let start = begin(zeroth, prompt, kept, lines);
     run(start, streams, name, kept, piece, lines, errors);
@@ -172,15 +172,21 @@ fn convert(
 
 fn main(rt: HostRuntime) {
     let mut streams = Streams::new(rt.stdin(), rt.stdout(), rt.stderr());
-    if has_arguments(&rt, &streams, b"usage: ecnstreams <TRACE >TABLE\n") {
+    let mut word = [0u8; 1];
+    if has_arguments(
+        rt.arg(1, &mut word),
+        &streams,
+        b"usage: ecnstreams <TRACE >TABLE\n",
+    ) {
         return;
     }
+    let prompt = may_wait(rt.metadata(INPUT));
     let mut kept = [0u8; BLOCK];
     let mut piece = [0u8; PIECE];
     let mut lines = [0u8; KEPT];
     let mut errors = [0u8; ERRORS];
     convert(
-        &rt,
+        prompt,
         &mut streams,
         b"ecnstreams",
         &mut kept,

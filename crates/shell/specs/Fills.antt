@@ -45,7 +45,7 @@ reading_after r Nothing = filling r.input.bytes End r.left
 reading_after r (Again left) = filling r.input.bytes More left
 reading_after r Failed = filling r.input.bytes Failure r.left
 
--- an input has no place: asked for it `lseek` answers a number below 0 (POSIX)
+-- an input has no place: the number that is told of its place is below 0
 abbrev pub is_placeless : ℤ → Bool
 is_placeless (pos place) = false
 is_placeless (negsuc error) = true

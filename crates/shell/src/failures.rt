@@ -4,7 +4,7 @@ ghost use Rattle.shell.specs.Told.{Joined};
 
 use crate::streams::Streams;
 use answers::copy::put_bytes;
-use std::env::{Env, FillError};
+use std::env::FillError;
 
 // Where so many bytes from a place on end, or the limit that they reach.
 fn end_of(at: usize, bytes: usize, limit: usize) -> usize
@@ -47,30 +47,20 @@ fn is_given(words: usize) -> bool
     2 <= words
 }
 
-// Whether the program was started with this word.
-fn has_word(env: &impl Env, i: usize) -> bool {
-    let mut space = [0u8; 1];
-    match env.arg(i, &mut space) {
-        Ok(_) => true,
-        Err(FillError::TooLong) => true,
-        Err(FillError::NotPresent) => false,
+// With how many words the program was started, its own name among them, as far as is told by the system's answer to who asks for the first argument, with
+// however little room for it.
+fn word_count(argument: Result<usize, FillError>) -> usize {
+    match argument {
+        Ok(_) => 2,
+        Err(FillError::TooLong) => 2,
+        Err(FillError::NotPresent) => 1,
     }
 }
 
-// With how many words the program was started, its own name among them; more than two count as two.
-fn word_count(env: &impl Env) -> usize {
-    if !has_word(env, 0) {
-        return 0;
-    }
-    if !has_word(env, 1) {
-        return 1;
-    }
-    2
-}
-
-// Whether the program was started with an argument. None takes one, so the usage line is then written on standard error.
-pub fn has_arguments(env: &impl Env, streams: &Streams, usage: &[u8]) -> bool {
-    let given = is_given(word_count(env));
+// Whether the program was started with an argument, by the system's answer to who asks for the first. None takes one, so the usage line is then written on
+// standard error.
+pub fn has_arguments(argument: Result<usize, FillError>, streams: &Streams, usage: &[u8]) -> bool {
+    let given = is_given(word_count(argument));
     if given {
         streams.print_error(usage);
     }

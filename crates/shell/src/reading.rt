@@ -8,8 +8,12 @@ use crate::failures::tell;
 use crate::retries::{Outcome, TRIES, judged};
 use crate::streams::Streams;
 use format::block::BLOCK;
-use std::fs::{Files, metadata};
+use std::fs::Metadata;
+use std::io;
 use std::os::unix::fs::FileTypeExt;
+
+// What the system calls standard input (Linux).
+pub const INPUT: &str = "/dev/stdin";
 
 // How the input stands: more may come, it has ended, or a read has failed.
 #[derive(Clone, Copy)]
@@ -88,25 +92,23 @@ fn is_placeless(place: i64) -> bool
     place < 0
 }
 
-// The place in standard input as far as it is needed: 0 if it has one, else -1. A file, a disk and a folder have one; a pipe, a socket and a terminal have
-// none, and so has what the system tells nothing of.
-fn place(files: &impl Files) -> i64 {
-    match metadata(files, "/dev/stdin") {
-        Ok(found) => {
-            let kind = found.file_type();
-            if kind.is_file() || kind.is_block_device() || kind.is_dir() {
-                return 0;
-            }
-            -1
-        }
-        Err(_) => -1,
+// The place in standard input as far as it is needed, by what the system tells of it: 0 if it has one, else -1. A file, a disk and a folder have one; a pipe,
+// a socket and a terminal have none, and so has what the system tells nothing of.
+fn place(told: io::Result<Metadata>) -> i64 {
+    let Ok(input) = told else {
+        return -1;
+    };
+    let kind = input.file_type();
+    if kind.is_file() || kind.is_block_device() || kind.is_dir() {
+        return 0;
     }
+    -1
 }
 
 // Whether a read of standard input may wait for bytes that are not there yet: of a pipe, a socket or a terminal, which have no place. A read of a file does not
-// wait. It is asked before the first read: it may change errno, which names a failed read until that is reported.
-pub fn may_wait(files: &impl Files) -> bool {
-    is_placeless(place(files))
+// wait. What the system tells of it is asked by its name, `INPUT`, before the first read.
+pub fn may_wait(told: io::Result<Metadata>) -> bool {
+    is_placeless(place(told))
 }
 
 // Reads after the first bytes of the buffer until enough are there, each time as many as it has room for, and leaves the first as they were.

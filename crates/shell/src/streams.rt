@@ -36,19 +36,24 @@ fn say(err: Stderr, bytes: &[u8]) {
     }
 }
 
-// Writes the system's text for an error on standard error. `std` has its number behind it.
+// The text of an error in front of its number, which `std` has behind it in brackets.
+fn words_of(text: &[u8]) -> &[u8] {
+    for i in 0..text.len() {
+        if text[i..].starts_with(b" (os error ") {
+            return &text[..i];
+        }
+    }
+    text
+}
+
+// Writes the system's text for an error on standard error.
 fn say_error(err: Stderr, number: i32) {
     let mut space = [0u8; 128];
     let mut cursor = Cursor::new(&mut space[..]);
     let error = Error::from_raw_os_error(number);
     let stored = write!(cursor, "{error}");
     drop(stored);
-    let Ok(text) = str::from_utf8(&space) else {
-        return;
-    };
-    if let Some((words, _)) = text.split_once(" (os error ") {
-        say(err, words.as_bytes());
-    }
+    say(err, words_of(&space));
 }
 
 impl Streams {
