@@ -21,7 +21,7 @@ FIELD = re.compile(r"^  pub ([\w-]+) : (.*(?:\n   .*)*)", re.M)
 PROOF = re.compile(r"^pub ([\w-]+) : (\w+)$", re.M)
 IMPORT = re.compile(r"^use Rattle\.(\w+)\.proofs\.[\w.]+\.\{(.*)\}$", re.M)
 CLOSED = re.compile(r"^([\w-]+) : Unit \{0\}\n(?:unfolding .*\n)?\1 =(.*\n(?: .*\n)*)", re.M)
-LINE = re.compile(r"\blet ([\w-]+) = (.*) in(?: tt)?$", re.M)
+LINE = re.compile(r"\blet ([\w-]+) = ((?:.|\n)*?) in(?: tt)?$", re.M)
 
 
 def texts(crate, folder):
@@ -86,7 +86,7 @@ def applied(crates):
             known = {name: (crate, name, 0) for name, _ in PROOF.findall(text)}
             for other, names in IMPORT.findall(text):
                 known |= {name.split(" as ")[-1]: (other, name.split(" as ")[0], 0) for name in names.split(", ")}
-            for x, line in (found for _, body in CLOSED.findall(text) for found in LINE.findall(re.sub(r"\n {6,}", " ", body))):
+            for x, line in (found for _, body in CLOSED.findall(text) for found in LINE.findall(body)):
                 head, *arguments = parts(line)
                 of, _, field = ("", "", "") if head in known else head.rpartition(".")
                 head, *given = parts(of[1:-1]) if of.startswith("(") else [of or head, *([] if field else arguments)]
