@@ -52,7 +52,7 @@ def stated(crate, theorem, proof):
     if call:
         owner, function, definition = call.groups()
         equals = rf"\bensures (?:\w+ )?\{{ result ≡ {definition}\b"
-        cites = any(name == function and re.search(equals, text) for name, text in promises.public_functions(crate))
+        cites = any(name == function and re.search(equals, text) for _, name, text in promises.public_functions(crate))
         return definition if cites and os.path.dirname(proof) == os.path.join(crate, "proofs", owner, function) else None
     found = re.search(rf"^pub {re.escape(theorem.strip('`'))} : (\w+)$", read(proof), re.M)
     return found and found.group(1)

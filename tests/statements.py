@@ -55,7 +55,7 @@ def left_out(top, page):
     """Public calls and wrong programs that the page does not name."""
     for crate in promises.libraries(os.path.join(top, "crates")):
         text = "".join(text for of, text in sections(page) if of in (crate, crate.removesuffix("_c")))
-        for name, _ in promises.public_functions(os.path.join(top, "crates", crate)):
+        for _, name, _ in promises.public_functions(os.path.join(top, "crates", crate)):
             if promises.EXCEPTED.get(crate, set()) is not None and not re.search(rf"`(?:\w+::)*{name}`", text):
                 yield f"{crate}: the call {name} is left out"
         for name in sorted(wrong_programs(top, crate)):
