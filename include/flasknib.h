@@ -81,17 +81,14 @@ extern "C" {
  *                 flasknib_space_label, flasknib_write_arrivals, flasknib_write_records,
  *                 flasknib_write_head, flasknib_write_refused, flasknib_run_start,
  *                 flasknib_forms_start, flasknib_forms_close, flasknib_streams_start,
- *                 flasknib_refusal_text
- *      512 bytes: flasknib_read_attribute, flasknib_answer, flasknib_write_feedback,
- *                 flasknib_forms_block
- *    1,024 bytes: flasknib_write_row, flasknib_count_block, flasknib_write_attribute,
- *                 flasknib_feed_close
+ *                 flasknib_refusal_text, flasknib_read_attribute, flasknib_answer
+ *      512 bytes: flasknib_write_feedback, flasknib_forms_block, flasknib_write_row
+ *    1,024 bytes: flasknib_count_block, flasknib_write_attribute, flasknib_feed_close
  *    2,048 bytes: flasknib_breaker_start, flasknib_breaker_start_preset, flasknib_run_block
- *    4,096 bytes: flasknib_feed
- *    8,192 bytes: flasknib_breaker_tick, flasknib_breaker_heard, flasknib_sources_held
+ *    4,096 bytes: flasknib_feed, flasknib_breaker_tick, flasknib_breaker_heard
+ *    8,192 bytes: flasknib_sources_held, flasknib_sources_write_compound, flasknib_sources_place
  *   16,384 bytes: flasknib_breaker_report, flasknib_breaker_report_ecn, flasknib_sources_arrive,
- *                 flasknib_sources_count_block, flasknib_sources_write_compound,
- *                 flasknib_sources_place, flasknib_streams_block, flasknib_streams_row
+ *                 flasknib_sources_count_block, flasknib_streams_block, flasknib_streams_row
  */
 
 /* What a compiler that can (GCC, Clang) warns of: an answer that nobody looks at, and a null

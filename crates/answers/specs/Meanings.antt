@@ -1,6 +1,5 @@
 -- One text for each refusal's number (document 01, "Refusal numbers"; 02), for whoever is refused.
-use Rattle.std.specs.Prelude.{ℕ, ◌-◌, ◌≤◌, cond, ◌&&◌, List, [], ◌∷◌, leb, length, get_or}
-use Rattle.std.proofs.Math.Option.{Option, none, some}
+use Rattle.std.specs.Prelude.{ℕ, ◌-◌, ◌≤◌, cond, ◌&&◌, List, [], ◌∷◌, leb, length, get_or, Option, Some, None}
 use Rattle.answers.specs.Texts.{codes}
 use Rattle.answers.specs.declared.Refusal.{Refusal}
 use Rattle.answers.specs.declared.Refusal.TheVariants.{Limits}
@@ -38,7 +37,7 @@ meaning_of number = get_or meanings (number - 1) []
 
 -- 10 for a number that is no refusal's
 unfoldable pub meaning_fault : ℕ → Option Refusal
-meaning_fault number = cond (leb 1 number && leb number last_number) none (some Limits)
+meaning_fault number = cond (leb 1 number && leb number last_number) None (Some Limits)
 
 -- no text has over 80 bytes
 abbrev pub most_meaning : ℕ

@@ -1,12 +1,11 @@
 // What each refusal means, as a text for whoever is refused.
 ghost use Rattle.std.specs.Prelude.{◌≡◌, true, ◌<◌, length};
-ghost use Rattle.std.proofs.Math.Option.{none};
 ghost use Rattle.answers.specs.Meanings.{meaning_of, meaning_fault};
 ghost use Rattle.answers.specs.Parts.{parts_fit, part_of};
 ghost use Rattle.answers.specs.Writers.{Wrote};
 
 use crate::copy::put_bytes;
-use crate::{Refusal, Written};
+use crate::{Refusal, Unwritten};
 
 // The greatest number of a refusal.
 const MOST: u8 = 19;
@@ -17,20 +16,20 @@ const ENDS: [u16; 20] = [
 ];
 
 // Writes a text at the front of out. Refusal: 12 output too small.
-fn write_text(text: &[u8], out: &mut [u8]) -> Written
-    ensures { Wrote none text.now out.old result out.new }
+fn write_text(text: &[u8], out: &mut [u8]) -> Result<usize, Unwritten>
+    ensures { Wrote None text.now out.old result out.new }
 {
     if out.len() < text.len() {
-        return Written::Room(text.len());
+        return Err(Unwritten::Room(text.len()));
     }
     put_bytes(text, out, 0);
-    Written::Length(text.len())
+    Ok(text.len())
 }
 
 // Writes part n of a text at the front of out. Refusal: 12 output too small.
-fn write_part(text: &[u8], ends: [u16; 20], n: usize, out: &mut [u8]) -> Written
+fn write_part(text: &[u8], ends: [u16; 20], n: usize, out: &mut [u8]) -> Result<usize, Unwritten>
     requires { (n < 19) × (parts_fit ends (length text.now) ≡ true) }
-    ensures { Wrote none (part_of ends text.now n) out.old result out.new }
+    ensures { Wrote None (part_of ends text.now n) out.old result out.new }
 {
     let from = ends[n] as usize;
     let to = ends[n + 1] as usize;
@@ -38,15 +37,12 @@ fn write_part(text: &[u8], ends: [u16; 20], n: usize, out: &mut [u8]) -> Written
 }
 
 // Writes the text of a refusal's number at the front of out. Refusals: 10 a number that is no refusal's, 12 output too small.
-pub fn write_meaning(number: u8, out: &mut [u8]) -> Written
+pub fn write_meaning(number: u8, out: &mut [u8]) -> Result<usize, Unwritten>
     ensures { Wrote (meaning_fault number) (meaning_of number) out.old result out.new }
 {
-    if number < 1 {
-        return Written::Refused(Refusal::Limits);
-    }
-    if MOST < number {
-        return Written::Refused(Refusal::Limits);
-    }
+    let 1..=MOST = number else {
+        return Err(Unwritten::Refused(Refusal::Limits));
+    };
     let texts: &[u8] = b"\
         the input is empty, or ends in the middle of a block or a header\
         the version in an RTCP header is not 2\

@@ -1,4 +1,5 @@
 -- The differences between two reports are the true ones, and in the limits of a report's ECN counts. Assumes nothing.
+use Rattle.std.specs.Prelude.{Ok, Err}
 use mathlib.Core.Path.{◌≡◌, refl, sym, ◌∙◌, ap, subst⁻¹}
 use mathlib.Core.Bool.{Bool, true, false, cond, ◌&&◌}
 use Prim.Native.Nat.{ℕ, ◌^◌, ◌≤◌, ◌<◌}
@@ -16,7 +17,6 @@ use Rattle.numbers.proofs.Differences.{since_exact, signed_exact, signed_low, si
 use Rattle.format.specs.declared.Counts.{Counts}
 use Rattle.breaker.specs.declared.EcnCounts.{EcnCounts}
 use Rattle.breaker.specs.Limits.{counts_ok}
-use Rattle.between.specs.declared.Between.{Between}
 use Rattle.between.specs.Differences.{signals_of, expecting_of}
 use Rattle.between.specs.Theorems.{SignalsExact, BetweenExact, GivenInLimits}
 
@@ -43,7 +43,7 @@ between_exact later earlier c d m n f g p q t a =
     let given : EcnCounts = record { lost = (signals_of c d).lost; marked = (signals_of c d).marked; expected = e } in
     record {
       counts = given;
-      given = ap (λ (b : Bool). cond b (Between.Refused Limits) (Between.Counts given)) (lt-leb (2 ^ 31) e (below e is a.few));
+      given = ap (λ (b : Bool). cond b (Err Limits) (Ok given)) (lt-leb (2 ^ 31) e (below e is a.few));
       signals = signals_exact later earlier c d f g t;
       expected_is = is;
     }
@@ -79,6 +79,6 @@ given_in_limits c d m n given = go (leb (2 ^ 31) e) refl
     x : EcnCounts
     x = record { lost = (signals_of c d).lost; marked = (signals_of c d).marked; expected = e }
 
-    go : (t : Bool) → leb (2 ^ 31) e ≡ t → cond t (Between.Refused Limits) (Between.Counts x) ≡ Between.Counts given → counts_ok given ≡ true
+    go : (t : Bool) → leb (2 ^ 31) e ≡ t → cond t (Err Limits) (Ok x) ≡ Ok given → counts_ok given ≡ true
     go true q h = let z : ◌≡◌ {A = ℕ} 0 1 = cc in absurd (omega arith)
     go false q h = let same : x ≡ given = cc in sym (ap counts_ok same) ∙ all_ok c d e (leb-false (2 ^ 31) e q)

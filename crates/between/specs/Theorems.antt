@@ -1,16 +1,14 @@
 -- The differences between two reports are the true ones where these are in range, and a report of the breaker may always come with them.
-use Rattle.std.specs.Prelude.{◌≡◌, Bool, true, ℕ, ◌^◌, leb, ℤ, pos, neg_ℤ, ◌-ℤ◌, ◌≤ℤ◌, ◌<ℤ◌}
+use Rattle.rtcp.specs.declared.ReportBlock.{ReportBlock}
+use Rattle.answers.specs.declared.Refusal.{Refusal}
+use Rattle.between.specs.declared.calls.Kept.{Kept}
+use Rattle.std.specs.Prelude.{◌≡◌, Bool, true, ℕ, ◌^◌, leb, ℤ, pos, neg_ℤ, ◌-ℤ◌, ◌≤ℤ◌, ◌<ℤ◌, Option, Some, None, Result, Ok}
 use Rattle.numbers.specs.Since.{carried}
 use Rattle.format.specs.declared.Counts.{Counts}
 use Rattle.breaker.specs.declared.EcnCounts.{EcnCounts}
 use Rattle.breaker.specs.declared.Loss.TheVariants as loss
 use Rattle.breaker.specs.Limits.{counts_ok, loss_ok}
-use Rattle.rtcp.specs.declared.MaybeReport.{MaybeReport}
-use Rattle.rtcp.specs.declared.MaybeFeedback.{MaybeFeedback}
-use Rattle.rtcp.specs.declared.MaybeSummary.{MaybeSummary}
 use Rattle.rtcp.specs.declared.Compound.{Compound}
-use Rattle.between.specs.declared.Between.{Between}
-use Rattle.between.specs.declared.calls.MaybeKept.{MaybeKept}
 use Rattle.between.specs.declared.calls.Call.{Call}
 use Rattle.between.specs.Differences.{signals_of, expecting_of}
 use Rattle.between.specs.PacketCalls.{kept_of, since_kept, call_of}
@@ -52,9 +50,9 @@ SignalsExact =
     → TrueSignals later earlier (signals_of c d).lost (signals_of c d).marked
 
 -- L, C and E are given and are the true ones, for two feedbacks as for two summaries with the highest numbers of the report blocks beside them
-pub record TrueCounts (later earlier : Truth) (b : Between) : Type 0 where
+pub record TrueCounts (later earlier : Truth) (b : Result EcnCounts Refusal) : Type 0 where
   pub counts : EcnCounts
-  pub given : b ≡ Between.Counts counts
+  pub given : b ≡ Ok counts
   pub signals : TrueSignals later earlier counts.lost counts.marked
   pub expected_is : pos counts.expected ≡ later.highest -ℤ earlier.highest
 
@@ -65,7 +63,7 @@ BetweenExact =
 
 -- whatever the reports, what is given is in the limits of a breaker's report
 abbrev pub GivenInLimits : Type 0
-GivenInLimits = (c d : Counts) (m n : ℕ) (given : EcnCounts) → expecting_of (signals_of c d) m n ≡ Between.Counts given → counts_ok given ≡ true
+GivenInLimits = (c d : Counts) (m n : ℕ) (given : EcnCounts) → expecting_of (signals_of c d) m n ≡ Ok given → counts_ok given ≡ true
 
 -- ---- the call that a packet is for
 
@@ -74,9 +72,9 @@ abbrev pub KeptIsEnough : Type 0
 KeptIsEnough = (c d : Counts) (m n : ℕ) → since_kept (kept_of m c) (kept_of n d) ≡ expecting_of (signals_of c d) m n
 
 -- a report block's fraction has 8 bits, as its type says
-abbrev pub fraction_fits : MaybeReport → Bool
-fraction_fits (MaybeReport.Present r) = leb r.fraction 255
-fraction_fits MaybeReport.Absent = true
+abbrev pub fraction_fits : Option ReportBlock → Bool
+fraction_fits (Some r) = leb r.fraction 255
+fraction_fits None = true
 
 abbrev pub loss_fits : Call → Bool
 loss_fits (Call.Report highest l) = loss_ok l
@@ -84,19 +82,19 @@ loss_fits Call.Heard = true
 
 -- whatever the packet and what is kept, the losses of a report are in the breaker's limits
 abbrev pub CallInLimits : Type 0
-CallInLimits = (c : Compound) (earlier : MaybeKept) → fraction_fits c.report ≡ true → loss_fits (call_of c earlier) ≡ true
+CallInLimits = (c : Compound) (earlier : Option Kept) → fraction_fits c.report ≡ true → loss_fits (call_of c earlier) ≡ true
 
 -- a packet with an RR and a report block of the greatest fraction
 abbrev pub some_block : Compound
 some_block =
     record {
-      report = MaybeReport.Present (record { fraction = 255; lost = pos 9; highest = 70000; jitter = 0; lsr = 0; dlsr = 0; reporter = 0 });
-      feedback = MaybeFeedback.Absent;
-      summary = MaybeSummary.Absent;
+      report = Some (record { fraction = 255; lost = pos 9; highest = 70000; jitter = 0; lsr = 0; dlsr = 0; reporter = 0 });
+      feedback = None;
+      summary = None;
       reporting = true;
     }
 
 -- the hypothesis can be met
 pub record SomeCall : Type 0 where
   pub fits : fraction_fits some_block.report ≡ true
-  pub call : call_of some_block MaybeKept.Absent ≡ Call.Report 70000 (loss.Fraction 255)
+  pub call : call_of some_block None ≡ Call.Report 70000 (loss.Fraction 255)

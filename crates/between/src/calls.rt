@@ -1,12 +1,13 @@
 // Which of the breaker's calls a packet is for (RFC 8083, section 5; document 02, requests L2 and L4), and what is kept of its receiver.
 ghost use Rattle.std.specs.Prelude.{◌≡◌};
 ghost use Rattle.between.specs.Differences.{between_as};
-ghost use Rattle.between.specs.PacketCalls.{counters_given, since_kept, ecn_report_of, kept_after, counts_since, highest_in, call_of, call_for};
+ghost use Rattle.between.specs.PacketCalls.{kept_of, counters_given, since_kept, ecn_report_of, kept_after, counts_since, highest_in, call_of, call_for};
 
-use crate::{Between, counters};
+use crate::counters;
+use answers::Refusal;
 use breaker::{EcnCounts, Loss};
 use format::Counts;
-use rtcp::{Compound, MaybeFeedback, MaybeReport, MaybeSummary};
+use rtcp::Compound;
 
 // What is kept of a receiver's last ECN report: its highest number, packets marked with CE and packets lost, as it carried them.
 #[derive(Clone, Copy)]
@@ -14,12 +15,6 @@ pub struct Kept {
     pub highest: u32,
     pub ce: u16,
     pub lost: u16,
-}
-
-#[derive(Clone, Copy)]
-pub enum MaybeKept {
-    Present(Kept),
-    Absent,
 }
 
 // Which of the breaker's calls a packet is for: a report of the highest number, with its losses, or a heard packet.
@@ -33,14 +28,7 @@ pub enum Call {
 #[derive(Clone, Copy)]
 pub struct PacketCall {
     pub call: Call,
-    pub kept: MaybeKept,
-}
-
-// L, C and E between two reports, where both are there and the highest number did not go back.
-#[derive(Clone, Copy)]
-enum MaybeCounts {
-    Present(EcnCounts),
-    Absent,
+    pub kept: Option<Kept>,
 }
 
 // What the first ECN report comes with.
@@ -66,7 +54,7 @@ pub fn counters_of(ce: u16, lost: u16) -> Counts
 
 impl Kept {
     // L, C and E since an earlier report.
-    pub fn since(self, earlier: Kept) -> Between
+    pub fn since(self, earlier: Kept) -> Result<EcnCounts, Refusal>
         ensures value { result ≡ since_kept self earlier }
         ensures numbered { between_as result ≡ between_as (since_kept self earlier) }
     {
@@ -76,80 +64,60 @@ impl Kept {
     }
 }
 
-// The ECN report in a packet: of the feedback, else of a summary entry with the highest number of the report block beside it.
-fn ecn_report_of(packet: Compound) -> MaybeKept
-    ensures { result ≡ ecn_report_of packet }
+// What is kept of an ECN report.
+fn kept_of(highest: u32, counts: Counts) -> Kept
+    ensures { result ≡ kept_of highest counts }
 {
-    let feedback = packet.feedback;
-    if let MaybeFeedback::Present(f) = feedback {
-        let counts = f.counts;
-        return MaybeKept::Present(Kept {
-            highest: f.highest,
-            ce: counts.ce,
-            lost: counts.lost,
-        });
-    }
-    let summary = packet.summary;
-    let MaybeSummary::Present(counts) = summary else {
-        return MaybeKept::Absent;
-    };
-    let report = packet.report;
-    let MaybeReport::Present(block) = report else {
-        return MaybeKept::Absent;
-    };
-    MaybeKept::Present(Kept {
-        highest: block.highest,
+    Kept {
+        highest,
         ce: counts.ce,
         lost: counts.lost,
-    })
+    }
+}
+
+// The ECN report in a packet: of the feedback, else of a summary entry with the highest number of the report block beside it.
+fn ecn_report_of(packet: Compound) -> Option<Kept>
+    ensures { result ≡ ecn_report_of packet }
+{
+    if let Some(f) = packet.feedback {
+        return Some(kept_of(f.highest, f.counts));
+    }
+    let counts = packet.summary?;
+    let block = packet.report?;
+    Some(kept_of(block.highest, counts))
 }
 
 // What is kept after a packet: its ECN report, else the earlier one. One without SR or RR keeps nothing anew.
-fn kept_after(packet: Compound, earlier: MaybeKept) -> MaybeKept
+#[tactic(auto, unfolding(crate::specs::PacketCalls::kept_after))]
+fn kept_after(packet: Compound, earlier: Option<Kept>) -> Option<Kept>
     ensures { result ≡ kept_after packet earlier }
 {
-    if !packet.reporting {
-        return earlier;
-    }
-    match ecn_report_of(packet) {
-        MaybeKept::Present(new) => MaybeKept::Present(new),
-        MaybeKept::Absent => earlier,
+    if packet.reporting {
+        ecn_report_of(packet).or(earlier)
+    } else {
+        earlier
     }
 }
 
 // The counts between two reports, if there are any.
-fn counts_since(later: MaybeKept, earlier: MaybeKept) -> MaybeCounts
+fn counts_since(later: Option<Kept>, earlier: Option<Kept>) -> Option<EcnCounts>
     ensures { result ≡ counts_since later earlier }
 {
-    let MaybeKept::Present(new) = later else {
-        return MaybeCounts::Absent;
-    };
-    let MaybeKept::Present(old) = earlier else {
-        return MaybeCounts::Absent;
-    };
-    match new.since(old) {
-        Between::Counts(counts) => MaybeCounts::Present(counts),
-        Between::Refused(_) => MaybeCounts::Absent,
-    }
+    later?.since(earlier?).ok()
 }
 
 // The highest number: the report block's where there is one, else the feedback's.
 fn highest_in(packet: Compound) -> u32
     ensures { result ≡ highest_in packet }
 {
-    let report = packet.report;
-    if let MaybeReport::Present(block) = report {
-        return block.highest;
-    }
-    let feedback = packet.feedback;
-    match feedback {
-        MaybeFeedback::Present(f) => f.highest,
-        MaybeFeedback::Absent => 0,
+    match packet.report {
+        Some(block) => block.highest,
+        None => packet.feedback.map_or(0, |f| f.highest),
     }
 }
 
 // The call: the first rule that holds.
-fn call_of(packet: Compound, earlier: MaybeKept) -> Call
+fn call_of(packet: Compound, earlier: Option<Kept>) -> Call
     ensures { result ≡ call_of packet earlier }
 {
     if !packet.reporting {
@@ -157,24 +125,24 @@ fn call_of(packet: Compound, earlier: MaybeKept) -> Call
     }
     let highest = highest_in(packet);
     let new = ecn_report_of(packet);
-    if let MaybeCounts::Present(counts) = counts_since(new, earlier) {
+    if let Some(counts) = counts_since(new, earlier) {
         return Call::Report(highest, Loss::Counts(counts));
     }
-    let report = packet.report;
-    if let MaybeReport::Present(block) = report {
-        return Call::Report(highest, Loss::Fraction(block.fraction as u64));
+    if let Some(block) = packet.report {
+        return Call::Report(highest, Loss::Fraction(u64::from(block.fraction)));
     }
     match new {
-        MaybeKept::Present(_) => Call::Report(highest, Loss::Counts(NONE)),
-        MaybeKept::Absent => Call::Heard,
+        Some(_) => Call::Report(highest, Loss::Counts(NONE)),
+        None => Call::Heard,
     }
 }
 
 // The call that a packet is for, where `kept` is of the receiver's packets before it; and what is kept then.
-pub fn call_for(packet: Compound, kept: MaybeKept) -> PacketCall
+pub fn call_for(packet: Compound, kept: Option<Kept>) -> PacketCall
     ensures { result ≡ call_for packet kept }
 {
-    let call = call_of(packet, kept);
-    let next = kept_after(packet, kept);
-    PacketCall { call, kept: next }
+    PacketCall {
+        call: call_of(packet, kept),
+        kept: kept_after(packet, kept),
+    }
 }

@@ -15,7 +15,7 @@ use rtcp::Feedback;
 
 mod calls;
 
-pub use calls::{Call, Kept, MaybeKept, PacketCall, call_for, counters_of};
+pub use calls::{Call, Kept, PacketCall, call_for, counters_of};
 
 // The signs of congestion between two reports: L and C. There is no E here, since a summary has no highest number.
 #[derive(Clone, Copy)]
@@ -24,31 +24,24 @@ pub struct Signals {
     pub marked: u64,
 }
 
-// L, C and E, or refusal 10 where the highest number went back.
-#[derive(Clone, Copy)]
-pub enum Between {
-    Counts(EcnCounts),
-    Refused(Refusal),
-}
-
 // A difference of 32 bits from here on is one of a number that went back.
 const BACK: u32 = 2147483648;
 
 impl Signals {
     // L, C and E, by the highest numbers that go with the two reports: of a feedback its own, of a summary that of the report block beside it
     // (RFC 6679, section 5.2).
-    pub fn expecting(self, later: u32, earlier: u32) -> Between
+    pub fn expecting(self, later: u32, earlier: u32) -> Result<EcnCounts, Refusal>
         ensures value { result ≡ expecting_of self later earlier }
         ensures numbered { between_as result ≡ between_as (expecting_of self later earlier) }
     {
         let expected = since::since32(later, earlier);
         if BACK <= expected {
-            return Between::Refused(Refusal::Limits);
+            return Err(Refusal::Limits);
         }
-        Between::Counts(EcnCounts {
+        Ok(EcnCounts {
             lost: self.lost,
             marked: self.marked,
-            expected: expected as u64,
+            expected: u64::from(expected),
         })
     }
 }
@@ -58,17 +51,15 @@ pub fn counters(later: Counts, earlier: Counts) -> Signals
     ensures { result ≡ signals_of later earlier }
 {
     Signals {
-        lost: since::lost_since(later.lost, earlier.lost) as i64,
-        marked: since::since16(later.ce, earlier.ce) as u64,
+        lost: i64::from(since::lost_since(later.lost, earlier.lost)),
+        marked: u64::from(since::since16(later.ce, earlier.ce)),
     }
 }
 
 // L, C and E between two feedbacks.
-pub fn feedbacks(later: Feedback, earlier: Feedback) -> Between
+pub fn feedbacks(later: Feedback, earlier: Feedback) -> Result<EcnCounts, Refusal>
     ensures value { result ≡ between_of later earlier }
     ensures numbered { between_as result ≡ between_as (between_of later earlier) }
 {
-    let new = later.counts;
-    let old = earlier.counts;
-    counters(new, old).expecting(later.highest, earlier.highest)
+    counters(later.counts, earlier.counts).expecting(later.highest, earlier.highest)
 }

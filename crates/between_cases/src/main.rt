@@ -11,12 +11,12 @@
 // Any other line is a heading.
 #![tactic(auto)]
 
-use answers::Written;
-use between::{Call, Kept, MaybeKept, call_for};
+use answers::Unwritten;
+use between::{Call, Kept, call_for};
 use breaker::{Answer, Breaker, EcnCounts, Loss, Report, Step};
 use cases::{number, number8, number16, number32};
 use format::Wire;
-use rtcp::{Compound, Profile, Reading, read_compound};
+use rtcp::{Compound, Profile, read_compound};
 use source::{Arrival, Source};
 use sources::{Place, Table};
 use std::io::Stdout;
@@ -31,7 +31,7 @@ const MEDIA: u32 = 1;
 struct Path {
     breaker: Breaker,
     source: Source,
-    kept: MaybeKept,
+    kept: Option<Kept>,
 }
 
 fn show_counts(to: Stdout, c: EcnCounts) {
@@ -62,15 +62,15 @@ fn show_call(to: Stdout, call: Call) {
     }
 }
 
-fn show_kept(to: Stdout, kept: MaybeKept) {
+fn show_kept(to: Stdout, kept: Option<Kept>) {
     show::text(to, b", kept");
     match kept {
-        MaybeKept::Present(k) => {
+        Some(k) => {
             show::number(to, k.highest as u64);
             show::number(to, k.ce as u64);
             show::number(to, k.lost as u64);
         }
-        MaybeKept::Absent => show::text(to, b" none"),
+        None => show::text(to, b" none"),
     }
 }
 
@@ -91,7 +91,7 @@ fn show_answer(to: Stdout, answer: Answer) {
 }
 
 // The path with something else kept.
-fn keeping(p: Path, kept: MaybeKept) -> Path {
+fn keeping(p: Path, kept: Option<Kept>) -> Path {
     let breaker = p.breaker;
     let source = p.source;
     Path {
@@ -102,8 +102,8 @@ fn keeping(p: Path, kept: MaybeKept) -> Path {
 }
 
 // What is kept by a line.
-fn kept_of(line: &[u8]) -> MaybeKept {
-    MaybeKept::Present(Kept {
+fn kept_of(line: &[u8]) -> Option<Kept> {
+    Some(Kept {
         highest: number32(line, 1),
         ce: number16(line, 2),
         lost: number16(line, 3),
@@ -120,7 +120,7 @@ fn compound(to: Stdout, p: Path, line: &[u8]) -> Path {
         number32(line, 1),
         Profile::ReducedSize,
     ) {
-        Reading::Read(found) => {
+        Ok(found) => {
             let next = call_for(found, kept);
             let call = next.call;
             let then = next.kept;
@@ -128,7 +128,7 @@ fn compound(to: Stdout, p: Path, line: &[u8]) -> Path {
             show_kept(to, then);
             keeping(p, then)
         }
-        Reading::Refused(refusal) => {
+        Err(refusal) => {
             show::text(to, b" :");
             show::refused(to, refusal);
             p
@@ -143,7 +143,7 @@ fn begun(time: u64) -> Path {
     Path {
         breaker,
         source,
-        kept: MaybeKept::Absent,
+        kept: None,
     }
 }
 
@@ -186,7 +186,7 @@ fn arrivals(p: Path, line: &[u8]) -> Path {
 }
 
 // Our compound about a source.
-fn write_own(source: Source, out: &mut [u8]) -> Written {
+fn write_own(source: Source, out: &mut [u8]) -> Result<usize, Unwritten> {
     let place = Place {
         ssrc: MEDIA,
         source,
@@ -213,7 +213,7 @@ fn stepped(b: Breaker, call: Call, line: &[u8]) -> Step {
 }
 
 // What is kept after the breaker's answer.
-fn kept_by(answer: Answer, before: MaybeKept, then: MaybeKept) -> MaybeKept {
+fn kept_by(answer: Answer, before: Option<Kept>, then: Option<Kept>) -> Option<Kept> {
     match answer {
         Answer::Refused(_) => before,
         Answer::Go => then,
@@ -248,14 +248,14 @@ fn own(to: Stdout, p: Path, line: &[u8]) -> Path {
     let mut space = [0u8; 40];
     let source = p.source;
     let written = write_own(source, &mut space);
-    let Written::Length(_) = written else {
+    let Ok(_) = written else {
         show::text(to, b" :");
         show::written(to, written);
         return p;
     };
     match read_compound(&space, MEDIA, Profile::Compound) {
-        Reading::Read(found) => reported(to, p, found, line),
-        Reading::Refused(refusal) => {
+        Ok(found) => reported(to, p, found, line),
+        Err(refusal) => {
             show::text(to, b" :");
             show::refused(to, refusal);
             p
@@ -270,7 +270,7 @@ fn done(to: Stdout, p: Path, line: &[u8]) -> Path {
         b'c' => compound(to, p, line),
         b'd' => begun(number(line, 1)),
         b'k' => keeping(p, kept_of(line)),
-        b'n' => keeping(p, MaybeKept::Absent),
+        b'n' => keeping(p, None),
         b'o' => own(to, p, line),
         _ => p,
     }

@@ -1,92 +1,60 @@
 -- Laws of the window's places: a part of them by its first place, and one place more in front. Assumes nothing.
 use mathlib.Core.Path.{◌≡◌, refl, sym, ◌∙◌, ap}
-use mathlib.Core.Bool.{Bool, true, false, ◌&&◌, and-true}
+use mathlib.Core.Bool.{Bool, true, false, ◌&&◌}
 use mathlib.Core.List.{List, [], ◌∷◌, ◌++◌, map}
 use Prim.Native.Nat.{ℕ, zero, suc, ◌+◌, ◌-◌, ◌*◌, ◌≤◌, ◌<◌, zero-le, min}
 use native.Mathlib.Nat.{mul-le-mul, mul-le-mul_right, le_of_suc-le-suc, not-suc-le-zero}
 use native.Mathlib.Numerals.{add-one}
 use native.Mathlib.Omega.{arith}
 use borrow.Author.Tests.{leb-true, leb-false}
-use lib.Dec.{leb, eqb, leb-zero, leb-suc-zero, eqb-suc-zero}
-use lib.ListN.{length, length-map, get_or, take, drop, set, replicate}
-use lib.Seq.{slice, slice-cons, set_at, take-suc, slice_empty, append_snoc, length-take-le, take-append-le, drop-append-le, take-take}
+use lib.Dec.{leb}
+use lib.ListN.{length, length-map, get_or, take, drop, replicate}
+use lib.Seq.{slice, slice_empty, length-take-le, take-append-le, drop-append-le, take-take}
 use Rattle.answers.specs.Conditions.{all}
 use Rattle.answers.proofs.Conditions.{and_left, and_right}
 use Rattle.breaker.specs.declared.Interval.{Interval}
-use Rattle.breaker.specs.Windows.{zero_interval, in_front, fraction_ok, length_ok, is_zero, sum_of, W, P}
-use Rattle.breaker.specs.Private.{between, interval_ok, sums_of, SumsOk}
+use Rattle.breaker.specs.Windows.{zero_interval, in_front, fraction_ok, length_ok, sum_of, W, P}
+use Rattle.breaker.specs.Private.{interval_ok, sums_of, SumsOk}
+use Rattle.std.specs.List.{list_all}
+use Rattle.std.proofs.lemmas.List.{drop-replicate}
 
 -- an array of structs is known by the list of their values
 pub length-mapped : (X Y : Type 0) (f : X → Y) (l : List X) (n : ℕ) → length (map f l) ≡ n → length l ≡ n
 length-mapped X Y f l n p = sym (length-map l f) ∙ p
 
--- ---- a part by its first place
+-- ---- one place more
 
-pub next_place : (i to : ℕ) (xs : List Interval) → i < to → to ≤ length xs → slice i to xs ≡ get_or xs i zero_interval ∷ slice (i + 1) to xs
-next_place i to xs h k = rw add-one (slice-cons i to xs zero_interval h k)
+sum_suc : (f : Interval → ℕ) (i : ℕ) (xs : List Interval) → i < length xs → sum_of f (take i xs) + f (get_or xs i zero_interval) ≡ sum_of f (take (suc i) xs)
+sum_suc f i [] h = absurd (omega arith)
+sum_suc f zero (x ∷ xs) h = omega arith
+sum_suc f (suc i) (x ∷ xs) h = omega (arith, sum_suc f i xs (omega arith))
 
-module _ (ok : Interval → Bool) (i to : ℕ) (xs : List Interval) (h : i < to) (k : to ≤ length xs) where
-  next_all : all (map ok (slice i to xs)) ≡ (ok (get_or xs i zero_interval) && all (map ok (slice (i + 1) to xs)))
-  next_all = ap (λ (l : List Interval). all (map ok l)) (next_place i to xs h k)
+pub sum_more : (f : Interval → ℕ) (i : ℕ) (xs : List Interval) → i < length xs → sum_of f (take i xs) + f (get_or xs i zero_interval) ≡ sum_of f (take (i + 1) xs)
+sum_more f i xs h = rw add-one (sum_suc f i xs h)
 
-  pub fails : ok (get_or xs i zero_interval) ≡ false → all (map ok (slice i to xs)) ≡ false
-  fails e = next_all ∙ ap (λ (t : Bool). t && all (map ok (slice (i + 1) to xs))) e
+pub all_at : (ok : Interval → Bool) (i : ℕ) (xs : List Interval) → i < length xs → all (map ok xs) ≡ true → ok (get_or xs i zero_interval) ≡ true
+all_at ok i [] h e = absurd (omega arith)
+all_at ok zero (x ∷ xs) h e = and_left (ok x) _ e
+all_at ok (suc i) (x ∷ xs) h e = all_at ok i xs (omega arith) (and_right (ok x) _ e)
 
-  pub passes : ok (get_or xs i zero_interval) ≡ true → all (map ok (slice i to xs)) ≡ all (map ok (slice (i + 1) to xs))
-  passes e = next_all ∙ ap (λ (t : Bool). t && all (map ok (slice (i + 1) to xs))) e
+-- ---- the limits of all places
 
-  pub first_ok_lem : all (map ok (slice i to xs)) ≡ true → ok (get_or xs i zero_interval) ≡ true
-  first_ok_lem e = and_left (ok (get_or xs i zero_interval)) _ (sym next_all ∙ e)
+pub all_is : (ok : Interval → Bool) (xs : List Interval) → list_all ok xs ≡ all (map ok xs)
+all_is ok [] = refl
+all_is ok (x ∷ xs) = ap (λ (t : Bool). ok x && t) (all_is ok xs)
 
-  pub rest_ok : all (map ok (slice i to xs)) ≡ true → all (map ok (slice (i + 1) to xs)) ≡ true
-  rest_ok e = and_right (ok (get_or xs i zero_interval)) _ (sym next_all ∙ e)
+both_split : (a b e f : Bool) → ((a && b) && (e && f)) ≡ ((b && e) && (a && f))
+both_split true true e f = refl
+both_split true false e f = refl
+both_split false true true f = refl
+both_split false true false f = refl
+both_split false false e f = refl
 
-pub sum_next : (f : Interval → ℕ) (i n : ℕ) (xs : List Interval) → i < n → n ≤ length xs
-    → sum_of f (slice i n xs) ≡ f (get_or xs i zero_interval) + sum_of f (slice (i + 1) n xs)
-sum_next f i n xs h k = ap (sum_of f) (next_place i n xs h k)
-
--- ---- the limits of one place, and of all
-
--- the places in use: the least interval has length 1, the greatest length 10,000,000 and fraction 255
-shuffled : (a b d e f : Bool) → ((a && (b && (d && true))) && (e && f)) ≡ ((d && e) && ((a && b) && f))
-shuffled true true true e f = refl
-shuffled true true false e f = refl
-shuffled true false true true f = refl
-shuffled true false true false f = refl
-shuffled true false false e f = refl
-shuffled false b true true f = refl
-shuffled false b true false f = refl
-shuffled false b false e f = refl
-
-abbrev pub least : Interval
-least = record { length = 1; fraction = 0 }
-
-abbrev pub most : Interval
-most = record { length = 10000000; fraction = 255 }
-
-pub used_limits : (xs : List Interval) → all (map (between least most) xs) ≡ (all (map fraction_ok xs) && all (map length_ok xs))
+pub used_limits : (xs : List Interval) → list_all interval_ok xs ≡ (all (map fraction_ok xs) && all (map length_ok xs))
 used_limits [] = refl
 used_limits (x ∷ xs) =
-    let a = leb 1 x.length in
-    let b = leb x.length 10000000 in
-    let d = leb x.fraction 255 in
-    ap (λ (t : Bool). (a && (b && (t && (d && true)))) && all (map (between least most) xs)) (leb-zero x.fraction)
-    ∙ ap (λ (t : Bool). (a && (b && (d && true))) && t) (used_limits xs)
-    ∙ shuffled a b d (all (map fraction_ok xs)) (all (map length_ok xs))
-
--- the other places: zero is the least and the greatest
-zero_only : (n : ℕ) → leb n 0 ≡ eqb n 0
-zero_only zero = refl
-zero_only (suc n) = leb-suc-zero n ∙ sym (eqb-suc-zero n)
-
-pub zero_limits : (xs : List Interval) → all (map (between zero_interval zero_interval) xs) ≡ all (map is_zero xs)
-zero_limits [] = refl
-zero_limits (x ∷ xs) = λ i. one x i && zero_limits xs i
-  where
-    one : (x : Interval) → between zero_interval zero_interval x ≡ is_zero x
-    one x =
-        (λ i. leb-zero x.length i && (zero_only x.length i && (leb-zero x.fraction i && (zero_only x.fraction i && true))))
-        ∙ ap (λ (t : Bool). eqb x.length 0 && t) (and-true (eqb x.fraction 0))
+    ap (λ (t : Bool). interval_ok x && t) (used_limits xs)
+    ∙ both_split (length_ok x) (fraction_ok x) (all (map fraction_ok xs)) (all (map length_ok xs))
 
 -- a sum of numbers that are at most `most`
 pub sum_bound : (ok : Interval → Bool) (f : Interval → ℕ) (most : ℕ) → ((x : Interval) → ok x ≡ true → f x ≤ most)
@@ -141,23 +109,13 @@ sums_ok k xs l h e a =
 
 -- ---- one place more in front
 
--- the store at place i
-pub front_next : (m i : ℕ) (l : List Interval) → i < m → i < length l
-    → set (take i l ++ replicate (m - i) zero_interval) i (get_or l i zero_interval) ≡ take (i + 1) l ++ replicate (m - (i + 1)) zero_interval
-front_next m i l h k =
-    let z = zero_interval in
-    let e : m - i ≡ suc (m - (i + 1)) = omega arith in
-    ap (λ (n : ℕ). set (take i l ++ replicate n z) i (get_or l i z)) e
-    ∙ set_at (take i l) z (replicate (m - (i + 1)) z) (get_or l i z) i (length-take-le i l (omega arith))
-    ∙ sym (append_snoc (take i l) (get_or l i z) (replicate (m - (i + 1)) z))
-    ∙ ap (λ (r : List Interval). r ++ replicate (m - (i + 1)) z) (sym (take-suc l i z k))
-    ∙ ap (λ (n : ℕ). take n l ++ replicate (m - (i + 1)) z) (sym (add-one i))
-
--- the place before i, counted without the new front
-pub behind_front : (x : Interval) (i : ℕ) (xs : List Interval) → 1 ≤ i → get_or xs (i - 1) zero_interval ≡ get_or (x ∷ xs) i zero_interval
-behind_front x i xs h =
-    let e : suc (i - 1) ≡ i = omega arith in
-    ap (λ (n : ℕ). get_or (x ∷ xs) n zero_interval) e
+-- the first k - 1 places moved back by one, in front of zeros
+pub in_front_is : (k : ℕ) (x : Interval) (xs : List Interval) → 1 ≤ k → k ≤ 32 → x ∷ (take (k - 1) xs ++ drop (k - 1) (replicate 31 zero_interval)) ≡ in_front k x xs
+in_front_is zero x xs h l = absurd (omega arith)
+in_front_is (suc k) x xs h l =
+    let e : suc k - 1 ≡ k = omega arith in
+    let z : 31 - k ≡ 32 - suc k = omega arith in
+    rw (e, ← z) (ap (λ (zs : List Interval). x ∷ (take k xs ++ zs)) (drop-replicate k 31 zero_interval))
 
 -- ---- what holds of all places, with one more in front
 

@@ -1,12 +1,10 @@
 -- What the private functions ask and promise. No public call and no theorem cites this file.
-use Rattle.std.specs.Prelude.{◌≡◌, Bool, true, false, ◌&&◌, not, cond, List, [], ◌∷◌, ℕ, ◌*◌, ◌<◌, ◌≤◌, leb, ltb}
-use Rattle.answers.specs.Conditions.{all}
+use Rattle.breaker.specs.declared.Answer.{Answer}
+use Rattle.std.specs.Prelude.{◌≡◌, Bool, true, false, ◌&&◌, not, cond, List, ℕ, ◌*◌, ◌<◌, ◌≤◌, ltb, Option, Some, None}
 use Rattle.breaker.specs.declared.Reason.TheVariants.{Congestion}
 use Rattle.breaker.specs.declared.State.TheVariants.{Running}
 use Rattle.breaker.specs.declared.Interval.{Interval}
 use Rattle.breaker.specs.declared.intervals.Sums.{Sums}
-use Rattle.breaker.specs.declared.Opening.{Opening}
-use Rattle.breaker.specs.declared.Opening.TheVariants.{Answered, Open}
 use Rattle.breaker.specs.declared.Window.{Window}
 use Rattle.breaker.specs.declared.Breaker.{Breaker}
 use Rattle.breaker.specs.declared.Report.{Report}
@@ -19,16 +17,6 @@ use Rattle.breaker.specs.Rules.{stored, holds}
 use Rattle.breaker.specs.Soundness.{sound}
 
 -- ---- intervals
-
--- both numbers of x are between those of two others
-abbrev pub between : Interval → Interval → Interval → Bool
-between least most x =
-    all
-    (leb least.length x.length
-    ∷ leb x.length most.length
-    ∷ leb least.fraction x.fraction
-    ∷ leb x.fraction most.fraction
-    ∷ [])
 
 -- an interval in its limits
 abbrev pub interval_ok : Interval → Bool
@@ -46,9 +34,9 @@ pub record SumsOk (s : Sums) : Type 0 where
 
 -- ---- the opening of a call: its answer, whatever would follow, or a record that is sound and runs
 
-abbrev pub Opens : Breaker → Opening → Type 0
-Opens b (Answered answer) = (next : Step) → answers answer b ≡ opened b next
-Opens b Open = (sound b ≡ true) × (b.state ≡ Running)
+abbrev pub Opens : Breaker → Option Answer → Type 0
+Opens b (Some answer) = (next : Step) → answers answer b ≡ opened b next
+Opens b None = (sound b ≡ true) × (b.state ≡ Running)
 
 -- ---- the rules
 

@@ -46,11 +46,10 @@ pub fn exceeds(settings: Settings, window: Window, r: Report) -> bool
     requires { (settings_ok settings ≡ true) × (all (map interval_ok (last_intervals settings window)) ≡ true) × (report_ok r ≡ true) }
     ensures { result ≡ holds settings window r }
 {
-    let k = settings.k;
-    let last = window.intervals;
-    let sums = intervals::summed(last, k);
+    let sums = intervals::summed(&window.intervals[..settings.k]);
     if settings.full {
-        return above_full(sums, r);
+        above_full(sums, r)
+    } else {
+        above_simplified(sums, r)
     }
-    above_simplified(sums, r)
 }

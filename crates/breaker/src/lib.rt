@@ -28,15 +28,15 @@ pub struct Settings {
     pub full: bool,
 }
 
-// Why the breaker stops.
+// Why the breaker stops, by the numbers of document 01.
 #[derive(Clone, Copy)]
 pub enum Reason {
-    // 1: no report and no heard packet for the timeout.
-    Timeout,
-    // 2: m reports in a row whose highest number is not ahead.
-    Media,
-    // 3: the rate is above ten times the throughput equation.
-    Congestion,
+    // No report and no heard packet for the timeout.
+    Timeout = 1,
+    // m reports in a row whose highest number is not ahead.
+    Media = 2,
+    // The rate is above ten times the throughput equation.
+    Congestion = 3,
 }
 
 impl Reason {
@@ -44,15 +44,11 @@ impl Reason {
     pub fn number(self) -> u8
         ensures { result ≡ reason_number self }
     {
-        match self {
-            Reason::Timeout => 1,
-            Reason::Media => 2,
-            Reason::Congestion => 3,
-        }
+        self as u8
     }
 }
 
-// Whether the breaker has stopped, and by which rule.
+// Whether the breaker has stopped, and by which rule. (An enum of its own, since a `None` of an `Option<Reason>` would not say that it runs.)
 #[derive(Clone, Copy)]
 pub enum State {
     Running,
@@ -133,13 +129,6 @@ pub struct Step {
     pub breaker: Breaker,
 }
 
-// Whether a call is answered before its arguments are looked at.
-#[derive(Clone, Copy)]
-enum Opening {
-    Answered(Answer),
-    Open,
-}
-
 impl Breaker {
     // The limits. A time is below TIME_LIMIT, 2^48 ms; a stored length is from 1 to MAX_LENGTH; MAX_PACKETS, 2^31, is that of the ECN counts.
     pub const MAX_K: usize = 32;
@@ -172,14 +161,12 @@ impl Breaker {
     };
 
     // A breaker that runs from `time` on, with the answer Go. Refused with 10, the record is all zero, which every call refuses with 9.
+    #[tactic(auto, unfolding(crate::specs::Calls::start_of))]
     pub fn start(settings: Settings, time: u64) -> Step
         ensures value { result ≡ start_of settings time }
         ensures numbered { step_as result ≡ step_as (start_of settings time) }
     {
-        if !limits::settings_ok(settings) {
-            return Breaker::unstarted();
-        }
-        if Breaker::TIME_LIMIT <= time {
+        if !limits::settings_ok(settings) || Breaker::TIME_LIMIT <= time {
             return Breaker::unstarted();
         }
         Breaker::fresh(settings, time).answered(Answer::Go)
@@ -198,16 +185,13 @@ impl Breaker {
         ensures value { result ≡ report_of self r }
         ensures numbered { step_as result ≡ step_as (report_of self r) }
     {
-        if let Opening::Answered(answer) = self.opening() {
+        if let Some(answer) = self.opening() {
             return self.answered(answer);
         }
         if !limits::report_ok(r) {
             return self.answered(Answer::Refused(Refusal::Limits));
         }
-        if r.time <= self.last {
-            return self.answered(Answer::Refused(Refusal::Time));
-        }
-        if r.time < self.heard {
+        if r.time <= self.last || r.time < self.heard {
             return self.answered(Answer::Refused(Refusal::Time));
         }
         rules::ruled(self, r)
@@ -233,7 +217,7 @@ impl Breaker {
     fn timed(self, time: u64, held: u64) -> Step
         ensures { result ≡ timed self time (holding self held) }
     {
-        if let Opening::Answered(answer) = self.opening() {
+        if let Some(answer) = self.opening() {
             return self.answered(answer);
         }
         if Breaker::TIME_LIMIT <= time {
@@ -252,23 +236,19 @@ impl Breaker {
     fn is_early(self, time: u64) -> bool
         ensures { result ≡ early self time }
     {
-        if time < self.last {
-            return true;
-        }
-        time < self.heard
+        time < self.last || time < self.heard
     }
 
     // What every call begins with: refused with 9, or answered by the stop.
-    fn opening(self) -> Opening
+    fn opening(self) -> Option<Answer>
         ensures { Opens self result }
     {
         if !soundness::is_sound(self) {
-            return Opening::Answered(Answer::Refused(Refusal::Malformed));
+            return Some(Answer::Refused(Refusal::Malformed));
         }
-        let state = self.state;
-        match state {
-            State::Stopped(reason) => Opening::Answered(Answer::Stop(reason)),
-            State::Running => Opening::Open,
+        match self.state {
+            State::Stopped(reason) => Some(Answer::Stop(reason)),
+            State::Running => None,
         }
     }
 
@@ -276,7 +256,6 @@ impl Breaker {
     fn fresh(settings: Settings, time: u64) -> Self
         ensures { result ≡ fresh settings time }
     {
-        let window = intervals::empty();
         Breaker {
             settings,
             state: State::Running,
@@ -286,7 +265,7 @@ impl Breaker {
             highest: 0,
             run: 0,
             trial: false,
-            window,
+            window: intervals::empty(),
         }
     }
 
@@ -318,39 +297,28 @@ impl Breaker {
     fn stopped(self, reason: Reason) -> Step
         ensures { result ≡ stops reason self }
     {
-        let settings = self.settings;
-        let window = self.window;
         Breaker {
-            settings,
             state: State::Stopped(reason),
-            last: self.last,
-            heard: self.heard,
-            reported: self.reported,
-            highest: self.highest,
-            run: self.run,
-            trial: self.trial,
-            window,
+            ..self
         }
         .answered(Answer::Stop(reason))
     }
 
     // The record with another time from which the timeout is measured.
-    fn holding(mut self, held: u64) -> Self
+    fn holding(self, held: u64) -> Self
         ensures { result ≡ holding self held }
     {
-        self.heard = held;
-        self
+        Breaker {
+            heard: held,
+            ..self
+        }
     }
 
     // The record after a report that is neither refused nor stopped: it stores the time and the number.
     fn stored(self, r: Report, run: u64, trial: bool, window: Window) -> Self
         ensures { result ≡ stored self r run trial window }
     {
-        let settings = self.settings;
-        let state = self.state;
         Breaker {
-            settings,
-            state,
             last: r.time,
             heard: r.time,
             reported: true,
@@ -358,6 +326,7 @@ impl Breaker {
             run,
             trial,
             window,
+            ..self
         }
     }
 }

@@ -9,36 +9,27 @@ use numbers::sign;
 pub fn is_within(x: u64, low: u64, high: u64) -> bool
     ensures { result ≡ within low high x }
 {
-    if x < low {
-        return false;
-    }
-    x <= high
+    low <= x && x <= high
 }
 
 // Whether the settings are in their limits.
+#[tactic(auto, unfolding(crate::specs::Limits::settings_ok))]
 pub fn settings_ok(s: Settings) -> bool
     ensures { result ≡ settings_ok s }
 {
-    if !is_within(s.k as u64, 1, Breaker::MAX_K as u64) {
-        return false;
-    }
-    if !is_within(s.m, 1, Breaker::MAX_M) {
-        return false;
-    }
-    is_within(s.timeout, 1, Breaker::MAX_TIMEOUT)
+    is_within(s.k as u64, 1, Breaker::MAX_K as u64)
+        && is_within(s.m, 1, Breaker::MAX_M)
+        && is_within(s.timeout, 1, Breaker::MAX_TIMEOUT)
 }
 
 // Whether ECN counts are in their limits.
+#[tactic(auto, unfolding(crate::specs::Limits::counts_ok))]
 fn counts_ok(c: EcnCounts) -> bool
     ensures { result ≡ counts_ok c }
 {
-    if Breaker::MAX_PACKETS < sign::magnitude(c.lost) {
-        return false;
-    }
-    if Breaker::MAX_PACKETS < c.marked {
-        return false;
-    }
-    c.expected <= Breaker::MAX_PACKETS
+    sign::magnitude(c.lost) <= Breaker::MAX_PACKETS
+        && c.marked <= Breaker::MAX_PACKETS
+        && c.expected <= Breaker::MAX_PACKETS
 }
 
 // Whether a report's losses are in their limits.
@@ -52,21 +43,13 @@ fn loss_ok(loss: Loss) -> bool
 }
 
 // Whether a report's numbers are in their limits.
+#[tactic(auto, unfolding(crate::specs::Limits::report_ok))]
 pub fn report_ok(r: Report) -> bool
     ensures { result ≡ report_ok r }
 {
-    if Breaker::TIME_LIMIT <= r.time {
-        return false;
-    }
-    let loss = r.loss;
-    if !loss_ok(loss) {
-        return false;
-    }
-    if Breaker::MAX_RTT < r.rtt {
-        return false;
-    }
-    if !is_within(r.size, 1, Breaker::MAX_SIZE) {
-        return false;
-    }
-    r.rate <= Breaker::MAX_RATE
+    r.time < Breaker::TIME_LIMIT
+        && loss_ok(r.loss)
+        && r.rtt <= Breaker::MAX_RTT
+        && is_within(r.size, 1, Breaker::MAX_SIZE)
+        && r.rate <= Breaker::MAX_RATE
 }

@@ -4,17 +4,12 @@ ghost use Rattle.breaker.specs.Limits.{counts_ok, loss_ok};
 ghost use Rattle.breaker.specs.FractionLost.{at_least_zero, counts_fraction, fraction_of};
 
 use crate::{Breaker, EcnCounts, Loss};
-use numbers::sign;
 
 // The packets lost, none where the number is negative.
 fn at_least_zero(lost: i64) -> u64
     ensures { result ≡ at_least_zero lost }
 {
-    let size = sign::magnitude(lost);
-    if 0 <= lost {
-        return size;
-    }
-    0
+    u64::try_from(lost).unwrap_or(0)
 }
 
 // n of e packets in 256ths, rounded down.
@@ -33,9 +28,7 @@ fn of_counts(c: EcnCounts) -> u64
     if c.expected == 0 {
         return 0;
     }
-    let lost = at_least_zero(c.lost);
-    let marked = c.marked;
-    let congested = lost + marked;
+    let congested = at_least_zero(c.lost) + c.marked;
     if c.expected <= congested {
         return Breaker::MAX_FRACTION;
     }

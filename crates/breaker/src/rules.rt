@@ -13,34 +13,27 @@ fn is_not_ahead(number: u32, last: u32) -> bool
     ensures { result ≡ not_ahead number last }
 {
     let ahead = since::since32(number, last);
-    if ahead == 0 {
-        return true;
-    }
-    2147483648 <= ahead
+    ahead == 0 || 2147483648 <= ahead
 }
 
 // The media run with this report.
+#[tactic(auto, unfolding(crate::specs::Rules::run_after))]
 fn run_after(b: Breaker, r: Report) -> u64
     requires { Accepted b r }
     ensures { result ≡ run_after b r }
 {
-    if !b.reported {
-        return 0;
+    if b.reported && is_not_ahead(r.highest, b.highest) {
+        b.run + 1
+    } else {
+        0
     }
-    if is_not_ahead(r.highest, b.highest) {
-        return b.run + 1;
-    }
-    0
 }
 
 // An interval's length as it is stored.
 fn stored_length(elapsed: u64) -> u64
     ensures { result ≡ min elapsed 10000000 }
 {
-    if Breaker::MAX_LENGTH < elapsed {
-        return Breaker::MAX_LENGTH;
-    }
-    elapsed
+    elapsed.min(Breaker::MAX_LENGTH)
 }
 
 // The window with the interval that this report closes.
@@ -48,24 +41,18 @@ fn window_after(b: Breaker, r: Report) -> Window
     requires { Accepted b r }
     ensures { result ≡ window_after b r }
 {
-    let k = b.settings.k;
-    let old = b.window;
-    let loss = r.loss;
     let x = Interval {
         length: stored_length(r.time - b.last),
-        fraction: losses::fraction_of(loss),
+        fraction: losses::fraction_of(r.loss),
     };
-    intervals::pushed(old, x, k)
+    intervals::pushed(b.window, x, b.settings.k)
 }
 
 // Whether a reduction is allowed and none is under trial.
 fn may_reduce(allowed: bool, trial: bool) -> bool
     ensures { result ≡ (allowed && not trial) }
 {
-    if allowed {
-        return !trial;
-    }
-    false
+    allowed && !trial
 }
 
 // The congestion rule.
@@ -73,13 +60,11 @@ fn tested(b: Breaker, r: Report, run: u64) -> Step
     requires { Accepted b r }
     ensures { result ≡ tested b r run (window_after b r) }
 {
-    let settings = b.settings;
     let window = window_after(b, r);
-    let used = window.used;
-    if used < settings.k {
+    if window.used < b.settings.k {
         return b.stored(r, run, b.trial, window).answered(Answer::Go);
     }
-    if !equations::exceeds(settings, window, r) {
+    if !equations::exceeds(b.settings, window, r) {
         return b.stored(r, run, false, window).answered(Answer::Go);
     }
     if may_reduce(b.settings.reduce, b.trial) {
@@ -95,22 +80,20 @@ pub fn ruled(b: Breaker, r: Report) -> Step
     requires { Accepted b r }
     ensures { result ≡ ruled b r }
 {
-    let window = b.window;
     if r.rate == 0 {
         return b
             .stored(r, 0, b.trial, intervals::empty())
             .answered(Answer::Go);
     }
     let run = run_after(b, r);
-    let elapsed = r.time - b.heard;
-    if b.settings.timeout <= elapsed {
+    if b.settings.timeout <= r.time - b.heard {
         return b.stopped(Reason::Timeout);
     }
     if b.settings.m <= run {
         return b.stopped(Reason::Media);
     }
     if !b.reported {
-        return b.stored(r, run, b.trial, window).answered(Answer::Go);
+        return b.stored(r, run, b.trial, b.window).answered(Answer::Go);
     }
     tested(b, r, run)
 }

@@ -2,9 +2,10 @@
 ghost use Rattle.std.specs.Prelude.{◌≡◌, ◌&&◌, map, ◌≤◌};
 ghost use Rattle.answers.specs.Conditions.{all};
 ghost use Rattle.breaker.specs.Windows.{fraction_ok, length_ok, is_zero, in_use, unused};
+ghost use Rattle.breaker.specs.Private.{interval_ok};
 ghost use Rattle.breaker.specs.Soundness.{run_ok, number_ok, sound};
 
-use crate::{Breaker, Interval, State, Window, intervals, limits};
+use crate::{Breaker, Interval, State, Window, limits};
 
 // Whether the media run is below m while the breaker runs.
 fn run_ok(state: State, run: u64, m: u64) -> bool
@@ -20,10 +21,21 @@ fn run_ok(state: State, run: u64, m: u64) -> bool
 fn number_ok(reported: bool, highest: u32) -> bool
     ensures { result ≡ number_ok reported highest }
 {
-    if reported {
-        return true;
-    }
-    highest == 0
+    reported || highest == 0
+}
+
+// Whether an interval is in its limits.
+fn is_in_limits(x: &Interval) -> bool
+    ensures { result ≡ interval_ok x.now }
+{
+    limits::is_within(x.length, 1, Breaker::MAX_LENGTH) && x.fraction <= Breaker::MAX_FRACTION
+}
+
+// Whether a place is as one that is not in use.
+fn is_zero(x: &Interval) -> bool
+    ensures { result ≡ is_zero x.now }
+{
+    x.length == 0 && x.fraction == 0
 }
 
 // Whether the places in use hold fractions and lengths in their limits.
@@ -31,17 +43,9 @@ fn used_ok(window: Window) -> bool
     requires { window.used ≤ 32 }
     ensures { result ≡ (all (map fraction_ok (in_use window)) && all (map length_ok (in_use window))) }
 {
-    let used = window.used;
-    let intervals = window.intervals;
-    let least = Interval {
-        length: 1,
-        fraction: 0,
-    };
-    let most = Interval {
-        length: Breaker::MAX_LENGTH,
-        fraction: Breaker::MAX_FRACTION,
-    };
-    intervals::all_between(intervals, 0, used, least, most)
+    window.intervals[..window.used]
+        .iter()
+        .all(|x| is_in_limits(x))
 }
 
 // Whether the other places are zero.
@@ -49,42 +53,20 @@ fn rest_ok(window: Window) -> bool
     requires { window.used ≤ 32 }
     ensures { result ≡ all (map is_zero (unused window)) }
 {
-    let used = window.used;
-    let intervals = window.intervals;
-    let zero = Interval {
-        length: 0,
-        fraction: 0,
-    };
-    intervals::all_between(intervals, used, 32, zero, zero)
+    window.intervals[window.used..].iter().all(|x| is_zero(x))
 }
 
 // Whether the record is sound.
+#[tactic(auto, using(crate::proofs::Facts::k_high), unfolding(crate::specs::Soundness::sound))]
 pub fn is_sound(b: Breaker) -> bool
     ensures { result ≡ sound b }
 {
-    let settings = b.settings;
-    if !limits::settings_ok(settings) {
-        return false;
-    }
-    let state = b.state;
-    if !run_ok(state, b.run, settings.m) {
-        return false;
-    }
-    let window = b.window;
-    if settings.k < window.used {
-        return false;
-    }
-    if !used_ok(window) {
-        return false;
-    }
-    if Breaker::TIME_LIMIT <= b.last {
-        return false;
-    }
-    if Breaker::TIME_LIMIT <= b.heard {
-        return false;
-    }
-    if !rest_ok(window) {
-        return false;
-    }
-    number_ok(b.reported, b.highest)
+    limits::settings_ok(b.settings)
+        && run_ok(b.state, b.run, b.settings.m)
+        && b.window.used <= b.settings.k
+        && used_ok(b.window)
+        && b.last < Breaker::TIME_LIMIT
+        && b.heard < Breaker::TIME_LIMIT
+        && rest_ok(b.window)
+        && number_ok(b.reported, b.highest)
 }

@@ -15,11 +15,6 @@ use breaker::{Answer, Breaker, EcnCounts, Interval, Loss, Report, Settings, Stat
 use cases::{number, number32, signed};
 use std::io::Stdout;
 
-// 1 for true, 0 for false.
-fn bit(b: bool) -> u64 {
-    if b { 1 } else { 0 }
-}
-
 // An answer, with document 01's number.
 fn show_answer(to: Stdout, answer: Answer) {
     match answer {
@@ -46,29 +41,25 @@ fn reason_of(state: State) -> u64 {
 
 // The record: reason, time of the last report or start, time held, number of the last report, whether there was one, media run, trial, intervals in use, the newest interval.
 fn show_record(to: Stdout, b: Breaker) {
-    let state = b.state;
-    let window = b.window;
-    let newest = window.intervals[0];
+    let newest = b.window.intervals[0];
     show::text(to, b" |");
-    show::number(to, reason_of(state));
+    show::number(to, reason_of(b.state));
     show::number(to, b.last);
     show::number(to, b.heard);
     show::number(to, b.highest as u64);
-    show::number(to, bit(b.reported));
+    show::number(to, u64::from(b.reported));
     show::number(to, b.run);
-    show::number(to, bit(b.trial));
-    show::number(to, window.used as u64);
+    show::number(to, u64::from(b.trial));
+    show::number(to, b.window.used as u64);
     show::number(to, newest.length);
     show::number(to, newest.fraction);
 }
 
 // A step shown, and its breaker.
 fn shown(to: Stdout, step: Step) -> Breaker {
-    let answer = step.answer;
-    let b = step.breaker;
-    show_answer(to, answer);
-    show_record(to, b);
-    b
+    show_answer(to, step.answer);
+    show_record(to, step.breaker);
+    step.breaker
 }
 
 // The start of a line.
@@ -85,11 +76,10 @@ fn start_of(line: &[u8]) -> Step {
 
 // The report of a line.
 fn report_of(line: &[u8]) -> Report {
-    let loss = Loss::Fraction(number(line, 3));
     Report {
         time: number(line, 1),
         highest: number32(line, 2),
-        loss,
+        loss: Loss::Fraction(number(line, 3)),
         rtt: number(line, 4),
         size: number(line, 5),
         rate: number(line, 6),
@@ -107,11 +97,10 @@ fn counts_of(line: &[u8]) -> EcnCounts {
 
 // The report with ECN counts of a line.
 fn ecn_report_of(line: &[u8]) -> Report {
-    let loss = Loss::Counts(counts_of(line));
     Report {
         time: number(line, 1),
         highest: number32(line, 2),
-        loss,
+        loss: Loss::Counts(counts_of(line)),
         rtt: number(line, 6),
         size: number(line, 7),
         rate: number(line, 8),
@@ -120,54 +109,57 @@ fn ecn_report_of(line: &[u8]) -> Report {
 
 // The settings with another k, m or timeout: fields 1, 2 and 3.
 fn changed_settings(settings: Settings, field: u64, value: u64) -> Settings {
-    let mut next = settings;
     match field {
-        1 => next.k = value as usize,
-        2 => next.m = value,
-        3 => next.timeout = value,
-        _ => {}
+        1 => Settings {
+            k: value as usize,
+            ..settings
+        },
+        2 => Settings {
+            m: value,
+            ..settings
+        },
+        3 => Settings {
+            timeout: value,
+            ..settings
+        },
+        _ => settings,
     }
-    next
-}
-
-// The window with another count in use: field 8.
-fn changed_window(window: Window, field: u64, value: u64) -> Window {
-    let mut next = window;
-    if field == 8 {
-        next.used = value as usize;
-    }
-    next
 }
 
 // The record with another value of one field.
 fn changed(b: Breaker, field: u64, value: u64) -> Breaker {
-    let mut next = b;
-    let settings = changed_settings(b.settings, field, value);
-    next.settings = settings;
-    let window = changed_window(b.window, field, value);
-    next.window = window;
     match field {
-        4 => next.last = value,
-        5 => next.reported = value == 1,
-        6 => next.highest = (value % 4294967296) as u32,
-        7 => next.run = value,
-        9 => next.heard = value,
-        _ => {}
+        4 => Breaker { last: value, ..b },
+        5 => Breaker {
+            reported: value == 1,
+            ..b
+        },
+        6 => Breaker {
+            highest: (value % 4294967296) as u32,
+            ..b
+        },
+        7 => Breaker { run: value, ..b },
+        8 => Breaker {
+            window: Window {
+                used: value as usize,
+                ..b.window
+            },
+            ..b
+        },
+        9 => Breaker { heard: value, ..b },
+        _ => Breaker {
+            settings: changed_settings(b.settings, field, value),
+            ..b
+        },
     }
-    next
 }
 
 // The record with another interval at one place of the window.
-fn placed(b: Breaker, place: u64, length: u64, fraction: u64) -> Breaker {
-    let mut next = b;
-    let mut window = b.window;
+fn placed(mut b: Breaker, place: u64, length: u64, fraction: u64) -> Breaker {
     if place < 32 {
-        let at = place as usize;
-        let x = Interval { length, fraction };
-        window.intervals[at] = x;
+        b.window.intervals[place as usize] = Interval { length, fraction };
     }
-    next.window = window;
-    next
+    b
 }
 
 // What a line does.
@@ -188,6 +180,7 @@ fn done(to: Stdout, b: Breaker, line: &[u8]) -> Breaker {
 // All lines in turn.
 fn run(to: Stdout, text: &[u8]) {
     let mut b = Breaker::start_preset(0).breaker;
+    // A loop with a step of its own: `split` would give one line more, an empty one behind the last line feed.
     let mut at = 0;
     while at < text.len() {
         let line = cases::line(text, at);

@@ -1,8 +1,9 @@
 -- The converter of forms from C prints what ecnforms prints. Assumes nothing.
+use Rattle.std.specs.Prelude.{Option, None, Result, Ok, Err}
+use Rattle.answers.specs.declared.Unwritten.{Unwritten}
 use mathlib.Core.Path.{◌≡◌, refl, sym, ap, ◌∙◌, subst, subst⁻¹}
 use mathlib.Core.List.{List}
 use mathlib.Core.Bool.{Bool, true, false}
-use mathlib.Core.Option.{Option, none}
 use Prim.Native.Nat.{ℕ, ◌^◌, ◌<◌}
 use native.Mathlib.Omega.{arith}
 use borrow.Author.Tests.{eq-eqb}
@@ -10,13 +11,10 @@ use lib.Dec.{ltb}
 use lib.ListN.{length}
 use Rattle.answers.specs.Writers.{written, stored}
 use Rattle.answers.specs.declared.Refusal.{Refusal}
-use Rattle.answers.specs.declared.Written.{Written}
-use Rattle.answers.specs.declared.Written.TheVariants.{Length, Room, Refused}
 use Rattle.numbers.proofs.BigEndian.{word_lt}
 use Rattle.trace.specs.Places.{zeroth_of}
 use Rattle.trace.specs.declared.Record.{Record}
 use Rattle.trace.specs.declared.Zeroth.{Zeroth}
-use Rattle.trace.specs.declared.Zeroth.TheVariants as zeroth
 use Rattle.trace.proofs.Accepted.{accepted}
 use Rattle.trace.proofs.Placed.{zeroth_label}
 use Rattle.walk.specs.Pieces.{Octets}
@@ -25,7 +23,6 @@ use Rattle.forms.specs.Conversions.{begin_fault, begin_bytes, begin_by, call_nex
 use Rattle.forms.specs.Converted.{told}
 use Rattle.forms.specs.Pieces.{end_by}
 use Rattle.forms.specs.Theorems.{started_on, brought_to, block_calls}
-use Rattle.forms.specs.declared.Begin.{Begin}
 use Rattle.forms.specs.declared.Conversion.{Conversion}
 use Rattle.forms.proofs.Calls.{calls_convert}
 use Rattle.lent.specs.ConversionWords.{conversion_of, is_conversion, conversion_words}
@@ -42,9 +39,9 @@ use Rattle.callers.proofs.Sessions.{session_reads}
 abbrev Reads : FormsKept → Carried → Type 0
 Reads k s = (k.words ≡ conversion_words s.conversion) × (k.part ≡ s.part) × (s.conversion.ssrc < 2 ^ 32)
 
-starts : (part b : List ℕ) → Octets b → (z : Zeroth) → zeroth_of b ≡ z → BothBring Reads (started_in part z) (started_on part z)
-starts part b o (zeroth.Label form n ssrc) e = (refl, refl, omega (arith, (accepted b (zeroth_label b e)).block.its_ssrc, word_lt b 4 4 o))
-starts part b o (zeroth.Refused refusal) e = refl
+starts : (part b : List ℕ) → Octets b → (z : Result Zeroth Refusal) → zeroth_of b ≡ z → BothBring Reads (started_in part z) (started_on part z)
+starts part b o (Ok label) e = (refl, refl, omega (arith, (accepted b (zeroth_label b e)).block.its_ssrc, word_lt b 4 4 o))
+starts part b o (Err refusal) e = refl
 
 module _ (c : Conversion) (part : List ℕ) (small : c.ssrc < 2 ^ 32) where
   back : (is_conversion (conversion_words c) ≡ true) × (c ≡ conversion_of (conversion_words c))
@@ -99,21 +96,21 @@ forms_start_is k b old left out r three w =
     let is = eq-eqb (length k.words) 3 three in
     go (zeroth_of b) (w.answers ∙ rw is) (w.keeps ∙ rw is) (w.stores ∙ rw is)
   where
-    by : (z : Zeroth) → Begin
+    by : (z : Result Zeroth Refusal) → Result (Conversion × ℕ) Unwritten
     by z = begin_by z (written (begin_fault z) (begin_bytes b z) old)
 
-    go : (z : Zeroth) → r ≡ begin_code (by z) → left ≡ begin_words k.words (by z) → out ≡ stored (begin_fault z) (begin_bytes b z) old
+    go : (z : Result Zeroth Refusal) → r ≡ begin_code (by z) → left ≡ begin_words k.words (by z) → out ≡ stored (begin_fault z) (begin_bytes b z) old
         → CallIs (λ k. k.words) k (started_in k.part z) (begin_bytes b z) old r left out
-    go (zeroth.Label form n ssrc) a l s = room (ltb (length old) (length (begin_bytes b (zeroth.Label form n ssrc)))) refl a l s
+    go (Ok label) a l s = room (ltb (length old) (length (begin_bytes b (Ok label)))) refl a l s
       where
         new : List ℕ
-        new = begin_bytes b (zeroth.Label form n ssrc)
+        new = begin_bytes b (Ok label)
 
-        room : (small : Bool) → ltb (length old) (length new) ≡ small → r ≡ begin_code (by (zeroth.Label form n ssrc)) → left ≡ begin_words k.words (by (zeroth.Label form n ssrc)) → out ≡ stored none new old
-            → CallIs (λ k. k.words) k (started_in k.part (zeroth.Label form n ssrc)) new old r left out
+        room : (small : Bool) → ltb (length old) (length new) ≡ small → r ≡ begin_code (by (Ok label)) → left ≡ begin_words k.words (by (Ok label)) → out ≡ stored None new old
+            → CallIs (λ k. k.words) k (started_in k.part (Ok label)) new old r left out
         room true e a l s = record { answers = a ∙ rw e; keeps = l ∙ rw e; stores = s }
         room false e a l s = record { answers = a ∙ rw e; keeps = l ∙ rw e; stores = s }
-    go (zeroth.Refused refusal) a l s = record { answers = a; keeps = l; stores = s }
+    go (Err refusal) a l s = record { answers = a; keeps = l; stores = s }
 
 pub forms_block_is : FormsBlockIs
 unfolding written stored
@@ -127,15 +124,15 @@ forms_block_is k block old left kept out r t = go (carried_by (conversion_of k.w
 
     go : (n : Next Carried) → Takes length_code (λ s. conversion_words s.conversion) k.words given n bytes old r left out → kept ≡ (state_after given n (written (fault_in n) bytes old)).part
         → CallIs (λ k. k.words) k (brought_in n) bytes old r left out × (kept ≡ (state_after k (brought_in n) (written (fault_in (brought_in n)) bytes old)).part)
-    go (goes s) t h = (record { answers = t.answers; keeps = t.keeps ∙ words (written none bytes old); stores = t.stores }, h ∙ parts (written none bytes old))
+    go (goes s) t h = (record { answers = t.answers; keeps = t.keeps ∙ words (written None bytes old); stores = t.stores }, h ∙ parts (written None bytes old))
       where
-        words : (w : Written) → words_after k.words (conversion_words (state_after given (goes s) w).conversion) w ≡ (state_after k (brought_in (goes s)) w).words
-        words (Length n) = refl
-        words (Room n) = refl
-        words (Refused refusal) = refl
+        words : (w : Result ℕ Unwritten) → words_after k.words (conversion_words (state_after given (goes s) w).conversion) w ≡ (state_after k (brought_in (goes s)) w).words
+        words (Ok n) = refl
+        words (Err (Unwritten.Room n)) = refl
+        words (Err (Unwritten.Refused refusal)) = refl
 
-        parts : (w : Written) → (state_after given (goes s) w).part ≡ (state_after k (brought_in (goes s)) w).part
-        parts (Length n) = refl
-        parts (Room n) = refl
-        parts (Refused refusal) = refl
+        parts : (w : Result ℕ Unwritten) → (state_after given (goes s) w).part ≡ (state_after k (brought_in (goes s)) w).part
+        parts (Ok n) = refl
+        parts (Err (Unwritten.Room n)) = refl
+        parts (Err (Unwritten.Refused refusal)) = refl
     go (refuses refusal) t h = (record { answers = t.answers; keeps = t.keeps; stores = t.stores }, h)

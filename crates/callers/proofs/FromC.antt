@@ -1,20 +1,18 @@
 -- Demand 3 for a caller from C, all of it. Assumes nothing.
+use Rattle.std.specs.Prelude.{Option, Some, None, Result, Ok}
+use Rattle.answers.specs.declared.Unwritten.{Unwritten}
 use mathlib.Core.Path.{◌≡◌, refl, sym, ap, ap₂, ◌∙◌}
 use mathlib.Core.Bool.{true}
 use mathlib.Core.List.{List, []}
-use mathlib.Core.Option.{Option, none}
 use Prim.Native.Nat.{ℕ}
 use Rattle.answers.specs.Writers.{written, stored}
 use Rattle.answers.specs.declared.Refusal.{Refusal}
-use Rattle.answers.specs.declared.Written.{Written}
 use Rattle.source.specs.declared.Source.{Source}
-use Rattle.source.specs.declared.Lost.TheVariants.{Packets}
 use Rattle.source.specs.Record.{fresh_record, sound, wire_number, lost_answer}
 use Rattle.source.proofs.Facts.{fresh_sound}
 use Rattle.report.specs.Reports.{fault, feedback_bytes, summary_bytes}
 use Rattle.table.specs.Lines.{row_fault, row_bytes}
 use Rattle.lent.specs.SourceWords.{source_of, is_source, source_words, loaded}
-use Rattle.lent.specs.declared.source_words.Loaded.TheVariants.{Held}
 use Rattle.lent.proofs.SourceLaws.{held, sound_back}
 use Rattle.capi.specs.Codes.{length_code, refusal_code, Gives}
 use Rattle.capi.specs.OneSource.{record_fault, lost_fault, lost_found}
@@ -29,7 +27,7 @@ use Rattle.callers.specs.FromC.{end_words, Demand3FromC}
 use Rattle.callers.proofs.Callers.{chain_holds_count}
 
 -- what a function gives, by equal refusals and equal bytes
-pub gives_same : {A : Type 0} {code : Written → A} {f g : Option Refusal} {new next old out : List ℕ} {r : A} → f ≡ g → new ≡ next
+pub gives_same : {A : Type 0} {code : Result ℕ Unwritten → A} {f g : Option Refusal} {new next old out : List ℕ} {r : A} → f ≡ g → new ≡ next
     → Gives code f new old r out → Gives code g next old r out
 gives_same {code = code} {old = old} e n w = record {
   answers = w.answers ∙ ap₂ (λ (f : Option Refusal) (l : List ℕ). code (written f l old)) e n;
@@ -51,7 +49,7 @@ module _ (ps : List TruePacket) (d : Described ps) where
   unfolding count_from
   typed = refl
 
-  read : loaded (end_words ps) ≡ Held (count (arrivals ps))
+  read : loaded (end_words ps) ≡ Some (count (arrivals ps))
   read = ap loaded words_are ∙ sound_back (count (arrivals ps)) good typed
 
   is_source_lem : is_source (end_words ps) ≡ true
@@ -60,16 +58,16 @@ module _ (ps : List TruePacket) (d : Described ps) where
   same : source_of (end_words ps) ≡ run ps
   same = sym (held (end_words ps) read).2 ∙ sym end.state
 
-  -- no refusal for the words, and so none where the values have none
-  unrefused : {f : Option Refusal} → f ≡ none → record_fault (end_words ps) f ≡ none
+  -- no refusal for the words, and so None where the values have None
+  unrefused : {f : Option Refusal} → f ≡ None → record_fault (end_words ps) f ≡ None
   unfolding record_fault
   unrefused e = rw (is_source_lem, e)
 
-  lost_is_lem : lost_answer (source_of (end_words ps)) ≡ Packets (lost_of (arrivals ps))
+  lost_is_lem : lost_answer (source_of (end_words ps)) ≡ Ok (lost_of (arrivals ps))
   unfolding lost_answer
   lost_is_lem =
       let is : source_of (end_words ps) ≡ count (arrivals ps) = sym (held (end_words ps) read).2 in
-      rw (is, good) (ap Packets (count_lost (arrivals ps) (arrivals_marks ps) good))
+      rw (is, good) (ap Ok (count_lost (arrivals ps) (arrivals_marks ps) good))
 
 pub demand3_from_c : Demand3FromC
 demand3_from_c ps d =
@@ -93,7 +91,7 @@ demand3_from_c ps d =
     }
 
 -- what a function gives on values
-pub gave : {A : Type 0} (code : Written → A) (f : Option Refusal) (new old : List ℕ) → Gives code f new old (code (written f new old)) (stored f new old)
+pub gave : {A : Type 0} (code : Result ℕ Unwritten → A) (f : Option Refusal) (new old : List ℕ) → Gives code f new old (code (written f new old)) (stored f new old)
 gave code f new old = record { answers = refl; stores = refl }
 
 -- at the list that shows that demand 3's hypotheses can be met, with empty outputs

@@ -1,19 +1,17 @@
 -- A run of ecntable from C prints what ecntable prints. Assumes nothing.
+use Rattle.std.specs.Prelude.{None, Result, Ok, Err}
+use Rattle.answers.specs.declared.Unwritten.{Unwritten}
+use Rattle.answers.specs.declared.Refusal.{Refusal}
 use mathlib.Core.Path.{◌≡◌, refl, sym, ◌∙◌, subst, subst⁻¹}
 use mathlib.Core.List.{List}
-use mathlib.Core.Option.{none}
 use Prim.Native.Nat.{ℕ}
 use native.Mathlib.Omega.{arith}
 use borrow.Author.Tests.{eq-eqb}
 use lib.ListN.{length}
 use Rattle.answers.specs.Writers.{written, stored}
-use Rattle.answers.specs.declared.Written.{Written}
-use Rattle.answers.specs.declared.Written.TheVariants.{Length, Room, Refused}
 use Rattle.walk.specs.Pieces.{Octets}
 use Rattle.walk.specs.Steps.{Next, goes, refuses, state_after}
 use Rattle.convert.specs.declared.Run.{Run}
-use Rattle.convert.specs.declared.Begin.{Begin}
-use Rattle.convert.specs.declared.Begin.TheVariants as begin
 use Rattle.convert.specs.Runs.{start_of, next_of, call_next, row_in}
 use Rattle.convert.specs.Tables.{Kept, no_run, taken}
 use Rattle.convert.specs.Theorems.{started_on, next_on, block_calls}
@@ -37,11 +35,11 @@ use Rattle.callers.proofs.Sessions.{session_reads}
 abbrev Reads : RunKept → Kept → Type 0
 Reads k s = (k.words ≡ run_words s.run) × (k.zeroth ≡ s.zeroth) × Good s.run s.zeroth × Typed s.run
 
-starting : (b : List ℕ) → Octets b → (r : Begin) → start_of b ≡ r → BothBring Reads (started_in b r) (started_on b r)
-starting b o (begin.Started run) e =
-    let none : Kept = record { run = no_run; zeroth = b } in
-    (refl, refl, start_good b run e, subst (λ (r : Begin). Typed (labelled none b r).state.run) e (start_typed none b o (omega arith, refl)))
-starting b o (begin.Refused refusal) e = refl
+starting : (b : List ℕ) → Octets b → (r : Result Run Refusal) → start_of b ≡ r → BothBring Reads (started_in b r) (started_on b r)
+starting b o (Ok run) e =
+    let None : Kept = record { run = no_run; zeroth = b } in
+    (refl, refl, start_good b run e, subst (λ (r : Result Run Refusal). Typed (labelled None b r).state.run) e (start_typed None b o (omega arith, refl)))
+starting b o (Err refusal) e = refl
 
 module _ (s : Kept) (b : List ℕ) (g : Good s.run s.zeroth) (t : Typed s.run) where
   next_is : run_next (run_words s.run) s.zeroth b ≡ call_next s.run s.zeroth b
@@ -81,9 +79,9 @@ run_start_is zeroth old out r long w =
     let is = eq-eqb (length old) 15 long in
     go (start_of zeroth) (w.answers ∙ rw is) (w.stores ∙ rw is)
   where
-    go : (s : Begin) → r ≡ start_code s → out ≡ start_words old s → BeganAs (started_in zeroth s) old r out
-    go (begin.Started run) answers stores = (answers, stores)
-    go (begin.Refused refusal) answers stores = (answers, stores)
+    go : (s : Result Run Refusal) → r ≡ start_code s → out ≡ start_words old s → BeganAs (started_in zeroth s) old r out
+    go (Ok run) answers stores = (answers, stores)
+    go (Err refusal) answers stores = (answers, stores)
 
 pub run_block_is : RunBlockIs
 unfolding written stored
@@ -91,10 +89,10 @@ run_block_is k block old left out r t = go (run_next k.words k.zeroth block) t
   where
     go : (n : Next Run) → Takes length_code run_words k.words (run_of k.words) n (row_in k.zeroth n) old r left out
         → CallIs (λ k. k.words) k (brought_in k.zeroth n) (row_in k.zeroth n) old r left out
-    go (goes run) t = record { answers = t.answers; keeps = t.keeps ∙ by (written none (row_in k.zeroth (goes run)) old); stores = t.stores }
+    go (goes run) t = record { answers = t.answers; keeps = t.keeps ∙ by (written None (row_in k.zeroth (goes run)) old); stores = t.stores }
       where
-        by : (w : Written) → words_after k.words (run_words (state_after (run_of k.words) (goes run) w)) w ≡ (state_after k (brought_in k.zeroth (goes run)) w).words
-        by (Length n) = refl
-        by (Room n) = refl
-        by (Refused refusal) = refl
+        by : (w : Result ℕ Unwritten) → words_after k.words (run_words (state_after (run_of k.words) (goes run) w)) w ≡ (state_after k (brought_in k.zeroth (goes run)) w).words
+        by (Ok n) = refl
+        by (Err (Unwritten.Room n)) = refl
+        by (Err (Unwritten.Refused refusal)) = refl
     go (refuses refusal) t = record { answers = t.answers; keeps = t.keeps; stores = t.stores }

@@ -1,15 +1,15 @@
 -- Calls for one block each on words, and on what the words are read as. Assumes nothing.
+use Rattle.std.specs.Prelude.{Option, Some, None, Ok, Err}
+use Rattle.answers.specs.declared.Unwritten.{Unwritten}
 use mathlib.Core.Path.{◌≡◌, refl, sym, ap, ◌∙◌, subst, subst⁻¹}
 use mathlib.Core.Bool.{Bool, true, false, cond}
 use mathlib.Core.List.{List, [], ◌∷◌, ◌++◌}
-use mathlib.Core.Option.{Option, none, some}
 use Prim.Native.Nat.{ℕ}
 use lib.Dec.{ltb}
 use lib.ListN.{length, take, drop, replicate}
 use lib.Seq.{take_at}
 use Rattle.answers.specs.Writers.{written}
 use Rattle.answers.specs.declared.Refusal.{Refusal}
-use Rattle.answers.specs.declared.Written.TheVariants.{Length, Room}
 use Rattle.format.specs.Blocks.{block_bytes}
 use Rattle.numbers.proofs.Octets.{octets_take, octets_drop}
 use Rattle.walk.specs.Programs.{Printed, both}
@@ -24,10 +24,10 @@ use Rattle.callers.specs.Sessions.{BothBring, ReadsAs, SessionReads}
 module _ {A B : Type 0} {c : Singles A} {d : Singles B} (m : ReadsAs c d) where
   -- what both hold between two calls
   StateSame : Option A → Option B → Type 0
-  StateSame none none = Unit {0}
-  StateSame (some x) (some y) = m.Reads x y
-  StateSame none (some y) = ⊥
-  StateSame (some x) none = ⊥
+  StateSame None None = Unit {0}
+  StateSame (Some x) (Some y) = m.Reads x y
+  StateSame None (Some y) = ⊥
+  StateSame (Some x) None = ⊥
 
   record Same (h : Held A) (k : Held B) : Type 0 where
     state : StateSame h.state k.state
@@ -53,40 +53,40 @@ module _ {A B : Type 0} {c : Singles A} {d : Singles B} (m : ReadsAs c d) where
   started (goes x) (goes y) r = record { state = r; block = refl; refusal = refl }
   started (goes x) (refuses refusal) r = absurd r
   started (refuses refusal) (goes y) r = absurd r
-  started (refuses refusal) (refuses other) r = record { state = tt; block = refl; refusal = ap some r }
+  started (refuses refusal) (refuses other) r = record { state = tt; block = refl; refusal = ap Some r }
 
   -- ---- a later block
 
   module _ (x : A) (y : B) (n : ℕ) (st : m.Reads x y) where
-    stays : GaveSame (record { state = held_a (some x) n none; taken = 0; printed = record { out = []; err = [] } }) (record { state = held_b (some y) n none; taken = 0; printed = record { out = []; err = [] } })
+    stays : GaveSame (record { state = held_a (Some x) n None; taken = 0; printed = record { out = []; err = [] } }) (record { state = held_b (Some y) n None; taken = 0; printed = record { out = []; err = [] } })
     unfolding StateSame
     stays = record { state = record { state = st; block = refl; refusal = refl }; taken = refl; printed = refl }
 
     gave : (room : List ℕ) (bytes : List ℕ) (p : Next A) (q : Next B) → BothBring m.Reads p q
-        → GaveSame (gave_by (held_a (some x) n none) x p bytes (written (fault_in p) bytes room)) (gave_by (held_b (some y) n none) y q bytes (written (fault_in q) bytes room))
+        → GaveSame (gave_by (held_a (Some x) n None) x p bytes (written (fault_in p) bytes room)) (gave_by (held_b (Some y) n None) y q bytes (written (fault_in q) bytes room))
     unfolding StateSame written
     gave room bytes (goes a) (goes b) r = go (ltb (length room) (length bytes))
       where
-        go : (small : Bool) → GaveSame (gave_by (held_a (some x) n none) x (goes a) bytes (cond small (Room (length bytes)) (Length (length bytes)))) (gave_by (held_b (some y) n none) y (goes b) bytes (cond small (Room (length bytes)) (Length (length bytes))))
+        go : (small : Bool) → GaveSame (gave_by (held_a (Some x) n None) x (goes a) bytes (cond small (Err (Unwritten.Room (length bytes))) (Ok (length bytes)))) (gave_by (held_b (Some y) n None) y (goes b) bytes (cond small (Err (Unwritten.Room (length bytes))) (Ok (length bytes))))
         go true = stays
         go false = record { state = record { state = r; block = refl; refusal = refl }; taken = refl; printed = refl }
     gave room bytes (goes a) (refuses refusal) r = absurd r
     gave room bytes (refuses refusal) (goes b) r = absurd r
-    gave room bytes (refuses refusal) (refuses other) r = record { state = record { state = st; block = refl; refusal = ap some r }; taken = refl; printed = refl }
+    gave room bytes (refuses refusal) (refuses other) r = record { state = record { state = st; block = refl; refusal = ap Some r }; taken = refl; printed = refl }
 
   given : (x : Option A) (y : Option B) (n : ℕ) (o : Option Refusal) (bs : List (List ℕ)) (room : ℕ) → StateSame x y → Each Octets bs
       → GaveSame (given_for c (held_a x n o) x o bs room) (given_for d (held_b y n o) y o bs room)
   unfolding StateSame
-  given (some x) (some y) n none (b ∷ bs) room st o =
+  given (Some x) (Some y) n None (b ∷ bs) room st o =
       let t = m.turns x y b st o.0 in
-      subst (λ (l : List ℕ). GaveSame (gave_by (held_a (some x) n none) x (c.next x b) (c.bytes x b) (written (fault_in (c.next x b)) (c.bytes x b) (replicate room 0)))
-      (gave_by (held_b (some y) n none) y (d.next y b) l (written (fault_in (d.next y b)) l (replicate room 0)))) t.1
+      subst (λ (l : List ℕ). GaveSame (gave_by (held_a (Some x) n None) x (c.next x b) (c.bytes x b) (written (fault_in (c.next x b)) (c.bytes x b) (replicate room 0)))
+      (gave_by (held_b (Some y) n None) y (d.next y b) l (written (fault_in (d.next y b)) l (replicate room 0)))) t.1
       (gave x y n st (replicate room 0) (c.bytes x b) (c.next x b) (d.next y b) t.0)
-  given (some x) (some y) n none [] room st o = stays x y n st
-  given (some x) (some y) n (some refusal) bs room st o = record { state = record { state = st; block = refl; refusal = refl }; taken = refl; printed = refl }
-  given none none n r bs room st o = record { state = record { state = tt; block = refl; refusal = refl }; taken = refl; printed = refl }
-  given (some x) none n r bs room st o = absurd st
-  given none (some y) n r bs room st o = absurd st
+  given (Some x) (Some y) n None [] room st o = stays x y n st
+  given (Some x) (Some y) n (Some refusal) bs room st o = record { state = record { state = st; block = refl; refusal = refl }; taken = refl; printed = refl }
+  given None None n r bs room st o = record { state = record { state = tt; block = refl; refusal = refl }; taken = refl; printed = refl }
+  given (Some x) None n r bs room st o = absurd st
+  given None (Some y) n r bs room st o = absurd st
 
   -- by equal blocks and refusals
   module _ (h : Held A) (k : Held B) (s : Same h k) where
@@ -106,11 +106,11 @@ module _ {A B : Type 0} {c : Singles A} {d : Singles B} (m : ReadsAs c d) where
     end_same rest = go h.state k.state h.refusal s.state ∙ ap (λ (k : Held B). (singly d).end k rest) same_held
       where
         go : (x : Option A) (y : Option B) (o : Option Refusal) → StateSame x y → end_for c (held_a x h.block o) x o rest ≡ end_for d (held_b y h.block o) y o rest
-        go (some x) (some y) o st = m.ends x y (ending_by h.block o rest) st
-        go none none (some refusal) st = m.over refusal
-        go none none none st = refl
-        go (some x) none o st = absurd st
-        go none (some y) o st = absurd st
+        go (Some x) (Some y) o st = m.ends x y (ending_by h.block o rest) st
+        go None None (Some refusal) st = m.over refusal
+        go None None None st = refl
+        go (Some x) None o st = absurd st
+        go None (Some y) o st = absurd st
 
   -- ---- the calls on the bytes behind block 0
 

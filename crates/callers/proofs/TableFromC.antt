@@ -1,8 +1,8 @@
 -- Calls on a table of several sources from C. Assumes nothing.
+use Rattle.std.specs.Prelude.{Option, Some, None}
 use mathlib.Core.Path.{◌≡◌, refl, sym, ap, ap₂, ◌∙◌, subst}
 use mathlib.Core.Bool.{Bool, true, false, cond}
 use mathlib.Core.List.{List, [], ◌∷◌, ◌++◌, map}
-use mathlib.Core.Option.{Option, none, some}
 use Prim.Native.Nat.{ℕ, zero, suc, ◌^◌, ◌<◌}
 use borrow.Author.Tests.{lt-ltb, le-ltb, leb-true}
 use lib.Dec.{eqb, ltb}
@@ -38,7 +38,6 @@ use Rattle.walk.specs.Pieces.{Octets}
 use Rattle.lent.specs.TableWords.{table_words, places_in, words_fault, typed_place}
 use Rattle.lent.proofs.TableLaws.{table_back}
 use Rattle.lent.proofs.Taking.{taken}
-use Rattle.lent.specs.declared.table_words.Loaded.{Loaded}
 use Rattle.sources.specs.Witnesses.{some_table}
 use Rattle.capi.specs.Codes.{length_code}
 use Rattle.capi.specs.Tables.{arrived_unless, table_arrived, arrived_code, arrived_words, counted_unless, table_counted, counted_code, counted_words}
@@ -82,7 +81,7 @@ unfolding found
 found_typed ssrc [] t = refl
 found_typed ssrc (p ∷ ps) t = go (eqb p.ssrc ssrc) (found_typed ssrc ps (and_right (typed_place p) (all (map typed_place ps)) t))
   where
-    go : (b : Bool) → wire_number (record_in (found ssrc ps)).remembered ≡ true → wire_number (record_in (cond b (some p.source) (found ssrc ps))).remembered ≡ true
+    go : (b : Bool) → wire_number (record_in (found ssrc ps)).remembered ≡ true → wire_number (record_in (cond b (Some p.source) (found ssrc ps))).remembered ≡ true
     go true r = and_right (ltb p.ssrc (2 ^ 32)) (wire_number p.source.remembered) (and_left (typed_place p) (all (map typed_place ps)) t)
     go false r = r
 
@@ -95,8 +94,8 @@ with_typed p ps h t =
 module _ (ps : List Place) (t : Typed ps) (ssrc : ℕ) (small : ssrc < 2 ^ 32) where
   -- with a record put at the SSRC, unless the call is refused
   kept_typed : (o : Option Refusal) (s : Source) → wire_number s.remembered ≡ true → Typed (kept o ps (with_place (record { ssrc = ssrc; source = s }) ps))
-  kept_typed (some r) s w = t
-  kept_typed none s w = with_typed (record { ssrc = ssrc; source = s }) ps (rw (lt-ltb ssrc (2 ^ 32) small, w)) t
+  kept_typed (Some r) s w = t
+  kept_typed None s w = with_typed (record { ssrc = ssrc; source = s }) ps (rw (lt-ltb ssrc (2 ^ 32) small, w)) t
 
   arrive_typed : (wire : Wire) (mark : ℕ) → Typed (arrive_places ps ssrc wire mark)
   unfolding arrive_places
@@ -104,7 +103,7 @@ module _ (ps : List Place) (t : Typed ps) (ssrc : ℕ) (small : ssrc < 2 ^ 32) w
       kept_typed (refusal (ltb 3 mark) ssrc ps) (after (arrival (record_of ssrc ps) wire mark))
       (typed_stays (record_of ssrc ps) wire mark (found_typed ssrc (held_of ps) (typed_parts ps t).0))
 
-  count_typed : fault ps ≡ none → (width : ℕ) (bytes : List ℕ) → Octets bytes → Typed (count_places ps ssrc width bytes)
+  count_typed : fault ps ≡ None → (width : ℕ) (bytes : List ℕ) → Octets bytes → Typed (count_places ps ssrc width bytes)
   unfolding count_places
   count_typed f width bytes o =
       let s = record_of ssrc ps in
@@ -113,16 +112,16 @@ module _ (ps : List Place) (t : Typed ps) (ssrc : ℕ) (small : ssrc < 2 ^ 32) w
 
 -- ---- the words of a table are read as it
 
-module _ (ps : List Place) (f : fault ps ≡ none) (t : Typed ps) where
+module _ (ps : List Place) (f : fault ps ≡ None) (t : Typed ps) where
   abbrev words : List ℕ
   words = table_words ps
 
-  back : (words_fault words ≡ none) × (places_in words ≡ ps)
+  back : (words_fault words ≡ None) × (places_in words ≡ ps)
   back =
       let b = table_back ps f t in
-      let fit = taken words (ap (λ (l : Loaded). l.answer) b.0) in
+      let fit = taken words b.0 in
       let few = le-ltb most_places (length ps) (leb-true (length ps) most_places (all_true (rules ps) 0 (checking.kept ps f).ruled)) in
-      (b.1, sym (few_lent (places_in words) fit.short) ∙ ap table.lent (sym fit.table ∙ ap (λ (l : Loaded). l.table) b.0) ∙ few_lent ps few)
+      (b.1, sym (few_lent (places_in words) fit.short) ∙ ap table.lent (sym fit.table) ∙ few_lent ps few)
 
   module _ (ssrc : ℕ) (wire : Wire) (mark : ℕ) where
     arrived_is : table_arrived words ssrc wire.0 mark ≡ arrive_answer ps ssrc wire mark
@@ -160,13 +159,13 @@ module _ (ps : List Place) (f : fault ps ≡ none) (t : Typed ps) where
 
 -- the words of a table that is not refused
 abbrev Reads : List ℕ → List Place → Type 0
-Reads words ps = (words ≡ table_words ps) × (fault ps ≡ none) × Typed ps
+Reads words ps = (words ≡ table_words ps) × (fault ps ≡ None) × Typed ps
 
-told_same : (ps : List Place) (c : Call) → fault ps ≡ none → Typed ps → table_told (table_words ps) c ≡ places_told ps c
+told_same : (ps : List Place) (c : Call) → fault ps ≡ None → Typed ps → table_told (table_words ps) c ≡ places_told ps c
 told_same ps (arrives a) f t = ap (λ (x : Arrived). pos (arrived_code x)) (arrived_is ps f t a.ssrc a.wire a.mark)
 told_same ps (counts ssrc width bytes) f t = ap counted_code (counted_is ps f t ssrc width bytes)
 
-left_reads : (ps : List Place) (c : Call) → fault ps ≡ none → Typed ps → Fits c → Reads (table_left (table_words ps) c) (behind_call ps c)
+left_reads : (ps : List Place) (c : Call) → fault ps ≡ None → Typed ps → Fits c → Reads (table_left (table_words ps) c) (behind_call ps c)
 left_reads ps (arrives a) f t fit =
     (arrived_left ps f t a.ssrc a.wire a.mark, arrival_keeps_rules ps a.ssrc a.wire a.mark fit.1 f, arrive_typed ps t a.ssrc fit.0 a.wire a.mark)
 left_reads ps (counts ssrc width bytes) f t fit =

@@ -1,4 +1,6 @@
 -- The theorems on the runs from C are applied to values: C1's trace, a label and one arrivals block. Assumes nothing.
+use Rattle.std.specs.Prelude.{Result}
+use Rattle.answers.specs.declared.Unwritten.{Unwritten}
 use mathlib.Core.Path.{refl}
 use mathlib.Core.List.{List, []}
 use Prim.Native.Nat.{ℕ}
@@ -6,7 +8,6 @@ use native.Mathlib.Omega.{arith}
 use lib.Count.{ones, ones_in}
 use lib.ListN.{replicate}
 use Rattle.answers.specs.Writers.{written, stored}
-use Rattle.answers.specs.declared.Written.{Written}
 use Rattle.numbers.specs.BigEndian.{word, bytes}
 use Rattle.numbers.specs.Since as since
 use Rattle.source.specs.Arrivals.{arrival, first, counted, distance, ahead, behind}
@@ -44,7 +45,7 @@ use Rattle.callers.proofs.Sessions.{session_reads}
 use Rattle.callers.proofs.RunFromC.{reads_as, run_from_c_prints, run_start_is, run_block_is}
 
 -- what a function of a run gives on values
-pub took : {R A : Type 0} (code : Written → R) (words_of : A → List ℕ) (words : List ℕ) (given : A) (next : Next A) (bytes old : List ℕ)
+pub took : {R A : Type 0} (code : Result ℕ Unwritten → R) (words_of : A → List ℕ) (words : List ℕ) (given : A) (next : Next A) (bytes old : List ℕ)
     → let w = written (fault_in next) bytes old in Takes code words_of words given next bytes old (code w) (words_after words (words_of (state_after given next w)) w) (stored (fault_in next) bytes old)
 took code words_of words given next bytes old = record { answers = refl; keeps = refl; stores = refl }
 

@@ -1,5 +1,5 @@
 -- Calls of flasknib_count_block on one lent record, each on the words that the call before left (include/flasknib.h, "one RTP source").
-use Rattle.std.specs.Prelude.{◌≡◌, true, cond, List, [], ◌∷◌, ◌++◌, map, ℕ, ◌+◌, ◌/◌, ℤ, length, replicate}
+use Rattle.std.specs.Prelude.{◌≡◌, true, cond, List, [], ◌∷◌, ◌++◌, map, ℕ, ◌+◌, ◌/◌, ℤ, length, replicate, Some}
 use Rattle.answers.specs.Conditions.{all}
 use Rattle.source.specs.declared.Source.{Source}
 use Rattle.source.specs.declared.BlockCount.{BlockCount}
@@ -9,7 +9,6 @@ use Rattle.source.specs.Blocks.{Packet, packets, in_limits, count_all, block_cou
 use Rattle.sources.specs.Answers.{behind}
 use Rattle.walk.specs.Pieces.{Octets}
 use Rattle.lent.specs.SourceWords.{source_words, loaded}
-use Rattle.lent.specs.declared.source_words.Loaded.TheVariants.{Held}
 use Rattle.capi.specs.OneSource.{count_code, block_answer, block_words}
 use Rattle.demands.specs.Calls.{TruePacket, Described}
 use Rattle.demands.specs.Count.{count}
@@ -71,7 +70,7 @@ pub record BlocksInTurn (words : List ℕ) (s : Source) (bs : List Block) : Type
   pub answers : blocks_answered words bs ≡ answers_of (λ s b. count_code (counts s b)) next s bs
   pub left : blocks_left words bs ≡ source_words (after_blocks s bs)
   -- the next call reads the words as the record handed back, which is sound
-  pub read : loaded (blocks_left words bs) ≡ Held (after_blocks s bs)
+  pub read : loaded (blocks_left words bs) ≡ Some (after_blocks s bs)
   pub sound : sound (after_blocks s bs) ≡ true
   -- the record is that of all packets, taken one by one, however they are cut into blocks; the jumps and restarts told are theirs
   pub all : count_all (packets_of bs) s 0 0

@@ -1,13 +1,12 @@
 -- The converter of forms from C (include/flasknib.h, "a trace in the other form"): flasknib_forms_start on block 0, flasknib_forms_block on each later block and
 -- flasknib_forms_close at the end, each on the words and the part that the call before left, print what ecnforms prints.
-use Rattle.std.specs.Prelude.{◌≡◌, List, [], ℕ, ◌*◌, ◌^◌, ◌≤◌, ◌<◌, ℤ, length}
-use Rattle.std.proofs.Math.Option.{some}
+use Rattle.answers.specs.declared.Refusal.{Refusal}
+use Rattle.std.specs.Prelude.{◌≡◌, List, [], ℕ, ◌*◌, ◌^◌, ◌≤◌, ◌<◌, ℤ, length, Some, Result, Ok, Err}
 use Rattle.answers.specs.Writers.{written}
 use Rattle.format.specs.Blocks.{block_bytes, body_bytes}
 use Rattle.trace.specs.Places.{zeroth_of}
 use Rattle.trace.specs.declared.Record.{Record}
 use Rattle.trace.specs.declared.Zeroth.{Zeroth}
-use Rattle.trace.specs.declared.Zeroth.TheVariants as zeroth
 use Rattle.walk.specs.Programs.{Printed, ending_at}
 use Rattle.walk.specs.Pieces.{Octets}
 use Rattle.walk.specs.Steps.{Next, goes, refuses, fault_in, state_after}
@@ -25,9 +24,9 @@ pub record FormsKept : Type 0 where
   pub words : List ℕ
   pub part : List ℕ
 
-abbrev pub started_in : List ℕ → Zeroth → Next FormsKept
-started_in part (zeroth.Label form n ssrc) = goes (record { words = conversion_words (record { form = form; ssrc = ssrc; held = 0 }); part = part })
-started_in part (zeroth.Refused refusal) = refuses refusal
+abbrev pub started_in : List ℕ → Result Zeroth Refusal → Next FormsKept
+started_in part (Ok label) = goes (record { words = conversion_words (record { form = label.form; ssrc = label.ssrc; held = 0 }); part = part })
+started_in part (Err refusal) = refuses refusal
 
 abbrev pub brought_in : Next Carried → Next FormsKept
 brought_in (goes s) = goes (record { words = conversion_words s.conversion; part = s.part })
@@ -45,7 +44,7 @@ forms_calls part = record {
   next = λ k b. brought_in (carried_by (conversion_of k.words) k.part (records_for k b));
   bytes = λ k b. bytes_in (conversion_of k.words) k.part (records_for k b);
   end = λ k e. end_by (record { out = close_bytes (conversion_of k.words) k.part; err = told e }) (end_fault k.words k.part);
-  over = λ refusal. record { out = []; err = told (ending_at 0 (some refusal)) };
+  over = λ refusal. record { out = []; err = told (ending_at 0 (Some refusal)) };
 }
 
 -- they are the C functions, by the contracts of these (the end is `ClosesForms` as it stands): block 0, with 3 words of any values;

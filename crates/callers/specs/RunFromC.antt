@@ -1,7 +1,7 @@
 -- A run of ecntable from C (include/flasknib.h, "a run of ecntable"): flasknib_run_start on block 0, and flasknib_run_block on each later block, on the words that the
 -- call before left, print what ecntable prints.
-use Rattle.std.specs.Prelude.{◌≡◌, List, ℕ, ◌*◌, ◌^◌, ◌<◌, ℤ, length}
-use Rattle.std.proofs.Math.Option.{some}
+use Rattle.answers.specs.declared.Refusal.{Refusal}
+use Rattle.std.specs.Prelude.{◌≡◌, List, ℕ, ◌*◌, ◌^◌, ◌<◌, ℤ, length, Some, Result, Ok, Err}
 use Rattle.answers.specs.Refusals.{number_of}
 use Rattle.format.specs.Blocks.{block_bytes}
 use Rattle.table.specs.Lines.{head_bytes}
@@ -11,8 +11,6 @@ use Rattle.walk.specs.Steps.{Next, goes, refuses}
 use Rattle.walk.specs.Machines.{Session}
 use Rattle.walk.specs.Singles.{Singles, singly}
 use Rattle.convert.specs.declared.Run.{Run}
-use Rattle.convert.specs.declared.Begin.{Begin}
-use Rattle.convert.specs.declared.Begin.TheVariants as begin
 use Rattle.convert.specs.Runs.{start_of, row_in}
 use Rattle.convert.specs.Tables.{closing, printed}
 use Rattle.lent.specs.RunWords.{run_words}
@@ -24,9 +22,9 @@ pub record RunKept : Type 0 where
   pub words : List ℕ
   pub zeroth : List ℕ
 
-abbrev pub started_in : List ℕ → Begin → Next RunKept
-started_in zeroth (begin.Started run) = goes (record { words = run_words run; zeroth = zeroth })
-started_in zeroth (begin.Refused refusal) = refuses refusal
+abbrev pub started_in : List ℕ → Result Run Refusal → Next RunKept
+started_in zeroth (Ok run) = goes (record { words = run_words run; zeroth = zeroth })
+started_in zeroth (Err refusal) = refuses refusal
 
 abbrev pub brought_in : List ℕ → Next Run → Next RunKept
 brought_in zeroth (goes run) = goes (record { words = run_words run; zeroth = zeroth })
@@ -40,7 +38,7 @@ run_calls = record {
   next = λ k b. brought_in k.zeroth (run_next k.words k.zeroth b);
   bytes = λ k b. row_in k.zeroth (run_next k.words k.zeroth b);
   end = λ k e. closing e;
-  over = λ refusal. closing (ending_at 0 (some refusal));
+  over = λ refusal. closing (ending_at 0 (Some refusal));
 }
 
 -- they are the C functions, by the contracts of these: 0 and the words, or the refusal and the words as they were;

@@ -1,7 +1,6 @@
 -- The same of calls for one block each (walk/specs/Singles): what a C function leaves in lent words is read by the next as the state that the call on the state
 -- itself hands on, so that they print the same.
-use Rattle.std.specs.Prelude.{◌≡◌, List, ℕ, ℤ}
-use Rattle.std.proofs.Math.Option.{Option}
+use Rattle.std.specs.Prelude.{◌≡◌, List, ℕ, ℤ, Option}
 use Rattle.answers.specs.Writers.{written, stored}
 use Rattle.answers.specs.declared.Refusal.{Refusal}
 use Rattle.walk.specs.Programs.{Printed, Ending}

@@ -1,7 +1,6 @@
 -- Calls on a table of several sources from C (include/flasknib.h, "several RTP sources in one table"), each on the words that the call before left; and demand 3 for
 -- each source of it (demands/specs/EachSource).
-use Rattle.std.specs.Prelude.{◌≡◌, true, List, map, ℕ, ℤ, pos}
-use Rattle.std.proofs.Math.Option.{none}
+use Rattle.std.specs.Prelude.{◌≡◌, true, List, map, ℕ, ℤ, pos, None}
 use Rattle.answers.specs.Conditions.{all}
 use Rattle.sources.specs.declared.Place.{Place}
 use Rattle.sources.specs.Rules.{fault}
@@ -41,18 +40,18 @@ pub record TableInTurn (ps : List Place) (calls : List Call) : Type 0 where
   pub left : left_by table_left (table_words ps) calls ≡ table_words (behind_all ps calls)
   -- the next call reads the words as the places handed back, and refuses them neither with 16 nor with 9
   pub read : places_in (left_by table_left (table_words ps) calls) ≡ behind_all ps calls
-  pub good : words_fault (left_by table_left (table_words ps) calls) ≡ none
+  pub good : words_fault (left_by table_left (table_words ps) calls) ≡ None
 
 -- from the words of a table that neither 16 nor 9 refuses, with the fields that its types have
 abbrev pub TableCallsInTurn : Type 0
-TableCallsInTurn = (ps : List Place) (calls : List Call) → fault ps ≡ none → all (map typed_place ps) ≡ true → AllFit calls → TableInTurn ps calls
+TableCallsInTurn = (ps : List Place) (calls : List Call) → fault ps ≡ None → all (map typed_place ps) ≡ true → AllFit calls → TableInTurn ps calls
 
 -- demand 3 for a source of the table, over the calls that name it: in the words at the end its record is the count over its arrivals, and the compound written from
 -- them by flasknib_sources_write_compound is that of the places, which carries the count (`EachSource`)
 pub record SourceFromC (ps : List Place) (calls : List Call) (ssrc : ℕ) (tps : List TruePacket) : Type 0 where
   pub state : record_of ssrc (places_in (left_by table_left (table_words ps) calls)) ≡ count (arrivals tps)
   pub compound : (sender : ℕ) (old out : List ℕ) (r : ℤ) → WritesTableCompound (left_by table_left (table_words ps) calls) sender old r out
-      → Gives length_code none (compound_bytes sender (behind_all ps calls)) old r out
+      → Gives length_code None (compound_bytes sender (behind_all ps calls)) old r out
 
 abbrev pub EachSourceFromC : Type 0
 EachSourceFromC =

@@ -1,8 +1,8 @@
 -- Calls of flasknib_feed in turn, from words that are all zero: they are the feeds of the upload in the words. Assumes nothing.
+use Rattle.std.specs.Prelude.{Option, Some, None, Result, Ok, Err}
 use mathlib.Core.Path.{◌≡◌, refl, sym, ap, ◌∙◌, subst}
 use mathlib.Core.Bool.{Bool, true, false, cond, not}
 use mathlib.Core.List.{List, [], ◌∷◌, ◌++◌, append-nil}
-use mathlib.Core.Option.{Option, none, some}
 use Prim.Native.Nat.{ℕ, zero, suc, ◌+◌, ◌*◌, ◌/◌, ◌^◌, ◌≤◌, ◌<◌}
 use native.Mathlib.Omega.{arith}
 use borrow.Author.Tests.{eq-eqb, ne_eqb}
@@ -32,17 +32,12 @@ use Rattle.source.proofs.Totalled.{block_counted}
 use Rattle.trace.specs.Places.{zeroth_of, later_of}
 use Rattle.trace.specs.Contents.{every, is_zero}
 use Rattle.trace.specs.declared.Zeroth.{Zeroth}
-use Rattle.trace.specs.declared.Zeroth.TheVariants as zeroth
-use Rattle.trace.specs.declared.Later.{Later}
-use Rattle.trace.specs.declared.Later.TheVariants as later
 use Rattle.trace.proofs.Accepted.{accepted}
 use Rattle.trace.proofs.Placed.{zeroth_label}
 use Rattle.walk.specs.Blocks.{blocks_of, joined}
 use Rattle.walk.specs.Pieces.{Octets, whole_in}
 use Rattle.walk.specs.Programs.{Ending, to_output, walked}
 use Rattle.walk.specs.Fitting.{Took, one_more, front}
-use Rattle.walk.specs.declared.Ended.{Ended}
-use Rattle.walk.specs.declared.Ended.TheVariants as ended
 use Rattle.walk.proofs.Cuts.{Each}
 use Rattle.walk.proofs.Pieces.{octets_wholes}
 use Rattle.convert.specs.declared.Run.{Run}
@@ -61,8 +56,6 @@ use Rattle.convert.proofs.FeedAll.{Ongoing, feed_ongoing, fresh_ongoing, cuts_ag
 use Rattle.convert.proofs.FeedPrints.{feeds_print}
 use Rattle.lent.specs.SourceWords.{source_words, FitsWord}
 use Rattle.lent.specs.FeedWords.{upload_of, loaded, feed_words}
-use Rattle.lent.specs.declared.feed_words.Loaded.{Loaded}
-use Rattle.lent.specs.declared.feed_words.Loaded.TheVariants.{Held, Malformed}
 use Rattle.lent.proofs.FeedLaws.{held, other, feed_back, feed_words_back, fresh_is_zeros}
 use Rattle.capi.specs.Feeds.{fed_of, closed_of, close_code}
 use Rattle.capi.specs.FeedChains.{Holding, zero_words, and_fed_words, feed_chain, closed_words}
@@ -100,17 +93,17 @@ pub step_typed : (i : ℕ) (k : Kept) (b : List ℕ) → Typed k.run → Typed (
 unfolding next_of
 step_typed i k b h = go (later_of k.run.form k.run.ssrc b)
   where
-    go : (r : Later) → Typed (taken k (next_by k.run b r)).state.run
-    go (later.Arrivals n) = arrived_typed k.run n b h
-    go (later.Refused refusal) = h
+    go : (r : Result ℕ Refusal) → Typed (taken k (next_by k.run b r)).state.run
+    go (Ok n) = arrived_typed k.run n b h
+    go (Err refusal) = h
 
 pub start_typed : (k : Kept) (b : List ℕ) → Octets b → Typed k.run → Typed (labelled k b (start_of b)).state.run
 unfolding start_of
 start_typed k b o h = go (zeroth_of b) refl
   where
-    go : (z : Zeroth) → zeroth_of b ≡ z → Typed (labelled k b (start_by z)).state.run
-    go (zeroth.Label form n ssrc) q = (omega (arith, (accepted b (zeroth_label b q)).block.its_ssrc, word_lt b 4 4 o), refl)
-    go (zeroth.Refused refusal) q = h
+    go : (z : Result Zeroth Refusal) → zeroth_of b ≡ z → Typed (labelled k b (start_by z)).state.run
+    go (Ok label) q = (omega (arith, (accepted b (zeroth_label b q)).block.its_ssrc, word_lt b 4 4 o), refl)
+    go (Err refusal) q = h
 
 turn_typed : (i : ℕ) (k : Kept) (b : List ℕ) → Octets b → Typed k.run → Typed (feeding.step i k b).state.run
 turn_typed zero k b o h = start_typed k b o h
@@ -125,8 +118,8 @@ through_typed i (b ∷ bs) k o h =
     go t.refusal (through feeding (suc i) bs t.state) s (through_typed (suc i) bs t.state o.1 s)
   where
     go : (r : Option Refusal) (w : Took Kept) → Typed (feeding.step i k b).state.run → Typed w.state.run → Typed (one_more (feeding.step i k b) r w).state.run
-    go none w h e = e
-    go (some refusal) w h e = h
+    go None w h e = e
+    go (Some refusal) w h e = h
 
 module _ (u : Upload) (lent stretch : List ℕ) (room : ℕ) (ol : Octets lent) (os : Octets stretch) (h : Typed u.run) where
   abbrev bytes : List ℕ
@@ -154,10 +147,10 @@ module _ (u : Upload) (lent stretch : List ℕ) (room : ℕ) (ol : Octets lent) 
       within true = h
       within false = fits (ltb room (length (completed u lent bytes).printed.out))
 
-      go : (b : Bool) (e : Ended) → Typed (cond b (unchanged u lent (answer.Refused refusal.Malformed)) (feed_by u lent stretch room e)).upload.run
+      go : (b : Bool) (e : Option Refusal) → Typed (cond b (unchanged u lent (answer.Refused refusal.Malformed)) (feed_by u lent stretch room e)).upload.run
       go true e = h
-      go false (ended.Refused refusal) = h
-      go false ended.Going = within (ltb most_fed (TakenBy u + length stretch))
+      go false (Some refusal) = h
+      go false None = within (ltb most_fed (TakenBy u + length stretch))
 
 -- ---- an upload that is sound and so typed reads back
 
@@ -186,16 +179,16 @@ run_fits : (n : ℕ) (u : Upload) (lent : List ℕ) → u.blocks ≡ n → run_o
     → FitsWord u.run.totals.source.base.0 × FitsWord u.run.totals.source.highest.0 × (u.blocks ≡ 0 → u.run.form ≡ no_run.form)
 run_fits zero u lent q e =
     let first = subst (λ (b : Bool). run_ok u.run (zeroth_in lent) b ≡ true) (eq-eqb u.blocks 0 q) e in
-    let none = and_left _ (every is_zero (zeroth_in lent)) first in
-    let fit = fresh_fits u.run.totals.source (all_true (is_no_run u.run) 3 none) in
-    (fit.0, fit.1, λ z. same_form_lem u.run.form no_run.form (all_true (is_no_run u.run) 0 none))
+    let None = and_left _ (every is_zero (zeroth_in lent)) first in
+    let fit = fresh_fits u.run.totals.source (all_true (is_no_run u.run) 3 None) in
+    (fit.0, fit.1, λ z. same_form_lem u.run.form no_run.form (all_true (is_no_run u.run) 0 None))
 run_fits (suc n) u lent q e =
     let later = subst (λ (b : Bool). run_ok u.run (zeroth_in lent) b ≡ true) (ne_eqb u.blocks 0 (λ z. omega arith)) e in
     let totals = and_right (own_by u.run (zeroth_of (zeroth_in lent))) _ later in
     let fit = sound_fits u.run.totals.source (all_true (sound_totals u.run.totals) 0 totals) in
     (fit.0, fit.1, λ z. absurd (omega arith))
 
-sound_back : (u : Upload) (lent : List ℕ) → sound_upload u lent ≡ true → Typed u.run → loaded (feed_words u) ≡ Held u
+sound_back : (u : Upload) (lent : List ℕ) → sound_upload u lent ≡ true → Typed u.run → loaded (feed_words u) ≡ Some u
 sound_back u lent s h =
     let w = well_formed s in
     let f = run_fits u.blocks u lent refl w.run in
@@ -208,7 +201,7 @@ abbrev holding_of : Given → Holding
 holding_of g = record { words = feed_words g.upload; lent = g.lent; rows = g.rows }
 
 -- one call more
-fed_held : (g : Given) (stretch : List ℕ) (room : ℕ) → loaded (feed_words g.upload) ≡ Held g.upload
+fed_held : (g : Given) (stretch : List ℕ) (room : ℕ) → loaded (feed_words g.upload) ≡ Some g.upload
     → and_fed_words (holding_of g) stretch room ≡ holding_of (and_fed g stretch room)
 fed_held g stretch room e =
     let words = feed_words g.upload in
@@ -249,12 +242,12 @@ module _ (rooms : ℕ → ℕ) (lent : List ℕ) (xs : List (List ℕ)) (f : Fre
 
 -- a closing call's upload is sound and typed too
 close_sound : (u : Upload) (lent : List ℕ) → sound_upload u lent ≡ true → Typed u.run
-    → loaded (feed_words (close_of u lent).upload) ≡ Held (close_of u lent).upload
+    → loaded (feed_words (close_of u lent).upload) ≡ Some (close_of u lent).upload
 unfolding close_of
 close_sound u lent s h = go (not (sound_upload u lent)) u.ended
   where
-    back : (e : Ended) → keepable e ≡ true
-        → loaded (feed_words (record { run = u.run; blocks = u.blocks; kept = u.kept; ended = e })) ≡ Held
+    back : (e : Option Refusal) → keepable e ≡ true
+        → loaded (feed_words (record { run = u.run; blocks = u.blocks; kept = u.kept; ended = e })) ≡ Some
         (record { run = u.run; blocks = u.blocks; kept = u.kept; ended = e })
     back e k =
         let w = well_formed s in
@@ -262,15 +255,15 @@ close_sound u lent s h = go (not (sound_upload u lent)) u.ended
         feed_back (record { run = u.run; blocks = u.blocks; kept = u.kept; ended = e }) h.0 f.0 f.1 h.1 k f.2
 
     whole : (b : Bool) → let g = cond b (unchanged u lent (answer.Length 0)) (unchanged (broken u) lent (answer.Faulty refusal.Incomplete u.blocks 0)) in
-        loaded (feed_words g.upload) ≡ Held g.upload
+        loaded (feed_words g.upload) ≡ Some g.upload
     whole true = sound_back u lent s h
-    whole false = back (ended.Refused refusal.Incomplete) refl
+    whole false = back (Some refusal.Incomplete) refl
 
-    go : (b : Bool) (e : Ended)
-        → let g = cond b (unchanged u lent (answer.Refused refusal.Malformed)) (close_by u lent e) in loaded (feed_words g.upload) ≡ Held g.upload
+    go : (b : Bool) (e : Option Refusal)
+        → let g = cond b (unchanged u lent (answer.Refused refusal.Malformed)) (close_by u lent e) in loaded (feed_words g.upload) ≡ Some g.upload
     go true e = sound_back u lent s h
-    go false (ended.Refused refusal) = sound_back u lent s h
-    go false ended.Going = whole (ends_whole u)
+    go false (Some refusal) = sound_back u lent s h
+    go false None = whole (ends_whole u)
 
 -- the block of its answer is the upload's
 close_block : (u : Upload) (lent : List ℕ) (fault : Refusal) (block n : ℕ) → (close_of u lent).answer ≡ answer.Faulty fault block n
@@ -283,12 +276,12 @@ close_block u lent fault block n = go (not (sound_upload u lent)) u.ended
     whole true e = let z : ◌≡◌ {A = ℕ} 0 1 = cc in absurd (omega arith)
     whole false e = cc
 
-    go : (b : Bool) (e : Ended)
+    go : (b : Bool) (e : Option Refusal)
         → let g = cond b (unchanged u lent (answer.Refused refusal.Malformed)) (close_by u lent e) in g.answer ≡ answer.Faulty fault block n
         → g.upload.blocks ≡ block
     go true e q = let z : ◌≡◌ {A = ℕ} 0 1 = cc in absurd (omega arith)
-    go false (ended.Refused kept) q = cc
-    go false ended.Going q = whole (ends_whole u) q
+    go false (Some kept) q = cc
+    go false None q = whole (ends_whole u) q
 
 blocks_word : (u : Upload) → get_or (feed_words u) 15 0 ≡ u.blocks
 unfolding feed_words source_words
@@ -296,8 +289,8 @@ blocks_word u = refl
 
 -- the answer's number
 closed_number : (o : Option Ending) → close_code (closed_as o) ≡ end_number o
-closed_number none = refl
-closed_number (some e) = refl
+closed_number None = refl
+closed_number (Some e) = refl
 
 pub words_print : WordsPrint
 words_print rooms lent xs f o few enough =
@@ -335,8 +328,8 @@ pub refused_leaves_words : RefusedLeavesWords
 unfolding fed_of
 refused_leaves_words h stretch room base highest refused = go (loaded h.words) refl
   where
-    go : (l : Loaded) → loaded h.words ≡ l → and_fed_words h stretch room ≡ h
-    go (Held u) e =
+    go : (l : Option Upload) → loaded h.words ≡ l → and_fed_words h stretch room ≡ h
+    go (Some u) e =
         let is = fed_is h.words h.lent e stretch room in
         let same = is ∙ refused_is_unchanged u h.lent stretch room (subst (λ (x : Given). FeedRefused x.answer) is refused) in
         λ i. record {
@@ -345,10 +338,10 @@ refused_leaves_words h stretch room base highest refused = go (loaded h.words) r
           lent = ap (λ (x : Given). x.lent) same i;
           rows = (ap (λ (x : Given). h.rows ++ x.rows) same ∙ append-nil h.rows) i;
         }
-    go Malformed e =
-        let none : fed_of h.words h.lent stretch room ≡ unchanged (upload_of h.words) h.lent (answer.Refused refusal.Malformed) = rw (other h.words e) in
+    go None e =
+        let None : fed_of h.words h.lent stretch room ≡ unchanged (upload_of h.words) h.lent (answer.Refused refusal.Malformed) = rw (other h.words e) in
         λ i. record {
           words = ap (λ (b : Bool). cond b (feed_words (fed_of h.words h.lent stretch room).upload) h.words) (other h.words e) i;
-          lent = ap (λ (x : Given). x.lent) none i;
-          rows = (ap (λ (x : Given). h.rows ++ x.rows) none ∙ append-nil h.rows) i;
+          lent = ap (λ (x : Given). x.lent) None i;
+          rows = (ap (λ (x : Given). h.rows ++ x.rows) None ∙ append-nil h.rows) i;
         }

@@ -1,8 +1,8 @@
 -- An upload in lent words, or refusal 9, and how long the rows of a feed are. Assumes nothing.
+use Rattle.std.specs.Prelude.{Option, Some, None}
 use mathlib.Core.Path.{◌≡◌, refl, sym, ap, ◌∙◌, subst⁻¹}
 use mathlib.Core.Bool.{Bool, true, false, cond}
 use mathlib.Core.List.{List, ◌++◌}
-use mathlib.Core.Option.{Option, none, some}
 use Prim.Native.Nat.{ℕ, ◌+◌, ◌-◌, ◌^◌, ◌≤◌, ◌<◌}
 use native.Mathlib.Omega.{arith}
 use borrow.Author.Tests.{ltb-true, ltb-false}
@@ -16,8 +16,6 @@ use Rattle.format.specs.Blocks.{block_bytes}
 use Rattle.numbers.proofs.Octets.{octets_append, octets_take, octets_drop, octets_zeros}
 use Rattle.walk.specs.Fitting.{Took}
 use Rattle.walk.specs.Pieces.{Octets, wholes}
-use Rattle.walk.specs.declared.Ended.{Ended}
-use Rattle.walk.specs.declared.Ended.TheVariants as ended
 use Rattle.convert.specs.declared.feeds.Upload.{Upload}
 use Rattle.convert.specs.declared.feeds.FeedAnswer.TheVariants as answer
 use Rattle.convert.specs.declared.feeds.Fed.{Fed}
@@ -31,7 +29,6 @@ use Rattle.convert.proofs.Completing.{rest, filled, added_is, can_add, past_most
 use Rattle.convert.proofs.Longest.{done_few}
 use Rattle.lent.specs.RunWords.{run_with}
 use Rattle.lent.specs.FeedWords.{upload_with, upload_of, loaded, feed_words}
-use Rattle.lent.specs.declared.feed_words.Loaded.TheVariants.{Held, Malformed}
 use Rattle.lent.proofs.FeedLaws.{held, other, words_of}
 use Rattle.capi.specs.Codes.{Leaves}
 use Rattle.capi.specs.Feeds.{words_by, fed_of, feed_code, feed_size, FeedsWords, closed_of, close_code, ClosesWords}
@@ -39,7 +36,7 @@ use Rattle.capi.specs.Feeds.{words_by, fed_of, feed_code, feed_size, FeedsWords,
 -- ---- the calls on the upload in the words
 
 module _ (words lent : List ℕ) where
-  pub feed_other : (stretch old : List ℕ) → loaded words ≡ Malformed → FeedsWords words lent stretch old (neg_ℤ (pos 9)) words lent old
+  pub feed_other : (stretch old : List ℕ) → loaded words ≡ None → FeedsWords words lent stretch old (neg_ℤ (pos 9)) words lent old
   unfolding fed_of
   feed_other stretch old e =
       let is : fed_of words lent stretch (length old) ≡ unchanged (upload_of words) lent (answer.Refused refusal.Malformed) = rw (other words e) in
@@ -50,7 +47,7 @@ module _ (words lent : List ℕ) where
         stores = ap (λ (g : Given). g.rows ++ drop (length g.rows) old) (sym is);
       }
 
-  pub close_other : loaded words ≡ Malformed → ClosesWords words lent 9 words
+  pub close_other : loaded words ≡ None → ClosesWords words lent 9 words
   unfolding closed_of
   close_other e =
       let is : closed_of words lent ≡ unchanged (upload_of words) lent (answer.Refused refusal.Malformed) = rw (other words e) in
@@ -59,7 +56,7 @@ module _ (words lent : List ℕ) where
         keeps = sym (ap (λ (b : Bool). cond b (feed_words (closed_of words lent).upload) words) (other words e));
       }
 
-  module _ {u : Upload} (e : loaded words ≡ Held u) where
+  module _ {u : Upload} (e : loaded words ≡ Some u) where
     pub fed_is : (stretch : List ℕ) (room : ℕ) → fed_of words lent stretch room ≡ feed_of u lent stretch room
     unfolding fed_of
     fed_is stretch room = let h = held words e in rw h.0 (ap (λ (x : Upload). feed_of x lent stretch room) (sym h.1))
@@ -100,7 +97,7 @@ pub closes_as : {words lent left : List ℕ} {r told : ℕ} → r ≡ told → C
 closes_as e f = record { answers = e ∙ f.answers; keeps = f.keeps }
 
 -- an upload in words has an SSRC of 32 bits
-pub upload_ssrc : (words : List ℕ) {u : Upload} → loaded words ≡ Held u → u.run.ssrc < 2 ^ 32
+pub upload_ssrc : (words : List ℕ) {u : Upload} → loaded words ≡ Some u → u.run.ssrc < 2 ^ 32
 unfolding upload_with run_with
 upload_ssrc words e =
     let h = held words e in
@@ -110,8 +107,8 @@ upload_ssrc words e =
 
 -- a length that comes with an answer
 answer_size : (block n : ℕ) (o : Option Refusal) → feed_size (answer_by block n o) ≡ n
-answer_size block n none = refl
-answer_size block n (some refusal) = refl
+answer_size block n None = refl
+answer_size block n (Some refusal) = refl
 
 added_size : (u : Upload) (lent rest : List ℕ) (room : ℕ) → feed_size (added_by u lent rest room).answer ≡ length (done_by u lent rest).printed.out
 added_size u lent rest room = go (ltb room n)
@@ -153,7 +150,7 @@ module _ (u : Upload) (lent stretch old : List ℕ) (small : u.run.ssrc < 2 ^ 32
       (octets_drop (block_bytes - u.kept) stretch os) in
       omega (arith, ap (λ (g : Given). feed_size g.answer) is, added_size u f r (length old), bound, length-drop (block_bytes - u.kept) stretch)
 
-  going_size : (w : WellFormed u lent) → u.ended ≡ ended.Going → feed_size (in_limits u lent stretch (length old)).answer < 2 ^ 54
+  going_size : (w : WellFormed u lent) → u.ended ≡ None → feed_size (in_limits u lent stretch (length old)).answer < 2 ^ 54
   going_size w going = go (ltb most_fed (TakenBy u + length stretch)) refl (ltb (u.kept + length stretch) block_bytes) refl
     where
       go : (a : Bool) → ltb most_fed (TakenBy u + length stretch) ≡ a → (b : Bool) → ltb (u.kept + length stretch) block_bytes ≡ b
@@ -172,9 +169,9 @@ module _ (u : Upload) (lent stretch old : List ℕ) (small : u.run.ssrc < 2 ^ 32
           let long = ltb-false (u.kept + length stretch) block_bytes q in
           complete_size w (omega (arith, long)) (omega (arith, few))
 
-  sound_size : (e : Ended) → u.ended ≡ e → (w : WellFormed u lent) → feed_size (feed_by u lent stretch (length old) e).answer < 2 ^ 54
-  sound_size (ended.Refused refusal) q w = omega arith
-  sound_size ended.Going q w = going_size w q
+  sound_size : (e : Option Refusal) → u.ended ≡ e → (w : WellFormed u lent) → feed_size (feed_by u lent stretch (length old) e).answer < 2 ^ 54
+  sound_size (Some refusal) q w = omega arith
+  sound_size None q w = going_size w q
 
   pub feed_size_lem : feed_size (feed_of u lent stretch (length old)).answer < 2 ^ 54
   feed_size_lem = go (sound_upload u lent) refl

@@ -1,8 +1,10 @@
 -- A conversion in lent words, or refusal 9, and how long the blocks are that it writes. Assumes nothing.
+use Rattle.std.specs.Prelude.{Some, None, Result, Ok, Err}
+use Rattle.answers.specs.declared.Unwritten.{Unwritten}
+use Rattle.answers.specs.declared.Refusal.{Refusal}
 use mathlib.Core.Path.{◌≡◌, refl, ap, ◌∙◌, subst₂}
 use mathlib.Core.Bool.{Bool, true, false, cond}
 use mathlib.Core.List.{List, [], ◌∷◌, ◌++◌}
-use mathlib.Core.Option.{none, some}
 use Prim.Native.Nat.{ℕ, ◌*◌, ◌+◌, ◌≤◌, ◌<◌}
 use native.Mathlib.Omega.{arith}
 use borrow.Author.Tests.{eq-eqb, ne_eqb}
@@ -10,8 +12,6 @@ use lib.IntN.{ℤ, pos, neg_ℤ}
 use lib.ListN.{length, take, length-append}
 use Rattle.answers.specs.Writers.{written, size_in, Wrote}
 use Rattle.answers.specs.declared.Refusal.TheVariants as refusal
-use Rattle.answers.specs.declared.Written.{Written}
-use Rattle.answers.specs.declared.Written.TheVariants.{Length, Room, Refused}
 use Rattle.answers.proofs.Stores.{wrote_refused, wrote_size, wrote_same}
 use Rattle.format.specs.Blocks.{block_bytes}
 use Rattle.format.specs.Forms.{shape_of, other_form}
@@ -21,7 +21,6 @@ use Rattle.format.proofs.Fits.{fits, records_fit}
 use Rattle.trace.specs.Layout.{body_of}
 use Rattle.trace.specs.Places.{zeroth_of}
 use Rattle.trace.specs.declared.Zeroth.{Zeroth}
-use Rattle.trace.specs.declared.Zeroth.TheVariants as zeroth
 use Rattle.trace.specs.declared.Record.{Record}
 use Rattle.trace.proofs.Accepted.{accepted}
 use Rattle.trace.proofs.Placed.{zeroth_label}
@@ -29,7 +28,6 @@ use Rattle.trace.proofs.Layouts.{length-label_block, length-arrivals_block}
 use Rattle.trace.proofs.Records.{length-records_in}
 use Rattle.walk.specs.Steps.{Next, goes, refuses, state_after}
 use Rattle.forms.specs.declared.Conversion.{Conversion}
-use Rattle.forms.specs.declared.Begin.{Begin}
 use Rattle.forms.specs.declared.Step.{Step}
 use Rattle.forms.specs.Packing.{full, last_block}
 use Rattle.forms.specs.Conversions.{to_shape, held_in, sound, begin_fault, begin_bytes, begin_by, Began, next_of}
@@ -37,7 +35,6 @@ use Rattle.forms.specs.Conversions.{call_next, bytes_in, Carried, carries, carri
 use Rattle.forms.proofs.Held.{is_sound_lem}
 use Rattle.forms.proofs.Packed.{full_fits, length-full}
 use Rattle.forms.proofs.Whole.{brings, few_brought}
-use Rattle.lent.specs.declared.conversion_words.Loaded.TheVariants.{Held, Malformed}
 use Rattle.lent.specs.ConversionWords.{conversion_of, conversion_words, loaded}
 use Rattle.lent.proofs.ConversionLaws.{held, other}
 use Rattle.capi.specs.Codes.{length_code, Leaves}
@@ -52,7 +49,7 @@ module _ (words zeroth old : List ℕ) where
   unfolding begins
   begins_other n = let t = ne_eqb (length words) 3 n in record { answers = rw t; keeps = rw t; stores = rw t }
 
-  pub begins_begun : {b : Begin} {r : ℤ} {left out : List ℕ} → length words ≡ 3 → Began zeroth old b out → Leaves (begin_code b) (begin_words words b) r left
+  pub begins_begun : {b : Result (Conversion × ℕ) Unwritten} {r : ℤ} {left out : List ℕ} → length words ≡ 3 → Began zeroth old b out → Leaves (begin_code b) (begin_words words b) r left
       → BeginsForms words zeroth old r left out
   unfolding begins
   begins_begun n w l =
@@ -63,25 +60,25 @@ module _ (words zeroth old : List ℕ) where
         stores = rw t w.stores;
       }
 
-begun_size : (form : Form) (n ssrc : ℕ) (w : Written) → begin_size (begin_by (zeroth.Label form n ssrc) w) ≡ size_in w
-begun_size form n ssrc (Length k) = refl
-begun_size form n ssrc (Room k) = refl
-begun_size form n ssrc (Refused refusal) = refl
+begun_size : (form : Form) (n ssrc : ℕ) (w : Result ℕ Unwritten) → begin_size (begin_by (Ok (record { form = form; length = n; ssrc = ssrc })) w) ≡ size_in w
+begun_size form n ssrc (Ok k) = refl
+begun_size form n ssrc (Err (Unwritten.Room k)) = refl
+begun_size form n ssrc (Err (Unwritten.Refused refusal)) = refl
 
 -- a label block has 512 bytes
-pub begin_size_lem : (zeroth old : List ℕ) {b : Begin} {out : List ℕ} → Began zeroth old b out → begin_size b ≤ 512
+pub begin_size_lem : (zeroth old : List ℕ) {b : Result (Conversion × ℕ) Unwritten} {out : List ℕ} → Began zeroth old b out → begin_size b ≤ 512
 unfolding written
 begin_size_lem b old w = omega (arith, ap begin_size w.answers, go (zeroth_of b) refl)
   where
-    go : (z : Zeroth) → zeroth_of b ≡ z → begin_size (begin_by z (written (begin_fault z) (begin_bytes b z) old)) ≤ 512
-    go (zeroth.Refused refusal) e = omega arith
-    go (zeroth.Label form n ssrc) e =
+    go : (z : Result Zeroth Refusal) → zeroth_of b ≡ z → begin_size (begin_by z (written (begin_fault z) (begin_bytes b z) old)) ≤ 512
+    go (Err refusal) e = omega arith
+    go (Ok label) e =
         let a = accepted b (zeroth_label b e) in
-        let new = begin_bytes b (zeroth.Label form n ssrc) in
-        let long : length new ≡ 512 = length-label_block (shape_of (other_form form)) (take n (body_of b)) ssrc (omega (arith, a.block.long, a.block.room)) in
-        let short = wrote_size {fault = none} {new = new} {old = old} {answer = written none new old} 512 (λ _. omega (arith, long))
+        let new = begin_bytes b (Ok (record { form = label.form; length = label.length; ssrc = label.ssrc })) in
+        let long : length new ≡ 512 = length-label_block (shape_of (other_form label.form)) (take label.length (body_of b)) label.ssrc (omega (arith, a.block.long, a.block.room)) in
+        let short = wrote_size {fault = None} {new = new} {old = old} {answer = written None new old} 512 (λ _. omega (arith, long))
         (record { answers = refl; stores = refl }) in
-        omega (arith, short, begun_size form n ssrc (written none new old))
+        omega (arith, short, begun_size label.form label.length label.ssrc (written None new old))
 
 -- ---- a later block
 
@@ -89,13 +86,13 @@ abbrev pub words_of : Carried → List ℕ
 words_of k = conversion_words k.conversion
 
 module _ (words part block old : List ℕ) where
-  pub forms_other : loaded words ≡ Malformed → TakesForms words part block old (neg_ℤ (pos 9)) words part old
+  pub forms_other : loaded words ≡ None → TakesForms words part block old (neg_ℤ (pos 9)) words part old
   unfolding forms_next written
   forms_other e =
       let t = other words e in
       record { takes = takes_none length_code words_of words {refusal = refusal.Malformed} (rw t); holds = rw t }
 
-  module _ {c : Conversion} (e : loaded words ≡ Held c) where
+  module _ {c : Conversion} (e : loaded words ≡ Some c) where
     next_is : call_next c part block ≡ forms_next words part block
     unfolding forms_next
     next_is = let h = held words e in rw (h.1, ← h.2)
@@ -145,11 +142,11 @@ module _ (c : Conversion) (part block : List ℕ) where
 -- ---- the end
 
 module _ (words part old : List ℕ) where
-  pub close_other : loaded words ≡ Malformed → Wrote (end_fault words part) (close_bytes (conversion_of words) part) old (Refused refusal.Malformed) old
+  pub close_other : loaded words ≡ None → Wrote (end_fault words part) (close_bytes (conversion_of words) part) old (Err (Unwritten.Refused refusal.Malformed)) old
   unfolding end_fault
   close_other e = wrote_refused (close_bytes (conversion_of words) part) old (rw (other words e))
 
-  pub close_held : {c : Conversion} {answer : Written} {out : List ℕ} → loaded words ≡ Held c → Wrote (close_fault c part) (close_bytes c part) old answer out
+  pub close_held : {c : Conversion} {answer : Result ℕ Unwritten} {out : List ℕ} → loaded words ≡ Some c → Wrote (close_fault c part) (close_bytes c part) old answer out
       → Wrote (end_fault words part) (close_bytes (conversion_of words) part) old answer out
   unfolding end_fault
   close_held {c} e w =
@@ -161,10 +158,10 @@ last_long : (form : Form) (ssrc : ℕ) (rs : List Record) → length rs ≤ (sha
 last_long form ssrc [] h = omega arith
 last_long form ssrc (r ∷ rs) h = omega (arith, length-arrivals_block (shape_of form) (r ∷ rs) ssrc (records_fit (fits form) h))
 
-pub close_long : (c : Conversion) (part : List ℕ) → close_fault c part ≡ none → length (close_bytes c part) ≤ block_bytes
+pub close_long : (c : Conversion) (part : List ℕ) → close_fault c part ≡ None → length (close_bytes c part) ≤ block_bytes
 unfolding close_fault
 close_long c part e = go (sound c part) refl e
   where
-    go : (t : Bool) → sound c part ≡ t → cond t none (some refusal.Malformed) ≡ none → length (close_bytes c part) ≤ block_bytes
+    go : (t : Bool) → sound c part ≡ t → cond t None (Some refusal.Malformed) ≡ None → length (close_bytes c part) ≤ block_bytes
     go true g e = last_long (other_form c.form) c.ssrc (held_in c part) (omega (arith, length-records_in (to_shape c) c.held part, (is_sound_lem g).few))
     go false g e = let z : ◌≡◌ {A = ℕ} 0 1 = cc in absurd (omega arith)

@@ -1,26 +1,25 @@
 -- A packet and what is kept of its receiver in lent words, or refusal 9; and the reader's own words. Assumes nothing.
+use Rattle.std.specs.Prelude.{Option, Some, None, Result, Ok}
+use Rattle.answers.specs.declared.Unwritten.{Unwritten}
+use Rattle.rtcp.specs.declared.ReportBlock.{ReportBlock}
+use Rattle.rtcp.specs.declared.Feedback.{Feedback}
+use Rattle.format.specs.declared.Counts.{Counts}
+use Rattle.between.specs.declared.calls.Kept.{Kept}
 use mathlib.Core.Path.{◌≡◌, refl, sym, ap, ◌∙◌}
 use mathlib.Core.Bool.{Bool, true, false, not, cond, ◌&&◌}
 use mathlib.Core.List.{List, ◌++◌}
-use mathlib.Core.Option.{none}
 use Prim.Native.Nat.{ℕ, ◌^◌, ◌≤◌, ◌<◌}
 use native.Mathlib.Omega.{arith}
 use lib.Dec.{ltb}
 use lib.ListN.{length, drop, replicate}
 use lib.Seq.{sets}
 use Rattle.answers.specs.declared.Refusal.TheVariants as refusal
-use Rattle.answers.specs.declared.Written.{Written}
-use Rattle.answers.specs.declared.Written.TheVariants.{Length}
 use Rattle.answers.specs.Writers.{written, stored, Wrote}
 use Rattle.answers.proofs.Conditions.{and_left, and_right}
 use Rattle.answers.proofs.Stores.{wrote_refused, wrote_short, wrote_all, sets-front}
-use Rattle.rtcp.specs.declared.MaybeReport.{MaybeReport}
-use Rattle.rtcp.specs.declared.MaybeFeedback.{MaybeFeedback}
-use Rattle.rtcp.specs.declared.MaybeSummary.{MaybeSummary}
 use Rattle.rtcp.specs.declared.Compound.{Compound}
 use Rattle.breaker.specs.declared.Loss.{Loss}
 use Rattle.breaker.specs.declared.Loss.TheVariants as loss
-use Rattle.between.specs.declared.calls.MaybeKept.{MaybeKept}
 use Rattle.between.specs.declared.calls.Call.{Call}
 use Rattle.between.specs.declared.calls.PacketCall.{PacketCall}
 use Rattle.between.specs.PacketCalls.{ecn_report_by, ecn_report_of, or_earlier, kept_after, call_for}
@@ -29,8 +28,6 @@ use Rattle.lent.specs.CompoundWords.{compound_words, compound_of, is_compound, t
 use Rattle.lent.specs.KeptWords as receiver
 use Rattle.lent.specs.KeptWords.{is_kept, kept_words, typed_kept, some_kept}
 use Rattle.lent.specs.CallWords.{loss_words, call_words}
-use Rattle.lent.specs.declared.compound_words.Loaded.TheVariants as aCompound
-use Rattle.lent.specs.declared.kept_words.Loaded.TheVariants as aKept
 use Rattle.lent.proofs.CompoundLaws as compounds
 use Rattle.lent.proofs.CompoundLaws.{same_call, some_typed}
 use Rattle.lent.proofs.KeptLaws as keeping
@@ -53,12 +50,12 @@ length-call Call.Heard = refl
 
 module _ (found kept old : List ℕ) where
   -- a writer's answer, as a number, and what is kept by it
-  by : {answer : Written} {out : List ℕ} → Wrote (call_fault found kept) (call_words (call_in found kept).call) old answer out
+  by : {answer : Result ℕ Unwritten} {out : List ℕ} → Wrote (call_fault found kept) (call_words (call_in found kept).call) old answer out
       → CallsFor found kept old (refusal_code answer) (kept_by answer (kept_words (call_in found kept).kept) kept) out
   by w =
       record {
         answers = ap refusal_code w.answers;
-        keeps = ap (λ (a : Written). kept_by a (kept_words (call_in found kept).kept) kept) w.answers;
+        keeps = ap (λ (a : Result ℕ Unwritten). kept_by a (kept_words (call_in found kept).kept) kept) w.answers;
         stores = w.stores;
       }
 
@@ -66,15 +63,15 @@ module _ (found kept old : List ℕ) where
   unfolding call_fault
   refused e = by (wrote_refused (call_words (call_in found kept).call) old {refusal = refusal.Malformed} (rw e))
 
-  pub no_compound : compound.loaded found ≡ aCompound.Malformed → CallsFor found kept old 9 kept old
+  pub no_compound : compound.loaded found ≡ None → CallsFor found kept old 9 kept old
   no_compound e = refused (rw (compounds.other found e))
 
-  module _ {c : Compound} (e : compound.loaded found ≡ aCompound.Held c) where
-    pub nothing_kept : receiver.loaded kept ≡ aKept.Malformed → CallsFor found kept old 9 kept old
+  module _ {c : Compound} (e : compound.loaded found ≡ Some c) where
+    pub nothing_kept : receiver.loaded kept ≡ None → CallsFor found kept old 9 kept old
     nothing_kept f = refused (rw ((compounds.held found e).0, keeping.other kept f))
 
-    module _ {k : MaybeKept} (f : receiver.loaded kept ≡ aKept.Held k) where
-      none_is : call_fault found kept ≡ none
+    module _ {k : Option Kept} (f : receiver.loaded kept ≡ Some k) where
+      none_is : call_fault found kept ≡ None
       unfolding call_fault
       none_is = rw ((compounds.held found e).0, (keeping.held kept f).1)
 
@@ -101,19 +98,19 @@ module _ (found kept old : List ℕ) where
 -- ---- on the reader's own words
 
 -- an ECN report of a compound that fits its types
-report_typed : (r : MaybeReport) (f : MaybeFeedback) (s : MaybeSummary) → typed_report r ≡ true → typed_feedback f ≡ true → typed_summary s ≡ true
+report_typed : (r : Option ReportBlock) (f : Option Feedback) (s : Option Counts) → typed_report r ≡ true → typed_feedback f ≡ true → typed_summary s ≡ true
     → typed_kept (ecn_report_by f s r) ≡ true
-report_typed r (MaybeFeedback.Present f) s a b c = b
-report_typed (MaybeReport.Present r) MaybeFeedback.Absent (MaybeSummary.Present s) a b c =
+report_typed r (Some f) s a b c = b
+report_typed (Some r) None (Some s) a b c =
     rw (and_left (ltb r.highest (2 ^ 32)) true (and_right (ltb r.fraction (2 ^ 8)) _ a)) c
-report_typed MaybeReport.Absent MaybeFeedback.Absent (MaybeSummary.Present s) a b c = refl
-report_typed r MaybeFeedback.Absent MaybeSummary.Absent a b c = refl
+report_typed None None (Some s) a b c = refl
+report_typed r None None a b c = refl
 
-or_typed : (new earlier : MaybeKept) → typed_kept new ≡ true → typed_kept earlier ≡ true → typed_kept (or_earlier new earlier) ≡ true
-or_typed (MaybeKept.Present k) earlier a b = a
-or_typed MaybeKept.Absent earlier a b = b
+or_typed : (new earlier : Option Kept) → typed_kept new ≡ true → typed_kept earlier ≡ true → typed_kept (or_earlier new earlier) ≡ true
+or_typed (Some k) earlier a b = a
+or_typed None earlier a b = b
 
-kept_typed : (c : Compound) (earlier : MaybeKept) → Typed c → typed_kept earlier ≡ true → typed_kept (kept_after c earlier) ≡ true
+kept_typed : (c : Compound) (earlier : Option Kept) → Typed c → typed_kept earlier ≡ true → typed_kept (kept_after c earlier) ≡ true
 unfolding kept_after
 kept_typed c earlier t h = go c.reporting
   where
@@ -130,10 +127,10 @@ readers_call c earlier old r left out t k room w =
     let size = length-call (call_for c earlier).call in
     let same = same_call c earlier t in
     let back = keeping.held kept (kept_back earlier k) in
-    let fault : call_fault found kept ≡ none = rw (same.0, back.1) in
+    let fault : call_fault found kept ≡ None = rw (same.0, back.1) in
     let next : call_in found kept ≡ call_for c earlier = ap (call_for (compound_of found)) (sym back.2) ∙ same.1 in
-    let all : Wrote none new old (Length 6) (sets old 0 new) = wrote_all new old refl (omega (arith, size)) (sym size) refl in
-    let answer : written (call_fault found kept) (call_words (call_in found kept).call) old ≡ Length 6 =
+    let all : Wrote None new old (Ok 6) (sets old 0 new) = wrote_all new old refl (omega (arith, size)) (sym size) refl in
+    let answer : written (call_fault found kept) (call_words (call_in found kept).call) old ≡ Ok 6 =
     (λ i. written (fault i) (call_words (next i).call) old) ∙ sym all.answers in
     record {
       answers = w.answers ∙ ap refusal_code answer;

@@ -1,8 +1,8 @@
 -- A call for the SSRC of a place that a walk has told: the record there is the table's, and the next table has another one there. Assumes nothing.
+use Rattle.std.specs.Prelude.{Option, Some, None, Ok}
 use mathlib.Core.Path.{◌≡◌, refl, sym, ap, ◌∙◌}
 use mathlib.Core.Bool.{Bool, true, false, cond, not, ◌&&◌}
 use mathlib.Core.List.{List, [], ◌∷◌, ◌++◌}
-use mathlib.Core.Option.{Option, none, some}
 use Prim.Native.Nat.{ℕ, zero, suc, ◌+◌, ◌*◌, ◌^◌, ◌≤◌, ◌<◌, min}
 use native.Mathlib.Omega.{arith}
 use borrow.Author.Tests.{eq-eqb, ne_eqb, le-ltb, lt-ltb, ltb-true}
@@ -37,7 +37,6 @@ use Rattle.sources.proofs.Fronts.{front_is, front_rest, front_le}
 use Rattle.sources.proofs.Checking.{fault_none}
 use Rattle.sources.proofs.Putting.{found_sound, put_is}
 use Rattle.sources.proofs.Loaded.{few_lent}
-use Rattle.lent.specs.declared.table_words.Answer.TheVariants.{Taken}
 use Rattle.lent.specs.SourceWords.{remembered_in, source_with, source_of, source_near, source_words}
 use Rattle.lent.specs.TableWords.{place_words, table_words, place_of, whole_places, places_in, each_below, are_places, are_wires, words_fault, unfit, loaded}
 use Rattle.lent.proofs.PlaceRuns.{length-places_by}
@@ -95,7 +94,7 @@ rising_nth least (p ∷ ps) (suc at) r h =
     omega (arith, rising_first least p ps r, rising_nth (p.ssrc + 1) ps at (rising_rest least p ps r) (omega arith))
 
 record Nth (ps : List Place) (at : ℕ) : Type 0 where
-  found_is : found (get_or ps at empty_place).ssrc ps ≡ some (get_or ps at empty_place).source
+  found_is : found (get_or ps at empty_place).ssrc ps ≡ Some (get_or ps at empty_place).source
   stands : stands_at (get_or ps at empty_place).ssrc ps ≡ at
 
 nth : (least : ℕ) (ps : List Place) (at : ℕ) → rising least ps ≡ true → at < length ps → Nth ps at
@@ -119,13 +118,13 @@ record Clear (words : List ℕ) : Type 0 where
   wires : are_wires words ≡ true
   sounds : all_sound (places_in words) ≡ true
 
-clear : (words : List ℕ) → words_fault words ≡ none → Clear words
+clear : (words : List ℕ) → words_fault words ≡ None → Clear words
 unfolding words_fault
 clear words e = go (all (are_places words)) refl (all (rules (places_in words))) refl (are_wires words) refl (all_sound (places_in words)) refl e
   where
     go : (a : Bool) → all (are_places words) ≡ a → (b : Bool) → all (rules (places_in words)) ≡ b → (c : Bool) → are_wires words ≡ c
         → (d : Bool) → all_sound (places_in words) ≡ d
-        → cond (not a) (some Rules) (cond (not b) (some Rules) (cond (not (c && d)) (some Malformed) none)) ≡ none → Clear words
+        → cond (not a) (Some Rules) (cond (not b) (Some Rules) (cond (not (c && d)) (Some Malformed) None)) ≡ None → Clear words
     go true ra true rb true rc true rd e = record { places = ra; ruled = rb; wires = rc; sounds = rd }
     go true ra true rb true rc false rd e = let z : ◌≡◌ {A = ℕ} 0 1 = cc in absurd (omega arith)
     go true ra true rb false rc d rd e = let z : ◌≡◌ {A = ℕ} 0 1 = cc in absurd (omega arith)
@@ -136,9 +135,10 @@ clear words e = go (all (are_places words)) refl (all (rules (places_in words)))
 clear_words : (words : List ℕ) → Clear words → ((i : ℕ) → get_or words i 0 < 2 ^ 64) → table_words (places_in words) ≡ words
 unfolding loaded unfit
 clear_words words k bits =
-    let e : (loaded words).answer ≡ Taken = rw (k.places, k.wires) in
+    let t = table.loaded (places_in words) in
+    let e : loaded words ≡ Ok t = rw (k.places, k.wires) in
     let f = taken words e in
-    sym (ap table_words (ap table.lent f.table ∙ few_lent (places_in words) f.short)) ∙ table_words_back words bits e
+    sym (ap table_words (ap table.lent f.table ∙ few_lent (places_in words) f.short)) ∙ table_words_back words t bits e
 
 -- ---- the place that was told
 
@@ -167,10 +167,10 @@ module _ (words : List ℕ) (ssrc at : ℕ) (t : Told words ssrc at) where
   same : get_or hs at empty_place ≡ get_or ps at empty_place
   same = ap (λ (l : List Place). get_or l at empty_place) (front_is ps) ∙ get_or-take (length hs) ps at empty_place t.inside
 
-  is_found : found ssrc hs ≡ some (get_or ps at empty_place).source
+  is_found : found ssrc hs ≡ Some (get_or ps at empty_place).source
   is_found =
       let n = nth 0 hs at rises t.inside in
-      ap (λ (x : ℕ). found x hs) (sym (ap (λ (p : Place). p.ssrc) same ∙ t.named)) ∙ n.found_is ∙ ap (λ (p : Place). some p.source) same
+      ap (λ (x : ℕ). found x hs) (sym (ap (λ (p : Place). p.ssrc) same ∙ t.named)) ∙ n.found_is ∙ ap (λ (p : Place). Some p.source) same
 
   stands : stands_at ssrc hs ≡ at
   stands =
@@ -194,10 +194,10 @@ module _ (words : List ℕ) (ssrc at : ℕ) (t : Told words ssrc at) where
   pub told_sound : sound (record_of ssrc ps) ≡ true
   told_sound = found_sound ssrc hs (clear words t.taken).sounds
 
-  no_fault : fault ps ≡ none
+  no_fault : fault ps ≡ None
   no_fault = let k = clear words t.taken in fault_none ps k.ruled k.sounds
 
-  refusal_is : (outside : Bool) → refusal outside ssrc ps ≡ cond outside (some Limits) none
+  refusal_is : (outside : Bool) → refusal outside ssrc ps ≡ cond outside (Some Limits) None
   unfolding refusal
   refusal_is outside = rw (no_fault, not_new)
 
@@ -235,7 +235,7 @@ module _ (words : List ℕ) (ssrc at : ℕ) (t : Told words ssrc at) where
     unfolding table_arrived arrive_answer
     answer_is = rw (t.taken, refusal_is (ltb 3 mark)) (go (ltb 3 mark) refl)
       where
-        go : (b : Bool) → ltb 3 mark ≡ b → told_unless (cond b (some Limits) none) given ≡ told given
+        go : (b : Bool) → ltb 3 mark ≡ b → told_unless (cond b (Some Limits) None) given ≡ told given
         go true e = sym (ap told (limits e))
         go false e = refl
 
@@ -253,7 +253,7 @@ module _ (words : List ℕ) (ssrc at : ℕ) (t : Told words ssrc at) where
               let k = ap told (sym e ∙ limits m) in
               ap (arrived_words words (table_words (arrive_places ps ssrc w mark))) k ∙ sym (ap (arrived_words words (put_at words at next)) k)
           go false m =
-              let free : refusal (ltb 3 mark) ssrc ps ≡ none = refusal_is (ltb 3 mark) ∙ ap (λ (b : Bool). cond b (some Limits) none) m in
+              let free : refusal (ltb 3 mark) ssrc ps ≡ None = refusal_is (ltb 3 mark) ∙ ap (λ (b : Bool). cond b (Some Limits) None) m in
               let p : Place = record { ssrc = ssrc; source = after given } in
               let same : p ≡ next = λ i. record { ssrc = ssrc; source = after (e i) } in
               let kept_is : arrive_places ps ssrc w mark ≡ with_place p ps = ap (λ (f : Option Refusal). kept f ps (with_place p ps)) free in
@@ -285,7 +285,7 @@ module _ (words : List ℕ) (ssrc at : ℕ) (t : Told words ssrc at) where
     unfolding table_counted count_answer
     count_is = rw (t.taken, refusal_is (outside width records)) (go (outside width records) refl)
       where
-        go : (b : Bool) → outside width records ≡ b → block_unless (cond b (some Limits) none) (told_of counted) ≡ told_of counted
+        go : (b : Bool) → outside width records ≡ b → block_unless (cond b (Some Limits) None) (told_of counted) ≡ told_of counted
         go true e = sym (ap told_of (beyond e))
         go false e = refl
 
@@ -303,7 +303,7 @@ module _ (words : List ℕ) (ssrc at : ℕ) (t : Told words ssrc at) where
               let k = ap told_of (sym e ∙ beyond m) in
               ap (counted_words words (table_words (count_places ps ssrc width records))) k ∙ sym (ap (counted_words words (put_at words at left)) k)
           go false m =
-              let free : refusal (outside width records) ssrc ps ≡ none = refusal_is (outside width records) ∙ ap (λ (b : Bool). cond b (some Limits) none) m in
+              let free : refusal (outside width records) ssrc ps ≡ None = refusal_is (outside width records) ∙ ap (λ (b : Bool). cond b (Some Limits) None) m in
               let p : Place = record { ssrc = ssrc; source = behind counted } in
               let same : p ≡ left = λ i. record { ssrc = ssrc; source = behind (e i) } in
               let kept_is : count_places ps ssrc width records ≡ with_place p ps = ap (λ (f : Option Refusal). kept f ps (with_place p ps)) free in

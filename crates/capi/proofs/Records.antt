@@ -1,15 +1,14 @@
 -- A source's record in lent words, or refusal 9. Assumes nothing.
+use Rattle.std.specs.Prelude.{Option, Some, None, Result, Err}
+use Rattle.answers.specs.declared.Unwritten.{Unwritten}
 use mathlib.Core.Path.{◌≡◌, sym, ap, ◌∙◌}
 use mathlib.Core.List.{List}
-use mathlib.Core.Option.{Option}
 use Prim.Native.Nat.{ℕ, ◌+◌, ◌*◌}
 use borrow.Author.Tests.{ne_eqb}
 use lib.IntN.{pos, neg_ℤ}
 use lib.Seq.{sets}
 use Rattle.answers.specs.declared.Refusal.{Refusal}
 use Rattle.answers.specs.declared.Refusal.TheVariants as refusal
-use Rattle.answers.specs.declared.Written.{Written}
-use Rattle.answers.specs.declared.Written.TheVariants.{Refused as NotWritten}
 use Rattle.answers.specs.Refusals.{number_of}
 use Rattle.answers.specs.Writers.{Wrote}
 use Rattle.answers.proofs.Stores.{wrote_refused}
@@ -20,7 +19,6 @@ use Rattle.source.specs.declared.BlockCount.{BlockCount}
 use Rattle.source.specs.declared.BlockCount.TheVariants.{Counted, Refused as NotCounted}
 use Rattle.source.specs.Arrivals.{arrival}
 use Rattle.source.specs.Blocks.{block_count}
-use Rattle.lent.specs.declared.source_words.Loaded.TheVariants.{Held, Malformed}
 use Rattle.lent.specs.SourceWords.{source_of, loaded, source_words}
 use Rattle.lent.proofs.SourceLaws.{held, other}
 use Rattle.capi.proofs.Fronts.{sets-whole}
@@ -30,25 +28,25 @@ use Rattle.capi.specs.OneSource.{record_fault, arrive_answer, arrive_words, Coun
 
 module _ (words : List ℕ) (fault : Source → Option Refusal) (bytes : Source → List ℕ) (old : List ℕ) where
   -- the record is taken out of the words
-  pub held_wrote : {s : Source} {answer : Written} {out : List ℕ} → loaded words ≡ Held s → Wrote (fault s) (bytes s) old answer out
+  pub held_wrote : {s : Source} {answer : Result ℕ Unwritten} {out : List ℕ} → loaded words ≡ Some s → Wrote (fault s) (bytes s) old answer out
       → Wrote (record_fault words (fault (source_of words))) (bytes (source_of words)) old answer out
   unfolding record_fault
   held_wrote e w = let h = held words e in rw (h.1, ← h.2) w
 
   -- words that are no record's are refused
-  pub other_wrote : loaded words ≡ Malformed
-      → Wrote (record_fault words (fault (source_of words))) (bytes (source_of words)) old (NotWritten refusal.Malformed) old
+  pub other_wrote : loaded words ≡ None
+      → Wrote (record_fault words (fault (source_of words))) (bytes (source_of words)) old (Err (Unwritten.Refused refusal.Malformed)) old
   unfolding record_fault
   other_wrote e = wrote_refused (bytes (source_of words)) old (rw (other words e))
 
 -- ---- one arrival
 
 module _ (words : List ℕ) (wire mark : ℕ) where
-  pub arrives_other : loaded words ≡ Malformed → CountsArrival words wire mark 9 words
+  pub arrives_other : loaded words ≡ None → CountsArrival words wire mark 9 words
   unfolding arrive_answer arrive_words
   arrives_other e = let t = other words e in record { answers = rw t; stores = rw t }
 
-  module _ (s : Source) (e : loaded words ≡ Held s) where
+  module _ (s : Source) (e : loaded words ≡ Some s) where
     here : {a : Arrival} → arrival s (record { 0 = wire }) mark ≡ a → arrival (source_of words) (record { 0 = wire }) mark ≡ a
     here f = ap (λ (x : Source). arrival x (record { 0 = wire }) mark) (sym (held words e).2) ∙ f
 
@@ -79,11 +77,11 @@ module _ (words : List ℕ) (wire mark : ℕ) where
 -- ---- a block of arrivals
 
 module _ (words : List ℕ) (width : ℕ) (records : List ℕ) where
-  pub counts_other : loaded words ≡ Malformed → CountsBlock words width records (neg_ℤ (pos 9)) words
+  pub counts_other : loaded words ≡ None → CountsBlock words width records (neg_ℤ (pos 9)) words
   unfolding block_answer block_words
   counts_other e = let t = other words e in record { answers = rw t; stores = rw t }
 
-  module _ (s : Source) (e : loaded words ≡ Held s) where
+  module _ (s : Source) (e : loaded words ≡ Some s) where
     counted_here : {c : BlockCount} → block_count s width records ≡ c → block_count (source_of words) width records ≡ c
     counted_here f = ap (λ (x : Source). block_count x width records) (sym (held words e).2) ∙ f
 

@@ -1,6 +1,8 @@
 -- Laws of what the breaker's functions give and leave. Assumes nothing.
 use mathlib.Core.Path.{◌≡◌, refl, sym, ap, subst, ◌∙◌}
-use mathlib.Core.Bool.{true, false, not}
+use Rattle.std.specs.Prelude.{Option, Some, None}
+use mathlib.Core.Bool.{Bool, true, false, cond, not}
+use native.Mathlib.Omega.{arith}
 use mathlib.Core.List.{List}
 use Prim.Native.Nat.{ℕ}
 use borrow.Author.Tests.{eqb-true, eq-eqb, ne_eqb}
@@ -13,13 +15,30 @@ use Rattle.answers.proofs.Conditions.{cond_ends, cond_goes, and_left}
 use Rattle.breaker.specs.declared.Step.{Step}
 use Rattle.breaker.specs.declared.Answer.TheVariants.{Refused}
 use Rattle.breaker.specs.Runs.{Call, called}
+use Rattle.breaker.specs.declared.Breaker.{Breaker}
 use Rattle.lent.specs.BreakerWords.{breaker_words, breaker_of, words_fit}
 use Rattle.lent.proofs.Pairs.{length-breaker}
 use Rattle.capi.specs.Codes.{Leaves}
-use Rattle.capi.specs.BreakerCalls.{answer_code, is_refused, is_record, call_answer, left_by, call_left, TakesCall, start_answer, start_left, PutsStart}
+use Rattle.capi.specs.BreakerCalls.{record_in, answer_code, is_refused, is_record, call_answer, left_by, call_left, TakesCall, start_answer, start_left, PutsStart}
 use Rattle.capi.proofs.Fronts.{sets-whole}
 
 -- ---- a report, a tick and a heard packet
+
+-- what is loaded says whether there is one, and which
+module _ (old : List ℕ) where
+  pub no_record : record_in old ≡ None → is_record old ≡ false
+  no_record e = go (is_record old) e
+    where
+      go : (b : Bool) → cond b (Some (breaker_of old)) None ≡ None → b ≡ false
+      go false e = refl
+      go true e = cc
+
+  pub its_record : {b : Breaker} → record_in old ≡ Some b → (is_record old ≡ true) × (b ≡ breaker_of old)
+  its_record {b} e = go (is_record old) e
+    where
+      go : (t : Bool) → cond t (Some (breaker_of old)) None ≡ Some b → (t ≡ true) × (b ≡ breaker_of old)
+      go true e = (refl, cc)
+      go false e = let z : ◌≡◌ {A = ℕ} 0 1 = cc in absurd (omega arith)
 
 -- a record has 77 words
 pub record_sized : (old : List ℕ) → is_record old ≡ true → length old ≡ 77

@@ -1,8 +1,9 @@
 -- Calls on a table in lent words: from what the table's own calls say to what is said of the words. Assumes nothing.
+use Rattle.std.specs.Prelude.{Option, Some, None, Result, Ok, Err}
+use Rattle.answers.specs.declared.Unwritten.{Unwritten}
 use mathlib.Core.Path.{◌≡◌, refl, sym, ap, ap₂, ◌∙◌}
 use mathlib.Core.Bool.{Bool, true, false, cond, not, ◌&&◌}
 use mathlib.Core.List.{List}
-use mathlib.Core.Option.{Option, none, some}
 use Prim.Native.Nat.{ℕ, ◌≤◌}
 use native.Mathlib.Omega.{arith}
 use borrow.Author.Tests.{ltb-false}
@@ -12,8 +13,6 @@ use lib.ListN.{length, get_or}
 use lib.Seq.{sets}
 use Rattle.answers.specs.declared.Refusal.{Refusal}
 use Rattle.answers.specs.declared.Refusal.TheVariants.{Malformed, Rules}
-use Rattle.answers.specs.declared.Written.{Written}
-use Rattle.answers.specs.declared.Written.TheVariants.{Refused as NotWritten}
 use Rattle.answers.specs.Refusals.{number_of}
 use Rattle.answers.specs.Writers.{written, stored, size_in, Wrote}
 use Rattle.answers.specs.Conditions.{all}
@@ -40,7 +39,6 @@ use Rattle.sources.specs.Tables as table
 use Rattle.sources.proofs.Fronts.{front_le}
 use Rattle.sources.proofs.Compounding.{compound_long}
 use Rattle.sources.proofs.Loaded.{few_lent, few_fault, arrive_long, count_long, arrived_lent, arrived_back, counted_lent, counted_back, compound_back}
-use Rattle.lent.specs.declared.table_words.Answer.TheVariants.{Taken, Refused}
 use Rattle.lent.specs.TableWords.{place_words, table_words, places_in, are_places, are_wires, words_fault, loaded}
 use Rattle.lent.proofs.PlaceRuns.{length-table}
 use Rattle.lent.proofs.Taking.{Fit, taken, not_taken}
@@ -55,18 +53,18 @@ use Rattle.capi.proofs.Fronts.{sets-whole}
 
 module _ (words : List ℕ) where
   -- their refusals are no jump
-  no_jump : {r : Refusal} → words_fault words ≡ some r → eqb (number_of r) 7 ≡ false
+  no_jump : {r : Refusal} → words_fault words ≡ Some r → eqb (number_of r) 7 ≡ false
   unfolding words_fault
   no_jump {r} e = go (all (are_places words)) (all (rules (places_in words))) (are_wires words && all_sound (places_in words)) e
     where
-      go : (a b c : Bool) → cond (not a) (some Rules) (cond (not b) (some Rules) (cond (not c) (some Malformed) none)) ≡ some r → eqb (number_of r) 7 ≡ false
+      go : (a b c : Bool) → cond (not a) (Some Rules) (cond (not b) (Some Rules) (cond (not c) (Some Malformed) None)) ≡ Some r → eqb (number_of r) 7 ≡ false
       go false b c e = let k : Rules ≡ r = cc in ap (λ (x : Refusal). eqb (number_of x) 7) (sym k)
       go true false c e = let k : Rules ≡ r = cc in ap (λ (x : Refusal). eqb (number_of x) 7) (sym k)
       go true true false e = let k : Malformed ≡ r = cc in ap (λ (x : Refusal). eqb (number_of x) 7) (sym k)
       go true true true e = let z : ◌≡◌ {A = ℕ} 0 1 = cc in absurd (omega arith)
 
   -- as many places stored over them
-  stored_whole : Fit words → (t : Table) (qs : List Place) → table.lent t ≡ qs → length qs ≡ length (places_in words) → stored_over words t ≡ table_words qs
+  stored_whole : {u : Table} → Fit words u → (t : Table) (qs : List Place) → table.lent t ≡ qs → length qs ≡ length (places_in words) → stored_over words t ≡ table_words qs
   stored_whole f t qs e long =
       ap (λ (l : List Place). sets words 0 (table_words l)) e ∙ sets-whole words (table_words qs) (omega (arith, f.long, length-table qs, long))
 
@@ -80,22 +78,22 @@ arrived_own ps ssrc wire mark = go (fault ps) (arrival (record_of ssrc ps) wire 
   where
     go : (f : Option Refusal) (a : Arrival)
         → arrived_unless f (told_unless (or_else f (seatless (ltb 3 mark) ssrc ps)) a) ≡ told_unless (or_else f (seatless (ltb 3 mark) ssrc ps)) a
-    go (some r) a = refl
-    go none a = refl
+    go (Some r) a = refl
+    go None a = refl
 
 module _ (words : List ℕ) (ssrc wire mark : ℕ) where
-  pub arrives_refused : {r : Refusal} → (loaded words).answer ≡ Refused r → CountsTableArrival words ssrc wire mark (number_of r) words
+  pub arrives_refused : {r : Refusal} → loaded words ≡ Err r → CountsTableArrival words ssrc wire mark (number_of r) words
   unfolding table_arrived
   arrives_refused e = let f = not_taken words e in record { answers = rw f; stores = rw (f, no_jump words f) }
 
-  pub arrives_taken : {t : Table} {given : TableArrived} {r : ℕ} {out : List ℕ} → (loaded words).answer ≡ Taken → t ≡ (loaded words).table
+  pub arrives_taken : {t : Table} {given : TableArrived} {r : ℕ} {out : List ℕ} → loaded words ≡ Ok t
       → given ≡ table.arrived_in t ssrc (record { 0 = wire }) mark → LeavesArrived given words r out → CountsTableArrival words ssrc wire mark r out
   unfolding table_arrived
-  arrives_taken {t} {given} e et eg l =
+  arrives_taken {t} {given} e eg l =
       let f = taken words e in
       let w : Wire = record { 0 = wire } in
       let ps = places_in words in
-      let from = et ∙ f.table in
+      let from = f.table in
       let answer = (arrived_back ps ssrc w mark t given from eg).answer ∙ sym (arrived_own ps ssrc w mark)
       ∙ ap (λ (x : Option Refusal). arrived_unless x (arrive_answer ps ssrc w mark)) (sym f.faults) in
       let places = ap (λ (x : TableArrived). table.lent x.table) (eg ∙ ap (λ (x : Table). table.arrived_in x ssrc w mark) from)
@@ -113,8 +111,8 @@ counted_own ps ssrc width bytes = go (fault ps) (told_block (stands_at ssrc (hel
     go : (f : Option Refusal) (c : Counted)
         → counted_unless f (block_unless (or_else f (seatless (outside width bytes) ssrc ps)) c) ≡ block_unless
         (or_else f (seatless (outside width bytes) ssrc ps)) c
-    go (some r) c = refl
-    go none c = refl
+    go (Some r) c = refl
+    go None c = refl
 
 -- a block has at most 62 jumps, and as many restarts
 few_told : (ps : List Place) (ssrc width : ℕ) (bytes : List ℕ) → (jumps_in (count_answer ps ssrc width bytes) ≤ 62)
@@ -125,19 +123,19 @@ few_told ps ssrc width bytes = go (refusal (outside width bytes) ssrc ps) (block
     go : (f : Option Refusal) (b : BlockCount) → block_count (record_of ssrc ps) width bytes ≡ b
         → (jumps_in (block_unless f (told_block (stands_at ssrc (held_of ps)) (new_to ssrc ps) b)) ≤ 62)
         × (restarts_in (block_unless f (told_block (stands_at ssrc (held_of ps)) (new_to ssrc ps) b)) ≤ 62)
-    go (some r) b e = (omega arith, omega arith)
-    go none (block.Counted s jumps restarts) e = (few_jumps (record_of ssrc ps) width bytes e, few_restarts (record_of ssrc ps) width bytes e)
-    go none (block.Refused r s) e = (omega arith, omega arith)
+    go (Some r) b e = (omega arith, omega arith)
+    go None (block.Counted s jumps restarts) e = (few_jumps (record_of ssrc ps) width bytes e, few_restarts (record_of ssrc ps) width bytes e)
+    go None (block.Refused r s) e = (omega arith, omega arith)
 
 module _ (words : List ℕ) (ssrc width : ℕ) (records : List ℕ) where
-  pub counts_refused : {r : Refusal} → (loaded words).answer ≡ Refused r → CountsTableBlock words ssrc width records (neg_ℤ (pos (number_of r))) words
+  pub counts_refused : {r : Refusal} → loaded words ≡ Err r → CountsTableBlock words ssrc width records (neg_ℤ (pos (number_of r))) words
   unfolding table_counted
   counts_refused e = let f = not_taken words e in record { answers = rw f; stores = rw f }
 
-  module _ {t : Table} {given : TableCounted} (e : (loaded words).answer ≡ Taken) (et : t ≡ (loaded words).table)
+  module _ {t : Table} {given : TableCounted} (e : loaded words ≡ Ok t)
       (eg : given ≡ table.counted_in t ssrc width records) where
     told : given.answer ≡ count_answer (places_in words) ssrc width records
-    told = (counted_back (places_in words) ssrc width records t given (et ∙ (taken words e).table) eg).answer
+    told = (counted_back (places_in words) ssrc width records t given (taken words e).table eg).answer
 
     pub few_counted : (jumps_in given.answer ≤ 62) × (restarts_in given.answer ≤ 62)
     few_counted = rw told (few_told (places_in words) ssrc width records)
@@ -149,7 +147,7 @@ module _ (words : List ℕ) (ssrc width : ℕ) (records : List ℕ) where
         let ps = places_in words in
         let answer = told ∙ sym (counted_own ps ssrc width records)
         ∙ ap (λ (x : Option Refusal). counted_unless x (count_answer ps ssrc width records)) (sym f.faults) in
-        let places = ap (λ (x : TableCounted). table.lent x.table) (eg ∙ ap (λ (x : Table). table.counted_in x ssrc width records) (et ∙ f.table))
+        let places = ap (λ (x : TableCounted). table.lent x.table) (eg ∙ ap (λ (x : Table). table.counted_in x ssrc width records) f.table)
         ∙ counted_lent ps ssrc width records f.short in
         let next = stored_whole words f given.table (count_places ps ssrc width records) places (count_long ps ssrc width records) in
         record { answers = l.answers ∙ ap counted_code answer; stores = l.stores ∙ ap₂ (counted_words words) next answer }
@@ -157,16 +155,16 @@ module _ (words : List ℕ) (ssrc width : ℕ) (records : List ℕ) where
 -- ---- the compound
 
 module _ (words : List ℕ) (sender : ℕ) (old : List ℕ) where
-  pub compound_refused : {r : Refusal} → (loaded words).answer ≡ Refused r
-      → Wrote (words_fault words) (compound_bytes sender (places_in words)) old (NotWritten r) old
+  pub compound_refused : {r : Refusal} → loaded words ≡ Err r
+      → Wrote (words_fault words) (compound_bytes sender (places_in words)) old (Err (Unwritten.Refused r)) old
   compound_refused e = wrote_refused (compound_bytes sender (places_in words)) old (not_taken words e)
 
-  module _ {t : Table} {answer : Written} {out : List ℕ} (e : (loaded words).answer ≡ Taken) (et : t ≡ (loaded words).table)
+  module _ {t : Table} {answer : Result ℕ Unwritten} {out : List ℕ} (e : loaded words ≡ Ok t)
       (w : Wrote (table.fault_in t) (compound_bytes sender (table.lent t)) old answer out) where
     pub compound_wrote : Wrote (words_fault words) (compound_bytes sender (places_in words)) old answer out
     compound_wrote =
         let f = taken words e in
-        wrote_same (sym f.faults) refl (compound_back (places_in words) sender old t (et ∙ f.table) w)
+        wrote_same (sym f.faults) refl (compound_back (places_in words) sender old t f.table w)
 
     pub compound_size : size_in answer ≤ 520
     compound_size =
@@ -179,14 +177,14 @@ module _ (words : List ℕ) (sender : ℕ) (old : List ℕ) where
 -- ---- one place
 
 module _ (words : List ℕ) (place : ℕ) (old : List ℕ) where
-  pub place_refused : {r : Refusal} → (loaded words).answer ≡ Refused r → GivesPlace words place old (number_of r) old
+  pub place_refused : {r : Refusal} → loaded words ≡ Err r → GivesPlace words place old (number_of r) old
   place_refused e = gives refusal_code (wrote_refused _ old (ap (λ (x : Option Refusal). or_else x (unheld (places_in words) place)) (not_taken words e))) refl
 
-  pub place_taken : {t : Table} {r : ℕ} {out : List ℕ} → (loaded words).answer ≡ Taken → t ≡ (loaded words).table → GivesHeld t place old r out
+  pub place_taken : {t : Table} {r : ℕ} {out : List ℕ} → loaded words ≡ Ok t → GivesHeld t place old r out
       → GivesPlace words place old r out
-  place_taken {t} e et g =
+  place_taken {t} e g =
       let f = taken words e in
-      let from = et ∙ f.table in
+      let from = f.table in
       let faults : table.fault_in t ≡ words_fault words = ap (λ (x : Table). table.fault_in x) from ∙ few_fault (places_in words) f.short ∙ sym f.faults in
       let places : table.lent t ≡ places_in words = ap (λ (x : Table). table.lent x) from ∙ few_lent (places_in words) f.short in
       record {
@@ -198,13 +196,13 @@ module _ (words : List ℕ) (place : ℕ) (old : List ℕ) where
 -- ---- how many are held
 
 module _ (words : List ℕ) where
-  pub held_refused : {r : Refusal} → (loaded words).answer ≡ Refused r → TellsHeld words (neg_ℤ (pos (number_of r)))
+  pub held_refused : {r : Refusal} → loaded words ≡ Err r → TellsHeld words (neg_ℤ (pos (number_of r)))
   held_refused e = rw (not_taken words e)
 
-  pub held_taken : {t : Table} {r : ℤ} → (loaded words).answer ≡ Taken → t ≡ (loaded words).table → HeldIn t r → TellsHeld words r
-  held_taken {t} e et g =
+  pub held_taken : {t : Table} {r : ℤ} → loaded words ≡ Ok t → HeldIn t r → TellsHeld words r
+  held_taken {t} e g =
       let f = taken words e in
-      let from = et ∙ f.table in
+      let from = f.table in
       let faults : table.fault_in t ≡ words_fault words = ap (λ (x : Table). table.fault_in x) from ∙ few_fault (places_in words) f.short ∙ sym f.faults in
       let places : table.lent t ≡ places_in words = ap (λ (x : Table). table.lent x) from ∙ few_lent (places_in words) f.short in
       g ∙ (λ i. held_code (faults i) (length (held_of (places i))))

@@ -1,20 +1,16 @@
 -- What the functions of trace blocks and table rows give and leave (include/flasknib.h, "trace blocks and table rows").
-use Rattle.std.specs.Prelude.{ℕ, ◌+◌, ◌*◌, cond, List, [], ◌∷◌, ℤ, pos, neg_ℤ}
-use Rattle.std.proofs.Math.Option.{Option, none, some}
+use Rattle.answers.specs.declared.Unwritten.{Unwritten}
+use Rattle.trace.specs.declared.Record.{Record}
+use Rattle.std.specs.Prelude.{ℕ, ◌+◌, ◌*◌, cond, List, [], ◌∷◌, ℤ, pos, neg_ℤ, Option, Some, None, Result, Ok, Err}
 use Rattle.answers.specs.Refusals.{number_of, room_number}
 use Rattle.answers.specs.declared.Refusal.{Refusal}
 use Rattle.answers.specs.declared.Refusal.TheVariants.{Limits}
 use Rattle.format.specs.Forms.{shape_of}
 use Rattle.source.specs.declared.Totals.{Totals}
 use Rattle.trace.specs.declared.Block.{Block}
-use Rattle.trace.specs.declared.Block.TheVariants.{Label, Arrivals, Refused}
+use Rattle.trace.specs.declared.Block.TheVariants.{Label, Arrivals}
 use Rattle.trace.specs.Numbered.{later_as}
 use Rattle.trace.specs.Layout.{label_block, arrivals_block, records_block}
-use Rattle.trace.specs.declared.Found.{Found}
-use Rattle.trace.specs.declared.Found.TheVariants.{Is, Refused as Missing}
-use Rattle.trace.specs.declared.Later.{Later}
-use Rattle.trace.specs.declared.Spaced.{Spaced}
-use Rattle.trace.specs.declared.Spaced.TheVariants as spaced
 use Rattle.trace.specs.Reading.{block_of, found_at}
 use Rattle.trace.specs.Places.{zeroth_of, later_of}
 use Rattle.trace.specs.Rewriting.{zeroth_fault, block_spaced, replaced_in, spaced_by}
@@ -28,16 +24,16 @@ use Rattle.capi.specs.OneSource.{record_fault}
 -- ---- flasknib_read_block
 
 -- the block's refusal
-abbrev pub block_fault : Block → Option Refusal
-block_fault (Label form length ssrc) = none
-block_fault (Arrivals form count ssrc) = none
-block_fault (Refused refusal) = some refusal
+abbrev pub block_fault : Result Block Refusal → Option Refusal
+block_fault (Ok (Label form length ssrc)) = None
+block_fault (Ok (Arrivals form count ssrc)) = None
+block_fault (Err refusal) = Some refusal
 
 -- its kind, 1 to 4; the label's length or the number of records; the SSRC
-abbrev pub found_words : Block → List ℕ
-found_words (Label form length ssrc) = (shape_of form).label ∷ length ∷ ssrc ∷ []
-found_words (Arrivals form count ssrc) = (shape_of form).arrivals ∷ count ∷ ssrc ∷ []
-found_words (Refused refusal) = []
+abbrev pub found_words : Result Block Refusal → List ℕ
+found_words (Ok (Label form length ssrc)) = (shape_of form).label ∷ length ∷ ssrc ∷ []
+found_words (Ok (Arrivals form count ssrc)) = (shape_of form).arrivals ∷ count ∷ ssrc ∷ []
+found_words (Err refusal) = []
 
 -- "Trace file": 1, 13, 14, 12; or 0 and the three words
 abbrev pub ReadsBlock : List ℕ → List ℕ → ℕ → List ℕ → Type 0
@@ -50,7 +46,7 @@ ReadsBlock block old r found =
 -- ---- flasknib_read_own
 
 -- 0, or what a later block is refused with: the paper's number
-abbrev pub later_code : Later → ℕ
+abbrev pub later_code : Result ℕ Refusal → ℕ
 later_code answer = (later_as answer).number
 
 -- "Trace file", a later block, by the label's form and SSRC: 10 for another form than 1 or 2; 1, 13, 14; or 0
@@ -59,14 +55,14 @@ own_code form ssrc block = cond (is_form form) (later_code (later_of (form_of fo
 
 -- ---- flasknib_record_at
 
-abbrev pub found_fault : Found → Option Refusal
-found_fault (Is r) = none
-found_fault (Missing refusal) = some refusal
+abbrev pub found_fault : Result Record Refusal → Option Refusal
+found_fault (Ok r) = None
+found_fault (Err refusal) = Some refusal
 
 -- its time, its wire number and its mark
-abbrev pub record_words : Found → List ℕ
-record_words (Is r) = r.time ∷ r.number.0 ∷ r.mark ∷ []
-record_words (Missing refusal) = []
+abbrev pub record_words : Result Record Refusal → List ℕ
+record_words (Ok r) = r.time ∷ r.number.0 ∷ r.mark ∷ []
+record_words (Err refusal) = []
 
 -- "Trace file", the record i: 1, 14, 10, 12; or 0 and the three words
 abbrev pub FindsRecord : List ℕ → ℕ → List ℕ → ℕ → List ℕ → Type 0
@@ -80,7 +76,7 @@ FindsRecord block i old r found =
 
 -- 10 for another form than 1 or 2
 abbrev pub form_fault : ℕ → Option Refusal → Option Refusal
-form_fault number fault = cond (is_form number) fault (some Limits)
+form_fault number fault = cond (is_form number) fault (Some Limits)
 
 -- "Trace file", block 0 of a new label: 10, 19, 12; or the block's 512 bytes
 abbrev pub WritesLabel : ℕ → List ℕ → ℕ → List ℕ → ℤ → List ℕ → Type 0
@@ -109,15 +105,15 @@ WritesRecords form records ssrc old r out =
 -- ---- flasknib_space_label
 
 -- the number of bytes replaced, or minus the refusal; with 12 the bytes of the block, 256 times
-abbrev pub spaced_code : Spaced → ℤ
-spaced_code (spaced.Replaced number) = pos number
-spaced_code (spaced.Room size) = neg_ℤ (pos (256 * size + room_number))
-spaced_code (spaced.Refused refusal) = neg_ℤ (pos (number_of refusal))
+abbrev pub spaced_code : Result ℕ Unwritten → ℤ
+spaced_code (Ok number) = pos number
+spaced_code (Err (Unwritten.Room size)) = neg_ℤ (pos (256 * size + room_number))
+spaced_code (Err (Unwritten.Refused refusal)) = neg_ℤ (pos (number_of refusal))
 
-abbrev pub spaced_size : Spaced → ℕ
-spaced_size (spaced.Replaced number) = number
-spaced_size (spaced.Room size) = size
-spaced_size (spaced.Refused refusal) = 0
+abbrev pub spaced_size : Result ℕ Unwritten → ℕ
+spaced_size (Ok number) = number
+spaced_size (Err (Unwritten.Room size)) = size
+spaced_size (Err (Unwritten.Refused refusal)) = 0
 
 -- request L14, block 0 with its label spaced: 1, 13, 14, 12; or the number replaced, and the block's 512 bytes
 abbrev pub SpacesLabel : List ℕ → List ℕ → ℤ → List ℕ → Type 0
@@ -133,7 +129,7 @@ SpacesLabel zeroth old r out =
 abbrev pub WritesHead : List ℕ → ℤ → List ℕ → Type 0
 WritesHead old r out =
     Gives length_code
-    none
+    None
     head_bytes
     old r out
 
@@ -153,6 +149,6 @@ WritesRow label ssrc words jumped restarts old r out =
 abbrev pub WritesRefused : ℕ → ℕ → List ℕ → ℤ → List ℕ → Type 0
 WritesRefused number block old r out =
     Gives length_code
-    none
+    None
     (refused_line number block)
     old r out

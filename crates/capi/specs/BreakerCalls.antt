@@ -1,5 +1,5 @@
 -- What the breaker's functions give and leave (include/flasknib.h, "the circuit breaker"), by the words lent.
-use Rattle.std.specs.Prelude.{◌≡◌, ℕ, ◌+◌, Bool, true, false, ◌&&◌, not, cond, List, leb, eqb, ℤ, length}
+use Rattle.std.specs.Prelude.{◌≡◌, ℕ, ◌+◌, Bool, true, false, ◌&&◌, not, cond, List, leb, eqb, ℤ, length, Option, Some, None}
 use Rattle.answers.specs.declared.Refusal.TheVariants.{Malformed}
 use Rattle.answers.specs.Conditions.{all}
 use Rattle.answers.specs.Refusals.{number_of}
@@ -7,12 +7,12 @@ use Rattle.breaker.specs.declared.Answer.{Answer}
 use Rattle.breaker.specs.declared.Answer.TheVariants.{Go, Reduce, Stop, Refused}
 use Rattle.breaker.specs.declared.Loss.{Loss}
 use Rattle.breaker.specs.declared.Loss.TheVariants.{Counts}
+use Rattle.breaker.specs.declared.Breaker.{Breaker}
 use Rattle.breaker.specs.declared.Step.{Step}
 use Rattle.breaker.specs.Answers.{reason_number}
 use Rattle.breaker.specs.Calls.{unstarted, preset, start_of}
 use Rattle.breaker.specs.Runs.{Call, report, tick, heard, called}
 use Rattle.breaker.specs.Theorems.{number_fits}
-use Rattle.lent.specs.declared.breaker_words.Loaded.{Loaded}
 use Rattle.lent.specs.BreakerWords.{breaker_words, breaker_of, words_fit}
 use Rattle.capi.specs.Codes.{Leaves}
 
@@ -71,8 +71,8 @@ StartsPreset time old r out = PutsStart (start_of preset time) old r out
 abbrev pub is_record : List ℕ → Bool
 is_record old = eqb (length old) 77 && all (words_fit old)
 
-abbrev pub record_in : List ℕ → Loaded
-record_in old = record { ok = is_record old; breaker = breaker_of old }
+abbrev pub record_in : List ℕ → Option Breaker
+record_in old = cond (is_record old) (Some (breaker_of old)) None
 
 -- 9 where the words are no record, else the call's own answer
 unfoldable pub call_answer : Call → List ℕ → ℕ

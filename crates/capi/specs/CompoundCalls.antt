@@ -1,12 +1,11 @@
 -- What reading a compound, and the difference of two ECN reports, leave in the lent words (include/flasknib.h, "compound RTCP").
-use Rattle.std.specs.Prelude.{ℕ, not, cond, List, [], leb, eqb}
-use Rattle.std.proofs.Math.Option.{Option, none, some}
+use Rattle.rtcp.specs.declared.Compound.{Compound}
+use Rattle.breaker.specs.declared.EcnCounts.{EcnCounts}
+use Rattle.std.specs.Prelude.{ℕ, not, cond, List, [], leb, eqb, Option, Some, None, Result, Ok, Err}
 use Rattle.answers.specs.declared.Refusal.{Refusal}
 use Rattle.answers.specs.declared.Refusal.TheVariants.{Limits}
 use Rattle.rtcp.specs.declared.Profile.{Profile}
-use Rattle.rtcp.specs.declared.Reading.{Reading}
 use Rattle.rtcp.specs.Compound.{reading}
-use Rattle.between.specs.declared.Between.{Between}
 use Rattle.between.specs.declared.calls.Kept.{Kept}
 use Rattle.between.specs.PacketCalls.{since_kept}
 use Rattle.lent.specs.CompoundWords.{compound_words}
@@ -18,19 +17,19 @@ abbrev pub profile_of : ℕ → Profile
 profile_of n = cond (eqb n 1) Profile.ReducedSize Profile.Compound
 
 -- another profile than 0 and 1 is refused with 10, before all else
-unfoldable pub reading_by : ℕ → List ℕ → ℕ → Reading
+unfoldable pub reading_by : ℕ → List ℕ → ℕ → Result Compound Refusal
 reading_by profile bytes media =
-    cond (not (leb profile 1)) (Reading.Refused Limits)
+    cond (not (leb profile 1)) (Err Limits)
     (reading bytes media (profile_of profile))
 
 -- the reader's refusal
-abbrev pub reading_fault : Reading → Option Refusal
-reading_fault (Reading.Refused refusal) = some refusal
-reading_fault (Reading.Read c) = none
+abbrev pub reading_fault : Result Compound Refusal → Option Refusal
+reading_fault (Err refusal) = Some refusal
+reading_fault (Ok c) = None
 
-abbrev pub reading_words : Reading → List ℕ
-reading_words (Reading.Refused refusal) = []
-reading_words (Reading.Read c) = compound_words c
+abbrev pub reading_words : Result Compound Refusal → List ℕ
+reading_words (Err refusal) = []
+reading_words (Ok c) = compound_words c
 
 -- flasknib_read_compound ("Packets", the compound reader): 10 for the profile, 1 if empty, 10, then the first fault of the scan, 12; or 0 and 25
 -- words
@@ -44,16 +43,16 @@ ReadsCompound bytes media profile old r found =
 -- ---- flasknib_ecn_between
 
 -- the refusal, 10
-abbrev pub between_fault : Between → Option Refusal
-between_fault (Between.Refused refusal) = some refusal
-between_fault (Between.Counts c) = none
+abbrev pub between_fault : Result EcnCounts Refusal → Option Refusal
+between_fault (Err refusal) = Some refusal
+between_fault (Ok c) = None
 
-abbrev pub between_words : Between → List ℕ
-between_words (Between.Refused refusal) = []
-between_words (Between.Counts c) = ecn_words c
+abbrev pub between_words : Result EcnCounts Refusal → List ℕ
+between_words (Err refusal) = []
+between_words (Ok c) = ecn_words c
 
 -- what came between: 10, 12; or 0 and 3 words
-abbrev pub Tells : Between → List ℕ → ℕ → List ℕ → Type 0
+abbrev pub Tells : Result EcnCounts Refusal → List ℕ → ℕ → List ℕ → Type 0
 Tells b old r out =
     Gives refusal_code
     (between_fault b)

@@ -1,7 +1,6 @@
 -- Many calls of flasknib_feed on one upload, each on the words and the lent bytes that the one before left, and then flasknib_feed_close (include/flasknib.h,
 -- "a trace that arrives bit by bit"; document 02, request L7).
-use Rattle.std.specs.Prelude.{◌≡◌, List, [], ◌∷◌, ◌++◌, ℕ, suc, ◌^◌, ◌≤◌, ◌<◌, length, get_or, replicate}
-use Rattle.std.proofs.Math.Option.{Option, none, some}
+use Rattle.std.specs.Prelude.{◌≡◌, List, [], ◌∷◌, ◌++◌, ℕ, suc, ◌^◌, ◌≤◌, ◌<◌, length, get_or, replicate, Option, Some, None}
 use Rattle.answers.specs.Refusals.{number_of}
 use Rattle.table.specs.Lines.{head_bytes}
 use Rattle.walk.specs.Blocks.{blocks_of, joined}
@@ -42,17 +41,17 @@ closed_words h = words_by h.words (closed_of h.words h.lent)
 
 -- ---- however a trace is cut
 
--- the number of a run's refusal, 0 for none
+-- the number of a run's refusal, 0 for None
 abbrev pub end_number : Option Ending → ℕ
-end_number none = 0
-end_number (some e) = number_of e.refusal
+end_number None = 0
+end_number (Some e) = number_of e.refusal
 
 -- what was fed and then closed is the run in one go: the head line, the rows joined and the line of close's refusal are what ecntable prints; close's answer is
--- the refusal, 0 for none; its block is the word of the blocks; and the run in the words is that of the walk
+-- the refusal, 0 for None; its block is the word of the blocks; and the run in the words is that of the walk
 pub record WordsInOne (trace : List ℕ) (h : Holding) : Type 0 where
   pub prints : printed trace ≡ to_output (head_bytes ++ (h.rows ++ (closing (ending_in (closed_of h.words h.lent).answer)).out))
   pub answer : close_code (closed_of h.words h.lent).answer ≡ end_number (walked ecntable (blocks_of trace)).ended
-  pub block : (e : Ending) → (walked ecntable (blocks_of trace)).ended ≡ some e → get_or (closed_words h) 15 0 ≡ e.block
+  pub block : (e : Ending) → (walked ecntable (blocks_of trace)).ended ≡ Some e → get_or (closed_words h) 15 0 ≡ e.block
   pub run : (upload_of (closed_words h)).run ≡ (walked ecntable (blocks_of trace)).state.run
 
 -- from words that are all zero and fresh lent bytes, for a trace of at most 2^48 bytes and where each feed has room

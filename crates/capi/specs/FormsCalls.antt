@@ -1,13 +1,12 @@
 -- What the functions of the converter of forms answer, and what they leave in what they were lent (include/flasknib.h, "a trace in the other form").
-use Rattle.std.specs.Prelude.{ℕ, ◌≡◌, cond, List, eqb, ℤ, length}
-use Rattle.std.proofs.Math.Option.{Option, some}
+use Rattle.answers.specs.declared.Unwritten.{Unwritten}
+use Rattle.forms.specs.declared.Conversion.{Conversion}
+use Rattle.std.specs.Prelude.{ℕ, ◌≡◌, cond, List, eqb, ℤ, length, Option, Some, Result, Ok, Err}
 use Rattle.answers.specs.declared.Refusal.{Refusal}
 use Rattle.answers.specs.declared.Refusal.TheVariants.{Malformed}
-use Rattle.answers.specs.declared.Written.TheVariants as writer
 use Rattle.trace.specs.declared.Record.{Record}
+use Rattle.answers.specs.Writers.{size_in}
 use Rattle.walk.specs.Steps.{Next, refuses}
-use Rattle.forms.specs.declared.Begin.{Begin}
-use Rattle.forms.specs.declared.Begin.TheVariants as begin
 use Rattle.forms.specs.Conversions.{begin_of, begin_stored, call_next, bytes_in, carries, carried_by, after_of, close_fault, close_bytes}
 use Rattle.lent.specs.ConversionWords.{conversion_of, is_conversion, conversion_words}
 use Rattle.capi.specs.Codes.{length_code, Gives}
@@ -16,26 +15,23 @@ use Rattle.capi.specs.StepCalls.{Takes}
 -- ---- flasknib_forms_start
 
 -- another number of words than 3 is refused with 9, before everything else
-unfoldable pub begins : List ℕ → List ℕ → List ℕ → Begin
-begins words zeroth old = cond (eqb (length words) 3) (begin_of zeroth old) (begin.Refused Malformed)
+unfoldable pub begins : List ℕ → List ℕ → List ℕ → Result (Conversion × ℕ) Unwritten
+begins words zeroth old = cond (eqb (length words) 3) (begin_of zeroth old) (Err (Unwritten.Refused Malformed))
 
 -- the label block's length, or minus the refusal, as a writer's
-abbrev pub begin_code : Begin → ℤ
-begin_code (begin.Started c n) = length_code (writer.Length n)
-begin_code (begin.Room n) = length_code (writer.Room n)
-begin_code (begin.Refused refusal) = length_code (writer.Refused refusal)
+abbrev pub begin_code : Result (Conversion × ℕ) Unwritten → ℤ
+begin_code (Ok (c, n)) = length_code (Ok n)
+begin_code (Err why) = length_code (Err why)
 
 -- the words of the conversion; a refusal leaves the words as they were
-abbrev pub begin_words : List ℕ → Begin → List ℕ
-begin_words words (begin.Started c n) = conversion_words c
-begin_words words (begin.Room n) = words
-begin_words words (begin.Refused refusal) = words
+abbrev pub begin_words : List ℕ → Result (Conversion × ℕ) Unwritten → List ℕ
+begin_words words (Ok (c, n)) = conversion_words c
+begin_words words (Err why) = words
 
 -- the bytes of the block that was or would be written
-abbrev pub begin_size : Begin → ℕ
-begin_size (begin.Started c n) = n
-begin_size (begin.Room n) = n
-begin_size (begin.Refused refusal) = 0
+abbrev pub begin_size : Result (Conversion × ℕ) Unwritten → ℕ
+begin_size (Ok (c, n)) = n
+begin_size (Err why) = size_in (Err why)
 
 -- request L10, block 0: 9, 1, 13, 14, 12; or the label block in the other form, and the conversion
 pub record BeginsForms (words zeroth old : List ℕ) (r : ℤ) (left out : List ℕ) : Type 0 where
@@ -64,7 +60,7 @@ pub record TakesForms (words part block old : List ℕ) (r : ℤ) (left kept out
 
 -- 9 for words that are no conversion's, too
 unfoldable pub end_fault : List ℕ → List ℕ → Option Refusal
-end_fault words part = cond (is_conversion words) (close_fault (conversion_of words) part) (some Malformed)
+end_fault words part = cond (is_conversion words) (close_fault (conversion_of words) part) (Some Malformed)
 
 -- request L10, the end: 9, 12; or the block of the records that are held, nothing where there is none
 abbrev pub ClosesForms : List ℕ → List ℕ → List ℕ → ℤ → List ℕ → Type 0

@@ -1,6 +1,5 @@
 -- What the calls on one source's record answer, and what they leave in the lent words (include/flasknib.h, "one RTP source").
-use Rattle.std.specs.Prelude.{ℕ, ◌+◌, ◌*◌, cond, List, [], eqb, ℤ, pos, neg_ℤ}
-use Rattle.std.proofs.Math.Option.{Option, none, some}
+use Rattle.std.specs.Prelude.{ℕ, ◌+◌, ◌*◌, cond, List, [], eqb, ℤ, pos, neg_ℤ, Option, Some, None, Result, Ok, Err}
 use Rattle.answers.specs.declared.Refusal.{Refusal}
 use Rattle.answers.specs.declared.Refusal.TheVariants.{Malformed}
 use Rattle.answers.specs.Refusals.{number_of}
@@ -8,8 +7,6 @@ use Rattle.source.specs.declared.Arrival.{Arrival}
 use Rattle.source.specs.declared.Arrival.TheVariants.{Accepted, Restarted, Refused}
 use Rattle.source.specs.declared.BlockCount.{BlockCount}
 use Rattle.source.specs.declared.BlockCount.TheVariants.{Counted, Refused as NotCounted}
-use Rattle.source.specs.declared.Lost.{Lost}
-use Rattle.source.specs.declared.Lost.TheVariants.{Packets, Refused as NoLost}
 use Rattle.source.specs.Record.{lost_answer}
 use Rattle.source.specs.Arrivals.{arrival}
 use Rattle.source.specs.Blocks.{block_count}
@@ -20,7 +17,7 @@ use Rattle.capi.specs.Codes.{length_code, refusal_code, Gives, Leaves}
 
 -- words that are no record's are refused with 9, before the refusals of its values
 unfoldable pub record_fault : List ℕ → Option Refusal → Option Refusal
-record_fault words fault = cond (is_source words) fault (some Malformed)
+record_fault words fault = cond (is_source words) fault (Some Malformed)
 
 -- ---- flasknib_arrive
 
@@ -81,13 +78,13 @@ CountsBlock words width records r out =
 
 -- ---- flasknib_lost
 
-abbrev pub lost_fault : Lost → Option Refusal
-lost_fault (Packets lost) = none
-lost_fault (NoLost refusal) = some refusal
+abbrev pub lost_fault : Result ℤ Refusal → Option Refusal
+lost_fault (Ok lost) = None
+lost_fault (Err refusal) = Some refusal
 
-abbrev pub lost_found : Lost → List ℕ
-lost_found (Packets lost) = lost_words lost
-lost_found (NoLost refusal) = []
+abbrev pub lost_found : Result ℤ Refusal → List ℕ
+lost_found (Ok lost) = lost_words lost
+lost_found (Err refusal) = []
 
 -- "Counting arrivals", lost: 9, 12; or 0 and its word
 abbrev pub TellsLost : List ℕ → List ℕ → ℕ → List ℕ → Type 0
@@ -99,7 +96,7 @@ TellsLost words old r found =
 
 -- ---- flasknib_write_feedback, flasknib_write_summary
 
--- "Packets", ECN feedback: 9, 12; or its 32 bytes
+-- "Ok", ECN feedback: 9, 12; or its 32 bytes
 abbrev pub WritesFeedback : List ℕ → ℕ → ℕ → List ℕ → ℤ → List ℕ → Type 0
 WritesFeedback words sender media old r out =
     Gives length_code
@@ -107,7 +104,7 @@ WritesFeedback words sender media old r out =
     (feedback_bytes sender media (source_of words))
     old r out
 
--- "Packets", the ECN summary block: 9, 12; or its 24 bytes
+-- "Ok", the ECN summary block: 9, 12; or its 24 bytes
 abbrev pub WritesSummary : List ℕ → ℕ → List ℕ → ℤ → List ℕ → Type 0
 WritesSummary words media old r out =
     Gives length_code

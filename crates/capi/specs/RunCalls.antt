@@ -1,11 +1,10 @@
 -- What the functions of a run answer, and what they leave in what they were lent (include/flasknib.h, "a run of ecntable").
-use Rattle.std.specs.Prelude.{ℕ, cond, List, eqb, ℤ, length}
+use Rattle.answers.specs.declared.Refusal.{Refusal}
+use Rattle.std.specs.Prelude.{ℕ, cond, List, eqb, ℤ, length, Result, Ok, Err}
 use Rattle.answers.specs.declared.Refusal.TheVariants.{Malformed}
 use Rattle.answers.specs.Refusals.{number_of}
 use Rattle.walk.specs.Steps.{Next, refuses}
 use Rattle.convert.specs.declared.Run.{Run}
-use Rattle.convert.specs.declared.Begin.{Begin}
-use Rattle.convert.specs.declared.Begin.TheVariants as begin
 use Rattle.convert.specs.Runs.{start_of, call_next, row_in}
 use Rattle.lent.specs.RunWords.{run_of, is_run, run_words}
 use Rattle.capi.specs.Codes.{length_code, Leaves}
@@ -14,18 +13,18 @@ use Rattle.capi.specs.StepCalls.{Takes}
 -- ---- flasknib_run_start
 
 -- another number of words than 15 is refused with 9, before everything else
-unfoldable pub starts : List ℕ → List ℕ → Begin
-starts zeroth words = cond (eqb (length words) 15) (start_of zeroth) (begin.Refused Malformed)
+unfoldable pub starts : List ℕ → List ℕ → Result Run Refusal
+starts zeroth words = cond (eqb (length words) 15) (start_of zeroth) (Err Malformed)
 
 -- 0, or the refusal
-abbrev pub start_code : Begin → ℕ
-start_code (begin.Started run) = 0
-start_code (begin.Refused refusal) = number_of refusal
+abbrev pub start_code : Result Run Refusal → ℕ
+start_code (Ok run) = 0
+start_code (Err refusal) = number_of refusal
 
 -- the words of the run; a refusal leaves the words as they were
-abbrev pub start_words : List ℕ → Begin → List ℕ
-start_words words (begin.Started run) = run_words run
-start_words words (begin.Refused refusal) = words
+abbrev pub start_words : List ℕ → Result Run Refusal → List ℕ
+start_words words (Ok run) = run_words run
+start_words words (Err refusal) = words
 
 -- "Trace file", block 0: 9, 1, 13, 14; or 0 and the run's 15 words
 abbrev pub StartsRun : List ℕ → List ℕ → ℕ → List ℕ → Type 0

@@ -1,10 +1,9 @@
 -- What the functions of a run of ecnstreams answer, and what they leave in what they were lent (include/flasknib.h, "a run of ecnstreams"). `words` are those
 -- of the run, `ws` those of the lines.
-use Rattle.std.specs.Prelude.{ℕ, cond, List, [], eqb, ℤ, length}
-use Rattle.std.proofs.Math.Option.{Option}
+use Rattle.answers.specs.declared.Unwritten.{Unwritten}
+use Rattle.std.specs.Prelude.{ℕ, cond, List, [], eqb, ℤ, length, Option, Err}
 use Rattle.answers.specs.declared.Refusal.{Refusal}
 use Rattle.answers.specs.declared.Refusal.TheVariants.{Malformed}
-use Rattle.answers.specs.declared.Written.TheVariants.{Refused}
 use Rattle.walk.specs.Steps.{Next}
 use Rattle.sources.specs.declared.runs.Run.{Run}
 use Rattle.sources.specs.declared.runs.Step.{Step}
@@ -19,7 +18,7 @@ use Rattle.capi.specs.StepCalls.{words_after, Takes}
 
 -- another number of words than 3 is refused with 9, before everything else
 unfoldable pub started : List ℕ → List ℕ → Step
-started words zeroth = cond (eqb (length words) 3) (start_of zeroth) (record { answer = Refused Malformed; run = no_run })
+started words zeroth = cond (eqb (length words) 3) (start_of zeroth) (record { answer = Err (Unwritten.Refused Malformed); run = no_run })
 
 -- request L1, block 0: 9, 1, 13, 14; or 0 and the run's 3 words
 abbrev pub StartsStreams : List ℕ → List ℕ → ℕ → List ℕ → Type 0

@@ -1,6 +1,5 @@
 -- What one walk over the words of a table tells: the place of an SSRC, in a table that neither 16 nor 9 refuses.
-use Rattle.std.specs.Prelude.{◌≡◌, true, List, ◌++◌, ℕ, ◌+◌, ◌*◌, ◌^◌, ◌≤◌, ◌<◌, length, get_or, take, drop}
-use Rattle.std.proofs.Math.Option.{none}
+use Rattle.std.specs.Prelude.{◌≡◌, true, List, ◌++◌, ℕ, ◌+◌, ◌*◌, ◌^◌, ◌≤◌, ◌<◌, length, get_or, take, drop, None}
 use Rattle.source.specs.Places.{places}
 use Rattle.source.specs.Record.{has_counted}
 use Rattle.sources.specs.declared.Place.{Place}
@@ -35,7 +34,7 @@ AllZero words = (i : ℕ) → get_or words i 0 ≡ 0
 -- the place `at` is held and has the SSRC, and the table is not refused; the words have 64 bits
 pub record Told (words : List ℕ) (ssrc at : ℕ) : Type 0 where
   pub bits : (i : ℕ) → get_or words i 0 < 2 ^ 64
-  pub taken : words_fault words ≡ none
+  pub taken : words_fault words ≡ None
   pub inside : at < length (held_of (places_in words))
   pub named : (get_or (places_in words) at empty_place).ssrc ≡ ssrc
 

@@ -1,6 +1,5 @@
 -- What the calls on a table of several sources answer, and what they leave in the lent words (include/flasknib.h, "several RTP sources in one table").
-use Rattle.std.specs.Prelude.{◌≡◌, ℕ, ◌+◌, ◌*◌, cond, List, eqb, ltb, ℤ, pos, neg_ℤ, length, get_or}
-use Rattle.std.proofs.Math.Option.{Option, none, some}
+use Rattle.std.specs.Prelude.{◌≡◌, ℕ, ◌+◌, ◌*◌, cond, List, eqb, ltb, ℤ, pos, neg_ℤ, length, get_or, Option, Some, None}
 use Rattle.answers.specs.declared.Refusal.{Refusal}
 use Rattle.answers.specs.declared.Refusal.TheVariants.{Limits}
 use Rattle.answers.specs.Refusals.{number_of}
@@ -19,8 +18,8 @@ use Rattle.capi.specs.Codes.{length_code, refusal_code, Gives, Leaves}
 
 -- the refusals of the words come before the table's own
 abbrev pub arrived_unless : Option Refusal → Arrived → Arrived
-arrived_unless (some refusal) answer = Refused refusal
-arrived_unless none answer = answer
+arrived_unless (Some refusal) answer = Refused refusal
+arrived_unless None answer = answer
 
 unfoldable pub table_arrived : List ℕ → ℕ → ℕ → ℕ → Arrived
 table_arrived words ssrc wire mark = arrived_unless (words_fault words) (arrive_answer (places_in words) ssrc (record { 0 = wire }) mark)
@@ -48,8 +47,8 @@ CountsTableArrival words ssrc wire mark r out =
 -- ---- flasknib_sources_count_block
 
 abbrev pub counted_unless : Option Refusal → Counted → Counted
-counted_unless (some refusal) answer = NotCounted refusal
-counted_unless none answer = answer
+counted_unless (Some refusal) answer = NotCounted refusal
+counted_unless None answer = answer
 
 unfoldable pub table_counted : List ℕ → ℕ → ℕ → List ℕ → Counted
 table_counted words ssrc width records = counted_unless (words_fault words) (count_answer (places_in words) ssrc width records)
@@ -86,7 +85,7 @@ WritesTableCompound words sender old r out =
 
 -- 10 for a place that is not one of the held ones in front
 abbrev pub unheld : List Place → ℕ → Option Refusal
-unheld ps place = cond (ltb place (length (held_of ps))) none (some Limits)
+unheld ps place = cond (ltb place (length (held_of ps))) None (Some Limits)
 
 -- 16, 9, 10, 12; or 0 and the 11 words of the place
 abbrev pub GivesPlace : List ℕ → ℕ → List ℕ → ℕ → List ℕ → Type 0
@@ -100,8 +99,8 @@ GivesPlace words place old r found =
 
 -- how many, or minus the refusal
 abbrev pub held_code : Option Refusal → ℕ → ℤ
-held_code (some refusal) n = neg_ℤ (pos (number_of refusal))
-held_code none n = pos n
+held_code (Some refusal) n = neg_ℤ (pos (number_of refusal))
+held_code None n = pos n
 
 -- 16, 9; or how many places are held, all in front
 abbrev pub TellsHeld : List ℕ → ℤ → Type 0

@@ -4,8 +4,6 @@ ghost use Rattle.capi.specs.AttributeCalls.{ReadsAttribute, WritesAttribute};
 use crate::codes;
 use answers::{ROOM, Refusal};
 use lent::attribute_words;
-use lent::attribute_words::Answer;
-use sdp::Verdict;
 use sdp::reader::read;
 use sdp::writer::write;
 
@@ -13,12 +11,9 @@ use sdp::writer::write;
 pub fn flasknib_read_attribute(line: &[u8], found: &mut [u64]) -> u8
     ensures { ReadsAttribute line.now found.old result found.new }
 {
-    let reading = read(line);
-    let attribute = reading.attribute;
-    let verdict = reading.verdict;
-    match verdict {
-        Verdict::Refused(refusal) => refusal.number(),
-        Verdict::Read => {
+    match read(line) {
+        Err(refusal) => refusal.number(),
+        Ok(attribute) => {
             if found.len() < attribute_words::WORDS {
                 return ROOM;
             }
@@ -33,11 +28,8 @@ pub fn flasknib_read_attribute(line: &[u8], found: &mut [u64]) -> u8
 pub fn flasknib_write_attribute(attribute: &[u64], out: &mut [u8]) -> i64
     ensures { WritesAttribute attribute.now out.old result out.new }
 {
-    let loaded = attribute_words::load(attribute);
-    let given = loaded.attribute;
-    let held = loaded.answer;
-    match held {
-        Answer::Malformed => codes::minus(Refusal::Malformed),
-        Answer::Held => codes::length(write(given, out)),
+    match attribute_words::load(attribute) {
+        None => codes::minus(Refusal::Malformed),
+        Some(given) => codes::length(write(given, out)),
     }
 }

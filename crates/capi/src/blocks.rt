@@ -1,21 +1,20 @@
 // One block of a trace.
 ghost use Rattle.std.specs.Prelude.{◌≡◌, [], ◌∷◌, ◌^◌, ◌<◌};
-ghost use Rattle.std.proofs.Math.Option.{none};
 ghost use Rattle.capi.specs.Codes.{refusal_code, Gives};
 ghost use Rattle.capi.specs.Blocks.{ReadsBlock, own_code, FindsRecord, WritesLabel, spaced_size, spaced_code, SpacesLabel, WritesArrivals, WritesRecords};
 
 use crate::codes;
-use answers::{ROOM, Refusal, Written};
+use answers::{ROOM, Refusal, Unwritten};
 use lent::form_words::{form_of, is_form};
+use trace::Block;
 use trace::places::read_own;
 use trace::read::{read_block, record_at};
 use trace::rewrite::space_label;
 use trace::write::{write_arrivals, write_label, write_records};
-use trace::{Block, Found, Later, Spaced};
 
 // Stores three words at the front of found. Gives 0, or refusal 12.
 fn put_found(x: u64, y: u64, z: u64, found: &mut [u64]) -> u8
-    ensures { Gives refusal_code none (x ∷ y ∷ z ∷ []) found.old result found.new }
+    ensures { Gives refusal_code None (x ∷ y ∷ z ∷ []) found.old result found.new }
 {
     if found.len() < 3 {
         return ROOM;
@@ -31,13 +30,13 @@ pub fn flasknib_read_block(block: &[u8], found: &mut [u64]) -> u8
     ensures { ReadsBlock block.now found.old result found.new }
 {
     match read_block(block) {
-        Block::Label { form, length, ssrc } => {
+        Ok(Block::Label { form, length, ssrc }) => {
             put_found(form.label() as u64, length as u64, ssrc as u64, found)
         }
-        Block::Arrivals { form, count, ssrc } => {
+        Ok(Block::Arrivals { form, count, ssrc }) => {
             put_found(form.arrivals() as u64, count as u64, ssrc as u64, found)
         }
-        Block::Refused(refusal) => refusal.number(),
+        Err(refusal) => refusal.number(),
     }
 }
 
@@ -49,8 +48,8 @@ pub fn flasknib_read_own(form: u8, ssrc: u32, block: &[u8]) -> u8
         return Refusal::Limits.number();
     }
     match read_own(form_of(form as u64), ssrc, block) {
-        Later::Arrivals { count: _ } => 0,
-        Later::Refused(refusal) => refusal.number(),
+        Ok(_) => 0,
+        Err(refusal) => refusal.number(),
     }
 }
 
@@ -59,11 +58,11 @@ pub fn flasknib_record_at(block: &[u8], i: usize, found: &mut [u64]) -> u8
     ensures { FindsRecord block.now i found.old result found.new }
 {
     match record_at(block, i) {
-        Found::Is(record) => {
+        Ok(record) => {
             let number = record.number;
             put_found(record.time, number.0 as u64, record.mark as u64, found)
         }
-        Found::Refused(refusal) => refusal.number(),
+        Err(refusal) => refusal.number(),
     }
 }
 
@@ -72,20 +71,19 @@ pub fn flasknib_write_label(form: u8, label: &[u8], ssrc: u32, out: &mut [u8]) -
     ensures { WritesLabel form label.now ssrc out.old result out.new }
 {
     if !is_form(form as u64) {
-        return codes::length(Written::Refused(Refusal::Limits));
+        return codes::length(Err(Unwritten::Refused(Refusal::Limits)));
     }
     codes::length(write_label(form_of(form as u64), label, ssrc, out))
 }
 
 // The number of bytes replaced, or minus the refusal's number, and with 12 the size.
-fn replaced(answer: Spaced) -> i64
+fn replaced(answer: Result<usize, Unwritten>) -> i64
     requires { spaced_size answer < 2 ^ 54 }
     ensures { result ≡ spaced_code answer }
 {
     match answer {
-        Spaced::Replaced(number) => codes::length(Written::Length(number)),
-        Spaced::Room(size) => codes::length(Written::Room(size)),
-        Spaced::Refused(refusal) => codes::minus(refusal),
+        Ok(number) => codes::length(Ok(number)),
+        Err(why) => codes::unwritten(why),
     }
 }
 
@@ -108,7 +106,7 @@ pub fn flasknib_write_arrivals(
     ensures { WritesArrivals form times.now numbers.now marks.now ssrc out.old result out.new }
 {
     if !is_form(form as u64) {
-        return codes::length(Written::Refused(Refusal::Limits));
+        return codes::length(Err(Unwritten::Refused(Refusal::Limits)));
     }
     codes::length(write_arrivals(form_of(form as u64), times, numbers, marks, ssrc, out))
 }
@@ -118,7 +116,7 @@ pub fn flasknib_write_records(form: u8, records: &[u8], ssrc: u32, out: &mut [u8
     ensures { WritesRecords form records.now ssrc out.old result out.new }
 {
     if !is_form(form as u64) {
-        return codes::length(Written::Refused(Refusal::Limits));
+        return codes::length(Err(Unwritten::Refused(Refusal::Limits)));
     }
     codes::length(write_records(form_of(form as u64), records, ssrc, out))
 }

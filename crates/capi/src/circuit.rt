@@ -2,13 +2,12 @@
 ghost use Rattle.std.specs.Prelude.{◌≡◌, length};
 ghost use Rattle.capi.specs.Codes.{Leaves};
 ghost use Rattle.breaker.specs.declared.Loss.TheVariants.{Fraction};
-ghost use Rattle.capi.specs.BreakerCalls.{answer_code, is_refused, record_in, left_by, PutsStart, StartsBreaker};
+ghost use Rattle.capi.specs.BreakerCalls.{answer_code, is_refused, left_by, PutsStart, StartsBreaker, record_in};
 ghost use Rattle.capi.specs.BreakerCalls.{StartsPreset, counts_given, TakesReport, TakesTick, TakesHeard};
 
 use answers::Refusal;
 use breaker::{Answer, Breaker, EcnCounts, Loss, Report, Settings, Step};
 use lent::breaker_words;
-use lent::breaker_words::Loaded;
 
 // What a call answers, added to the reason or the refusal.
 const STOP: u16 = 256;
@@ -31,24 +30,17 @@ fn code(answer: Answer) -> u16
 fn is_refused(answer: Answer) -> bool
     ensures { result ≡ is_refused answer }
 {
-    match answer {
-        Answer::Go => false,
-        Answer::Reduce => false,
-        Answer::Stop(_) => false,
-        Answer::Refused(_) => true,
-    }
+    matches!(answer, Answer::Refused(_))
 }
 
-// The record that the words are read as, and whether they are one: 77 words that fit.
-fn record_in(words: &[u64]) -> Loaded
+// The record in 77 words that fit.
+fn record_in(words: &[u64]) -> Option<Breaker>
     ensures { result ≡ record_in words.now }
 {
-    let given = breaker_words::load(words);
     if words.len() != breaker_words::WORDS {
-        let breaker = given.breaker;
-        return Loaded { ok: false, breaker };
+        return None;
     }
-    given
+    breaker_words::load(words)
 }
 
 // Stores the next record in the place of the last, unless the call is refused, and gives the answer's number.
@@ -56,13 +48,11 @@ fn put_back(step: Step, words: &mut [u64]) -> u16
     requires { length words.old ≡ 77 }
     ensures { Leaves (answer_code step.answer) (left_by step words.old) result words.new }
 {
-    let answer = step.answer;
-    let next = step.breaker;
-    if is_refused(answer) {
-        return code(answer);
+    if is_refused(step.answer) {
+        return code(step.answer);
     }
-    breaker_words::store(next, words);
-    code(answer)
+    breaker_words::store(step.breaker, words);
+    code(step.answer)
 }
 
 // Starts a breaker: Go and the record in the 77 words of `breaker`, or refusal 9 for another number of words, or 10.
@@ -126,11 +116,9 @@ fn take_report(
 ) -> u16
     ensures { TakesReport breaker.old time highest loss rtt size rate result breaker.new }
 {
-    let given = record_in(breaker);
-    if !given.ok {
+    let Some(b) = record_in(breaker) else {
         return code(Answer::Refused(Refusal::Malformed));
-    }
-    let b = given.breaker;
+    };
     let report = Report {
         time,
         highest,
@@ -185,11 +173,9 @@ pub fn flasknib_breaker_report_ecn(
 pub fn flasknib_breaker_tick(breaker: &mut [u64], time: u64) -> u16
     ensures { TakesTick breaker.old time result breaker.new }
 {
-    let given = record_in(breaker);
-    if !given.ok {
+    let Some(b) = record_in(breaker) else {
         return code(Answer::Refused(Refusal::Malformed));
-    }
-    let b = given.breaker;
+    };
     put_back(b.tick(time), breaker)
 }
 
@@ -197,10 +183,8 @@ pub fn flasknib_breaker_tick(breaker: &mut [u64], time: u64) -> u16
 pub fn flasknib_breaker_heard(breaker: &mut [u64], time: u64) -> u16
     ensures { TakesHeard breaker.old time result breaker.new }
 {
-    let given = record_in(breaker);
-    if !given.ok {
+    let Some(b) = record_in(breaker) else {
         return code(Answer::Refused(Refusal::Malformed));
-    }
-    let b = given.breaker;
+    };
     put_back(b.heard(time), breaker)
 }

@@ -4,7 +4,7 @@ ghost use Rattle.answers.specs.Refusals.{number_of};
 ghost use Rattle.answers.specs.Writers.{size_in};
 ghost use Rattle.capi.specs.Codes.{length_code};
 
-use answers::{ROOM, Refusal, Written};
+use answers::{ROOM, Refusal, Unwritten};
 
 // The refusal that leaves a record of its own: a jump.
 pub const JUMP: u8 = 7;
@@ -33,15 +33,25 @@ pub fn minus(refusal: Refusal) -> i64
 // What a size is multiplied with, so that a refusal's number stands beside it.
 const SIZES: u64 = 256;
 
+// Why a writer wrote nothing: minus the refusal's number, and with 12 the size.
+pub fn unwritten(why: Unwritten) -> i64
+    requires { size_in (Err why) < 2 ^ 54 }
+    ensures { result ≡ length_code (Err why) }
+{
+    match why {
+        Unwritten::Room(n) => negative(SIZES * n as u64 + ROOM as u64),
+        Unwritten::Refused(refusal) => minus(refusal),
+    }
+}
+
 // The length that a writer answers, or minus its refusal's number, and with 12 the size.
-pub fn length(answer: Written) -> i64
+pub fn length(answer: Result<usize, Unwritten>) -> i64
     requires { size_in answer < 2 ^ 54 }
     ensures { result ≡ length_code answer }
 {
     match answer {
-        Written::Length(n) => n as i64,
-        Written::Room(n) => negative(SIZES * n as u64 + ROOM as u64),
-        Written::Refused(refusal) => minus(refusal),
+        Ok(n) => n as i64,
+        Err(why) => unwritten(why),
     }
 }
 

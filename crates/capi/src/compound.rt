@@ -4,7 +4,7 @@ ghost use Rattle.capi.specs.CompoundCalls.{profile_of, reading_by, ReadsCompound
 
 use answers::{ROOM, Refusal};
 use lent::compound_words;
-use rtcp::{Profile, Reading};
+use rtcp::{Compound, Profile};
 
 // The profile of 1, or of 0.
 fn profile_of(number: u8) -> Profile
@@ -17,11 +17,11 @@ fn profile_of(number: u8) -> Profile
 }
 
 // What the compound in `bytes` says of the source `media`; a profile above 1 is refused with 10.
-fn read_by(bytes: &[u8], media: u32, profile: u8) -> Reading
+fn read_by(bytes: &[u8], media: u32, profile: u8) -> Result<Compound, Refusal>
     ensures { result ≡ reading_by profile bytes.now media }
 {
     if 1 < profile {
-        return Reading::Refused(Refusal::Limits);
+        return Err(Refusal::Limits);
     }
     rtcp::read_compound(bytes, media, profile_of(profile))
 }
@@ -32,8 +32,8 @@ pub fn flasknib_read_compound(bytes: &[u8], media: u32, profile: u8, found: &mut
     ensures { ReadsCompound bytes.now media profile found.old result found.new }
 {
     match read_by(bytes, media, profile) {
-        Reading::Refused(refusal) => refusal.number(),
-        Reading::Read(c) => {
+        Err(refusal) => refusal.number(),
+        Ok(c) => {
             if found.len() < compound_words::WORDS {
                 return ROOM;
             }

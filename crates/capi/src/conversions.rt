@@ -7,23 +7,21 @@ ghost use Rattle.capi.specs.StepCalls.{words_after};
 ghost use Rattle.lent.specs.ConversionWords.{conversion_words};
 
 use crate::codes;
-use answers::{Refusal, Written};
-use forms::{Begin, Conversion, Step};
+use answers::{Refusal, Unwritten};
+use forms::{Conversion, Step};
 use lent::conversion_words;
-use lent::conversion_words::Loaded;
 
 // Stores the words of a conversion that began, and gives the answer's number.
-fn put_begun(begin: Begin, words: &mut [u64]) -> i64
+fn put_begun(begin: Result<(Conversion, usize), Unwritten>, words: &mut [u64]) -> i64
     requires { (length words.old ≡ 3) × (begin_size begin < 2 ^ 54) }
     ensures { Leaves (begin_code begin) (begin_words words.old begin) result words.new }
 {
     match begin {
-        Begin::Started(first, n) => {
+        Ok((first, n)) => {
             conversion_words::store(first, words);
-            codes::length(Written::Length(n))
+            codes::length(Ok(n))
         }
-        Begin::Room(n) => codes::length(Written::Room(n)),
-        Begin::Refused(refusal) => codes::minus(refusal),
+        Err(why) => codes::unwritten(why),
     }
 }
 
@@ -45,11 +43,11 @@ fn put_back(step: Step, words: &mut [u64]) -> i64
     let answer = step.answer;
     let next = step.conversion;
     match answer {
-        Written::Length(_) => {
+        Ok(_) => {
             conversion_words::store(next, words);
             codes::length(answer)
         }
-        _ => codes::length(answer),
+        Err(_) => codes::length(answer),
     }
 }
 
@@ -58,7 +56,7 @@ fn put_back(step: Step, words: &mut [u64]) -> i64
 pub fn flasknib_forms_block(words: &mut [u64], part: &mut [u8], block: &[u8], out: &mut [u8]) -> i64
     ensures { TakesForms words.old part.old block.now out.old result words.new part.new out.new }
 {
-    let Loaded::Held(given) = conversion_words::load(words) else {
+    let Some(given) = conversion_words::load(words) else {
         return codes::minus(Refusal::Malformed);
     };
     put_back(given.block(part, block, out), words)
@@ -68,7 +66,7 @@ pub fn flasknib_forms_block(words: &mut [u64], part: &mut [u8], block: &[u8], ou
 pub fn flasknib_forms_close(words: &[u64], part: &[u8], out: &mut [u8]) -> i64
     ensures { ClosesForms words.now part.now out.old result out.new }
 {
-    let Loaded::Held(given) = conversion_words::load(words) else {
+    let Some(given) = conversion_words::load(words) else {
         return codes::minus(Refusal::Malformed);
     };
     codes::length(given.close(part, out))

@@ -2,7 +2,7 @@
 ghost use Rattle.capi.specs.CompoundCalls.{TellsBetween};
 
 use answers::ROOM;
-use between::{Between, Kept};
+use between::Kept;
 use lent::ecn_words;
 
 // What came between two ECN reports, the later and the earlier one. Gives 0 and 3 words at the front of `counts`, or refusal 10, or 12 where
@@ -29,8 +29,8 @@ pub fn flasknib_ecn_between(
         lost: earlier_lost,
     };
     match later.since(earlier) {
-        Between::Refused(refusal) => refusal.number(),
-        Between::Counts(c) => {
+        Err(refusal) => refusal.number(),
+        Ok(c) => {
             if counts.len() < ecn_words::WORDS {
                 return ROOM;
             }

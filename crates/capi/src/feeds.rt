@@ -5,10 +5,9 @@ ghost use Rattle.capi.specs.Feeds.{feed_code, feed_size, close_code, FeedsWords,
 ghost use Rattle.lent.specs.FeedWords.{feed_words};
 
 use crate::codes;
-use answers::{ROOM, Refusal, Written};
+use answers::{ROOM, Refusal, Unwritten};
 use convert::feeds::{Fed, FeedAnswer};
 use lent::feed_words;
-use lent::feed_words::Loaded;
 
 // The number of a feed's answer.
 fn feed_code(answer: FeedAnswer) -> i64
@@ -16,8 +15,8 @@ fn feed_code(answer: FeedAnswer) -> i64
     ensures { result ≡ feed_code answer }
 {
     match answer {
-        FeedAnswer::Length(n) => codes::length(Written::Length(n)),
-        FeedAnswer::Room(n) => codes::length(Written::Room(n)),
+        FeedAnswer::Length(n) => codes::length(Ok(n)),
+        FeedAnswer::Room(n) => codes::length(Err(Unwritten::Room(n))),
         FeedAnswer::Refused(refusal) => codes::minus(refusal),
         FeedAnswer::Faulty {
             refusal,
@@ -70,7 +69,7 @@ fn put_closed(fed: Fed, words: &mut [u64]) -> u8
 pub fn flasknib_feed(upload: &mut [u64], kept: &mut [u8], stretch: &[u8], out: &mut [u8]) -> i64
     ensures { FeedsWords upload.old kept.old stretch.now out.old result upload.new kept.new out.new }
 {
-    let Loaded::Held(given) = feed_words::load(upload) else {
+    let Some(given) = feed_words::load(upload) else {
         return codes::minus(Refusal::Malformed);
     };
     put_fed(given.feed(kept, stretch, out), upload)
@@ -80,7 +79,7 @@ pub fn flasknib_feed(upload: &mut [u64], kept: &mut [u8], stretch: &[u8], out: &
 pub fn flasknib_feed_close(upload: &mut [u64], kept: &[u8]) -> u8
     ensures { ClosesWords upload.old kept.now result upload.new }
 {
-    let Loaded::Held(given) = feed_words::load(upload) else {
+    let Some(given) = feed_words::load(upload) else {
         return Refusal::Malformed.number();
     };
     put_closed(given.close(kept), upload)

@@ -3,27 +3,28 @@ ghost use Rattle.capi.specs.AttributeCalls.{Tells, AnswersOffer};
 
 use answers::{ROOM, Refusal};
 use lent::attribute_words;
-use lent::attribute_words::Answer;
-use sdp::Negotiated;
+use sdp::Chosen;
 use sdp::answerer::answer;
 
 // What flasknib_answer gives where the attribute is left out of the answer. It is no refusal.
 const LEFT_OUT: u8 = 129;
 
 // Stores what is answered.
-fn put_negotiated(told: Negotiated, found: &mut [u64]) -> u8
+fn put_negotiated(told: Result<Option<Chosen>, Refusal>, found: &mut [u64]) -> u8
     ensures { Tells told found.old result found.new }
 {
     match told {
-        Negotiated::Refused(refusal) => refusal.number(),
-        Negotiated::LeftOut => LEFT_OUT,
-        Negotiated::Included(chosen) => {
-            if found.len() < attribute_words::WORDS {
-                return ROOM;
+        Err(refusal) => refusal.number(),
+        Ok(included) => match included {
+            None => LEFT_OUT,
+            Some(chosen) => {
+                if found.len() < attribute_words::WORDS {
+                    return ROOM;
+                }
+                attribute_words::store(chosen.attribute(), found);
+                0
             }
-            attribute_words::store(chosen.attribute(), found);
-            0
-        }
+        },
     }
 }
 
@@ -32,19 +33,11 @@ fn put_negotiated(told: Negotiated, found: &mut [u64]) -> u8
 pub fn flasknib_answer(offer: &[u64], ours: &[u64], found: &mut [u64]) -> u8
     ensures { AnswersOffer offer.now ours.now found.old result found.new }
 {
-    let theirs = attribute_words::load(offer);
-    let own = attribute_words::load(ours);
-    let offered = theirs.attribute;
-    let able = own.attribute;
-    let is_offer = theirs.answer;
-    let is_ours = own.answer;
-    match is_offer {
-        Answer::Malformed => return Refusal::Malformed.number(),
-        Answer::Held => {}
+    let Some(offered) = attribute_words::load(offer) else {
+        return Refusal::Malformed.number();
+    };
+    match attribute_words::load(ours) {
+        None => Refusal::Malformed.number(),
+        Some(able) => put_negotiated(answer(offered, able), found),
     }
-    match is_ours {
-        Answer::Malformed => return Refusal::Malformed.number(),
-        Answer::Held => {}
-    }
-    put_negotiated(answer(offered, able), found)
 }

@@ -6,7 +6,7 @@ use crate::codes::{JUMP, RESTARTED, RESTARTS};
 use answers::Refusal;
 use engine::count_block;
 use format::Wire;
-use lent::source_words::{Loaded, load, store};
+use lent::source_words::{load, store};
 use report::{write_feedback, write_summary};
 use source::{Arrival, BlockCount};
 
@@ -14,7 +14,7 @@ use source::{Arrival, BlockCount};
 pub fn flasknib_arrive(words: &mut [u64], wire: u16, mark: u8) -> u8
     ensures { CountsArrival words.old wire mark result words.new }
 {
-    let Loaded::Held(source) = load(words) else {
+    let Some(source) = load(words) else {
         return 9;
     };
     match source.arrive(Wire(wire), mark) {
@@ -41,7 +41,7 @@ pub fn flasknib_arrive(words: &mut [u64], wire: u16, mark: u8) -> u8
 pub fn flasknib_count_block(words: &mut [u64], records: &[u8], width: usize) -> i64
     ensures { CountsBlock words.old width records.now result words.new }
 {
-    let Loaded::Held(source) = load(words) else {
+    let Some(source) = load(words) else {
         return codes::minus(Refusal::Malformed);
     };
     match count_block(source, records, width) {
@@ -57,7 +57,7 @@ pub fn flasknib_count_block(words: &mut [u64], records: &[u8], width: usize) -> 
 pub fn flasknib_write_feedback(words: &[u64], sender: u32, media: u32, out: &mut [u8]) -> i64
     ensures { WritesFeedback words.now sender media out.old result out.new }
 {
-    let Loaded::Held(source) = load(words) else {
+    let Some(source) = load(words) else {
         return codes::minus(Refusal::Malformed);
     };
     codes::length(write_feedback(source, sender, media, out))
@@ -67,7 +67,7 @@ pub fn flasknib_write_feedback(words: &[u64], sender: u32, media: u32, out: &mut
 pub fn flasknib_write_summary(words: &[u64], media: u32, out: &mut [u8]) -> i64
     ensures { WritesSummary words.now media out.old result out.new }
 {
-    let Loaded::Held(source) = load(words) else {
+    let Some(source) = load(words) else {
         return codes::minus(Refusal::Malformed);
     };
     codes::length(write_summary(source, media, out))

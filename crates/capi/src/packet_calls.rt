@@ -10,10 +10,10 @@ use lent::{call_words, compound_words, kept_words};
 pub fn flasknib_breaker_call(found: &[u64], kept: &mut [u64], call: &mut [u64]) -> u8
     ensures { CallsFor found.now kept.old call.old result kept.new call.new }
 {
-    let compound_words::Loaded::Held(packet) = compound_words::load(found) else {
+    let Some(packet) = compound_words::load(found) else {
         return Refusal::Malformed.number();
     };
-    let kept_words::Loaded::Held(earlier) = kept_words::load(kept) else {
+    let Some(earlier) = kept_words::load(kept) else {
         return Refusal::Malformed.number();
     };
     if call.len() < call_words::WORDS {

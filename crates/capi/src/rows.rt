@@ -3,7 +3,7 @@ ghost use Rattle.capi.specs.Blocks.{WritesHead, WritesRow, WritesRefused};
 
 use crate::codes;
 use answers::Refusal;
-use lent::source_words::{Loaded, load};
+use lent::source_words::load;
 use source::Totals;
 use table::{write_head, write_refused, write_row};
 
@@ -25,7 +25,7 @@ pub fn flasknib_write_row(
 ) -> i64
     ensures { WritesRow label.now ssrc words.now jumped restarts out.old result out.new }
 {
-    let Loaded::Held(source) = load(words) else {
+    let Some(source) = load(words) else {
         return codes::minus(Refusal::Malformed);
     };
     let totals = Totals {

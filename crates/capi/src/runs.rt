@@ -7,10 +7,9 @@ ghost use Rattle.capi.specs.StepCalls.{words_after};
 ghost use Rattle.lent.specs.RunWords.{run_words};
 
 use crate::codes;
-use answers::{Refusal, Written};
-use convert::{Begin, Run, Step};
+use answers::Refusal;
+use convert::{Run, Step};
 use lent::run_words;
-use lent::run_words::Loaded;
 
 // Takes block 0. Gives 0 and the run in the 15 words of `run`, or refusal 9 for another number of words, or 1, 13 or 14.
 pub fn flasknib_run_start(zeroth: &[u8], run: &mut [u64]) -> u8
@@ -20,11 +19,11 @@ pub fn flasknib_run_start(zeroth: &[u8], run: &mut [u64]) -> u8
         return Refusal::Malformed.number();
     }
     match Run::start(zeroth) {
-        Begin::Started(first) => {
+        Ok(first) => {
             run_words::store(first, run);
             0
         }
-        Begin::Refused(refusal) => refusal.number(),
+        Err(refusal) => refusal.number(),
     }
 }
 
@@ -36,11 +35,11 @@ fn put_back(step: Step, run: &mut [u64]) -> i64
     let answer = step.answer;
     let next = step.run;
     match answer {
-        Written::Length(_) => {
+        Ok(_) => {
             run_words::store(next, run);
             codes::length(answer)
         }
-        _ => codes::length(answer),
+        Err(_) => codes::length(answer),
     }
 }
 
@@ -48,7 +47,7 @@ fn put_back(step: Step, run: &mut [u64]) -> i64
 pub fn flasknib_run_block(run: &mut [u64], zeroth: &[u8], block: &[u8], out: &mut [u8]) -> i64
     ensures { TakesBlock run.old zeroth.now block.now out.old result run.new out.new }
 {
-    let Loaded::Held(given) = run_words::load(run) else {
+    let Some(given) = run_words::load(run) else {
         return codes::minus(Refusal::Malformed);
     };
     put_back(given.block(zeroth, block, out), run)

@@ -6,8 +6,8 @@ ghost use Rattle.capi.specs.StepCalls.{words_after};
 ghost use Rattle.capi.specs.StreamsCalls.{StartsStreams, TakesStreams, WritesStreams};
 
 use crate::codes;
-use answers::{ROOM, Refusal, Written};
-use lent::stream_words::{Answer, WORDS, load, store, store_lines};
+use answers::{Refusal, written_number};
+use lent::stream_words::{WORDS, load, store, store_lines};
 use sources::runs::{Run, Step};
 
 // Stores the words of the next run, unless the call is refused, and gives the answer's number.
@@ -15,26 +15,18 @@ fn put_run(step: Step, run: &mut [u64]) -> u8
     requires { length run.old ≡ 3 }
     ensures { Leaves (refusal_code step.answer) (words_after run.old (run_words step.run) step.answer) result run.new }
 {
-    let answer = step.answer;
-    let next = step.run;
-    match answer {
-        Written::Length(_) => {
-            store(next, run);
-            0
-        }
-        Written::Room(_) => ROOM,
-        Written::Refused(refusal) => refusal.number(),
+    if let Ok(_) = step.answer {
+        store(step.run, run);
     }
+    written_number(step.answer)
 }
 
 // Stores its lines.
 fn put_lines(step: Step, lines: &mut [u64])
     ensures { lines.new ≡ words_after lines.old (stored_lines lines.old step.run) step.answer }
 {
-    let answer = step.answer;
-    let next = step.run;
-    if let Written::Length(_) = answer {
-        store_lines(next, lines);
+    if let Ok(_) = step.answer {
+        store_lines(step.run, lines);
     }
 }
 
@@ -53,12 +45,9 @@ pub fn flasknib_streams_start(zeroth: &[u8], run: &mut [u64]) -> u8
 pub fn flasknib_streams_block(run: &mut [u64], lines: &mut [u64], block: &[u8]) -> u8
     ensures { TakesStreams run.old lines.old block.now result run.new lines.new }
 {
-    let loaded = load(run, lines);
-    let answer = loaded.answer;
-    match answer {
-        Answer::Refused(refusal) => refusal.number(),
-        Answer::Taken => {
-            let given = loaded.run;
+    match load(run, lines) {
+        Err(refusal) => refusal.number(),
+        Ok(given) => {
             let step = given.block(block);
             put_lines(step, lines);
             put_run(step, run)
@@ -76,13 +65,8 @@ pub fn flasknib_streams_row(
 ) -> i64
     ensures { WritesStreams run.now i lines.now zeroth.now out.old result out.new }
 {
-    let loaded = load(run, lines);
-    let answer = loaded.answer;
-    match answer {
-        Answer::Refused(refusal) => codes::minus(refusal),
-        Answer::Taken => {
-            let given = loaded.run;
-            codes::length(given.row(i, zeroth, out))
-        }
+    match load(run, lines) {
+        Err(refusal) => codes::minus(refusal),
+        Ok(given) => codes::length(given.row(i, zeroth, out)),
     }
 }

@@ -115,12 +115,10 @@ fn is_fine(words: &[u64], least: u64) -> bool
 fn are_zero(words: &[u64], from: usize) -> bool
     ensures { result ≡ true → AllZero (drop from words.now) }
 {
-    let mut i = from;
-    while i < words.len() {
+    for i in from..words.len() {
         if 0 < words[i] {
             return false;
         }
-        i += 1;
     }
     true
 }
@@ -152,8 +150,7 @@ fn walk(words: &[u64], n: usize, ssrc: u32) -> usize
 {
     let mut least: u64 = 0;
     let mut at: usize = UNTOLD;
-    let mut i: usize = 0;
-    while i < n {
+    for i in 0..n {
         let from = WORDS * i;
         if !is_fine(&words[from..], least) {
             return ended(words, from, at);
@@ -161,7 +158,6 @@ fn walk(words: &[u64], n: usize, ssrc: u32) -> usize
         let here = words[from];
         at = chosen(here, ssrc, i, at);
         least = here + 1;
-        i += 1;
     }
     at
 }

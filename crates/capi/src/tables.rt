@@ -9,8 +9,8 @@ use crate::place_calls::{arrive_at, count_at};
 use crate::table_walk::{UNTOLD, place_of};
 use answers::ROOM;
 use format::Wire;
-use lent::table_words::{Answer, WORDS, load, store, store_place};
-use sources::{Arrived, Checked, Counted, Table, TableArrived, TableCounted};
+use lent::table_words::{WORDS, load, store, store_place};
+use sources::{Arrived, Counted, Table, TableArrived, TableCounted};
 
 // The refusal of a place that is not held.
 const LIMITS: u8 = 10;
@@ -19,21 +19,19 @@ const LIMITS: u8 = 10;
 fn put_arrived(given: TableArrived, words: &mut [u64]) -> u8
     ensures { LeavesArrived given words.old result words.new }
 {
-    let answer = given.answer;
-    let next = given.table;
-    match answer {
+    match given.answer {
         Arrived::Accepted => {
-            store(next, words);
+            store(given.table, words);
             0
         }
         Arrived::Restarted => {
-            store(next, words);
+            store(given.table, words);
             RESTARTED
         }
         Arrived::Refused(refusal) => {
             let number = refusal.number();
             if number == JUMP {
-                store(next, words);
+                store(given.table, words);
                 return JUMP;
             }
             number
@@ -45,15 +43,9 @@ fn put_arrived(given: TableArrived, words: &mut [u64]) -> u8
 fn arrive_in(words: &mut [u64], ssrc: u32, wire: u16, mark: u8) -> u8
     ensures { CountsTableArrival words.old ssrc wire mark result words.new }
 {
-    let loaded = load(words);
-    let answer = loaded.answer;
-    match answer {
-        Answer::Refused(refusal) => refusal.number(),
-        Answer::Taken => {
-            let t = loaded.table;
-            let given = t.arrive(ssrc, Wire(wire), mark);
-            put_arrived(given, words)
-        }
+    match load(words) {
+        Err(refusal) => refusal.number(),
+        Ok(t) => put_arrived(t.arrive(ssrc, Wire(wire), mark), words),
     }
 }
 
@@ -73,11 +65,9 @@ fn put_counted(given: TableCounted, words: &mut [u64]) -> i64
     requires { (jumps_in given.answer ≤ 62) × (restarts_in given.answer ≤ 62) }
     ensures { LeavesCounted given words.old result words.new }
 {
-    let answer = given.answer;
-    let next = given.table;
-    match answer {
+    match given.answer {
         Counted::Block(_, jumps, restarts) => {
-            store(next, words);
+            store(given.table, words);
             (RESTARTS * restarts + jumps) as i64
         }
         Counted::Refused(refusal) => codes::minus(refusal),
@@ -88,15 +78,9 @@ fn put_counted(given: TableCounted, words: &mut [u64]) -> i64
 fn count_in(words: &mut [u64], ssrc: u32, records: &[u8], width: usize) -> i64
     ensures { CountsTableBlock words.old ssrc width records.now result words.new }
 {
-    let loaded = load(words);
-    let answer = loaded.answer;
-    match answer {
-        Answer::Refused(refusal) => codes::minus(refusal),
-        Answer::Taken => {
-            let t = loaded.table;
-            let given = t.count_block(ssrc, records, width);
-            put_counted(given, words)
-        }
+    match load(words) {
+        Err(refusal) => codes::minus(refusal),
+        Ok(t) => put_counted(t.count_block(ssrc, records, width), words),
     }
 }
 
@@ -120,14 +104,9 @@ pub fn flasknib_sources_count_block(
 pub fn flasknib_sources_write_compound(words: &[u64], sender: u32, out: &mut [u8]) -> i64
     ensures { WritesTableCompound words.now sender out.old result out.new }
 {
-    let loaded = load(words);
-    let answer = loaded.answer;
-    match answer {
-        Answer::Refused(refusal) => codes::minus(refusal),
-        Answer::Taken => {
-            let t = loaded.table;
-            codes::length(t.write_compound(sender, out))
-        }
+    match load(words) {
+        Err(refusal) => codes::minus(refusal),
+        Ok(t) => codes::length(t.write_compound(sender, out)),
     }
 }
 
@@ -136,16 +115,15 @@ fn put_held(t: Table, place: usize, found: &mut [u64]) -> u8
     ensures { GivesHeld t place found.old result found.new }
 {
     match t.check() {
-        Checked::Refused(refusal) => refusal.number(),
-        Checked::Held(n) => {
+        Err(refusal) => refusal.number(),
+        Ok(n) => {
             if n <= place {
                 return LIMITS;
             }
             if found.len() < WORDS {
                 return ROOM;
             }
-            let p = t.places[place];
-            store_place(p, found);
+            store_place(t.places[place], found);
             0
         }
     }
@@ -155,14 +133,9 @@ fn put_held(t: Table, place: usize, found: &mut [u64]) -> u8
 pub fn flasknib_sources_place(words: &[u64], place: usize, found: &mut [u64]) -> u8
     ensures { GivesPlace words.now place found.old result found.new }
 {
-    let loaded = load(words);
-    let answer = loaded.answer;
-    match answer {
-        Answer::Refused(refusal) => refusal.number(),
-        Answer::Taken => {
-            let t = loaded.table;
-            put_held(t, place, found)
-        }
+    match load(words) {
+        Err(refusal) => refusal.number(),
+        Ok(t) => put_held(t, place, found),
     }
 }
 
@@ -171,8 +144,8 @@ fn held_in(t: Table) -> i64
     ensures { HeldIn t result }
 {
     match t.check() {
-        Checked::Refused(refusal) => codes::minus(refusal),
-        Checked::Held(n) => n as i64,
+        Err(refusal) => codes::minus(refusal),
+        Ok(n) => n as i64,
     }
 }
 
@@ -180,13 +153,8 @@ fn held_in(t: Table) -> i64
 pub fn flasknib_sources_held(words: &[u64]) -> i64
     ensures { TellsHeld words.now result }
 {
-    let loaded = load(words);
-    let answer = loaded.answer;
-    match answer {
-        Answer::Refused(refusal) => codes::minus(refusal),
-        Answer::Taken => {
-            let t = loaded.table;
-            held_in(t)
-        }
+    match load(words) {
+        Err(refusal) => codes::minus(refusal),
+        Ok(t) => held_in(t),
     }
 }

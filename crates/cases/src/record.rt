@@ -4,7 +4,7 @@
 //   a number mark                                                          the record after an arrival
 use crate::{letter, number, number8, number16, signed};
 use format::Wire;
-use source::{Arrival, Extended, History, Remembered, Source};
+use source::{Arrival, Extended, History, Source};
 
 // The arrival of a line.
 pub fn arrival(s: Source, line: &[u8]) -> Arrival {
@@ -21,11 +21,11 @@ fn kept(answer: Arrival) -> Source {
 }
 
 // What a word says is remembered.
-fn remembered(word: u64) -> Remembered {
+fn remembered(word: u64) -> Option<Wire> {
     if word == 0 {
-        return Remembered::Nothing;
+        return None;
     }
-    Remembered::Number(Wire(((word - 1) % 65536) as u16))
+    Some(Wire(((word - 1) % 65536) as u16))
 }
 
 // The record with the fields of a line.

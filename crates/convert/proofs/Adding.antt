@@ -1,7 +1,7 @@
 -- The lent bytes and the upload after a pass over the blocks that a feed completes. Assumes nothing.
+use Rattle.std.specs.Prelude.{Option, Some, None, Result, Ok, Err}
 use mathlib.Core.Path.{◌≡◌, refl, sym, ap, ◌∙◌}
 use mathlib.Core.List.{List, [], ◌∷◌}
-use mathlib.Core.Option.{Option, none, some}
 use Prim.Native.Nat.{ℕ, zero, suc, ◌+◌, ◌-◌, ◌*◌, ◌/◌, ◌≤◌, ◌<◌}
 use native.Mathlib.Omega.{arith}
 use borrow.Author.Tests.{lt-ltb, le-ltb}
@@ -13,15 +13,9 @@ use Rattle.format.specs.Blocks.{block_bytes}
 use Rattle.walk.specs.Steps.{Next, goes, refuses}
 use Rattle.walk.specs.Pieces.{wholes, whole_in}
 use Rattle.walk.specs.Fitting.{Took, one_more, front}
-use Rattle.walk.specs.Endings.{refusal_in, ended_by}
-use Rattle.walk.specs.declared.Ended.{Ended}
-use Rattle.walk.specs.declared.Ended.TheVariants.{Going, Refused}
 use Rattle.walk.proofs.Fits.{front_few}
 use Rattle.walk.proofs.Pieces.{whole_many, wholes_fit, wholes_small}
-use Rattle.walk.proofs.Standing.{ended_again}
 use Rattle.convert.specs.declared.Run.{Run}
-use Rattle.convert.specs.declared.Begin.{Begin}
-use Rattle.convert.specs.declared.Begin.TheVariants as begin
 use Rattle.convert.specs.declared.feeds.Upload.{Upload}
 use Rattle.convert.specs.declared.feeds.FeedAnswer.TheVariants as answer
 use Rattle.convert.specs.declared.feeds.Fed.{Fed}
@@ -51,8 +45,8 @@ through_zeroth i (b ∷ bs) k =
     go t.refusal (through ecntable (suc i) bs t.state) (through_zeroth (suc i) bs t.state)
   where
     go : (o : Option Refusal) (w : Took Kept) → w.state.zeroth ≡ (ecntable.step i k b).state.zeroth → (one_more (ecntable.step i k b) o w).state.zeroth ≡ k.zeroth
-    go none w e = e ∙ turn_zeroth i k b
-    go (some refusal) w e = turn_zeroth i k b
+    go None w e = e ∙ turn_zeroth i k b
+    go (Some refusal) w e = turn_zeroth i k b
 
 -- where it is stored
 module _ (lent : List ℕ) where
@@ -82,8 +76,8 @@ module _ (lent : List ℕ) (h : lent_bytes ≤ length lent) (left : List ℕ) (s
       stored_there lent h left short ∙ ap (λ (z : List ℕ). lent_of z left lent) (sym z)
   settles_by zero run bs bytes e = go (start_of (part_in lent)) refl
     where
-      go : (r : Begin) → start_of (part_in lent) ≡ r → sets (label_moved 0 bytes lent) block_bytes (padded left) ≡ lent_of (through feeding 0 (part_in lent ∷ bs) (record { run = run; zeroth = zeroth_in lent })).state.zeroth left lent
-      go (begin.Started started) q =
+      go : (r : Result Run Refusal) → start_of (part_in lent) ≡ r → sets (label_moved 0 bytes lent) block_bytes (padded left) ≡ lent_of (through feeding 0 (part_in lent ∷ bs) (record { run = run; zeroth = zeroth_in lent })).state.zeroth left lent
+      go (Ok started) q =
           let k : Kept = record { run = run; zeroth = zeroth_in lent } in
           let is = label_goes k (part_in lent) bs q in
           let some : 1 ≤ bytes = omega (arith, e, ap (λ (w : Took Kept). w.taken) is) in
@@ -92,7 +86,7 @@ module _ (lent : List ℕ) (h : lent_bytes ≤ length lent) (left : List ℕ) (s
           ap (λ (l : List ℕ). sets l block_bytes (padded left)) (moved_some lent 0 bytes refl some)
           ∙ stored_is (part_in lent) left lent h (part_long lent h) short
           ∙ ap (λ (z : List ℕ). lent_of z left lent) (sym z)
-      go (begin.Refused refusal) q =
+      go (Err refusal) q =
           let k : Kept = record { run = run; zeroth = zeroth_in lent } in
           let is = label_refused k (part_in lent) bs q in
           let nothing-taken : bytes ≡ 0 = omega (arith, e, ap (λ (w : Took Kept). w.taken) is) in
@@ -107,10 +101,10 @@ done_taken u lent rest =
     let bs = part_in lent ∷ whole_in rest in
     omega (arith, front_few feeding u.blocks (length bs) bs (held_by u lent), whole_many rest, wholes_fit rest)
 
-pub left_short : (rest : List ℕ) (e : Ended) → length (left_by (rest_in rest) (refusal_in e)) ≤ block_bytes
+pub left_short : (rest : List ℕ) (e : Option Refusal) → length (left_by (rest_in rest) e) ≤ block_bytes
 unfolding rest_in
-left_short rest Going = omega (arith, length-drop (block_bytes * wholes rest) rest, wholes_small rest)
-left_short rest (Refused refusal) = omega arith
+left_short rest None = omega (arith, length-drop (block_bytes * wholes rest) rest, wholes_small rest)
+left_short rest (Some refusal) = omega arith
 
 -- ---- what a pass writes and leaves is what is given
 
@@ -122,15 +116,15 @@ added_room u lent rest old {n} h k small e =
     rw t (record { answer = ap answer.Room e; upload = refl; keeps = ap (λ (m : ℕ). sets lent (block_bytes + u.kept) (replicate m 0)) w; stores = refl })
 
 pub added_fits : (u : Upload) (lent rest old : List ℕ) {p : Passed} {r : Fed} {after out : List ℕ} → lent_bytes ≤ length lent
-    → length (done_by u lent rest).printed.out ≤ length old → Passes (done_by u lent rest) old p out → length (left_by (rest_in rest) (refusal_in p.ended)) ≤ block_bytes → Settled u lent rest p r after
+    → length (done_by u lent rest).printed.out ≤ length old → Passes (done_by u lent rest) old p out → length (left_by (rest_in rest) p.ended) ≤ block_bytes → Settled u lent rest p r after
     → Feeds (added_by u lent rest (length old)) old r after out
 added_fits u lent rest old {p} {r} {after} {out} h fits passes short settled =
     let w = done_by u lent rest in
     let t = le-ltb (length old) (length w.printed.out) fits in
     let many : p.bytes / block_bytes ≡ w.taken = omega (arith, passes.taken) in
-    let how : p.ended ≡ ended_by w.refusal = sym (ap ended_by passes.refusal ∙ ended_again p.ended) in
-    let left : left_by (rest_in rest) (refusal_in p.ended) ≡ left_by (rest_in rest) w.refusal = ap (left_by (rest_in rest)) (sym passes.refusal) in
-    let keeps = settled.keeps ∙ settles_by lent h (left_by (rest_in rest) (refusal_in p.ended)) short u.blocks u.run (whole_in rest) p.bytes passes.taken
+    let how : p.ended ≡ w.refusal = sym passes.refusal in
+    let left : left_by (rest_in rest) p.ended ≡ left_by (rest_in rest) w.refusal = ap (left_by (rest_in rest)) (sym passes.refusal) in
+    let keeps = settled.keeps ∙ settles_by lent h (left_by (rest_in rest) p.ended) short u.blocks u.run (whole_in rest) p.bytes passes.taken
     ∙ ap (λ (l : List ℕ). lent_of w.state.zeroth l lent) left in
     rw t
     (record {

@@ -1,4 +1,5 @@
 -- A stretch that is fed: the block that it completes, and what is kept. Assumes nothing.
+use Rattle.std.specs.Prelude.{None}
 use mathlib.Core.Path.{◌≡◌, refl, sym, ap, ap₂, ◌∙◌, subst}
 use mathlib.Core.Bool.{Bool, cond}
 use mathlib.Core.List.{List, ◌∷◌, ◌++◌, append-nil, append_assoc}
@@ -12,8 +13,6 @@ use Rattle.answers.specs.declared.Refusal.TheVariants.{Limits}
 use Rattle.format.specs.Blocks.{block_bytes}
 use Rattle.walk.specs.Pieces.{wholes, whole_in}
 use Rattle.walk.specs.Fitting.{Took, none_taken, front}
-use Rattle.walk.specs.Endings.{ended_by}
-use Rattle.walk.specs.declared.Ended.TheVariants.{Going}
 use Rattle.walk.proofs.Pieces.{whole_first, whole_none}
 use Rattle.convert.specs.declared.feeds.Upload.{Upload}
 use Rattle.convert.specs.declared.feeds.FeedAnswer.TheVariants as answer
@@ -101,7 +100,7 @@ module _ (u : Upload) (lent stretch : List ℕ) (w : WellFormed u lent) (long : 
           cond (ltb room (length t.printed.out)) (unchanged u same (answer.Room (length t.printed.out)))
           (record {
             answer = answer_by (u.blocks + t.taken) (length t.printed.out) t.refusal;
-            upload = record { run = t.state.run; blocks = u.blocks + t.taken; kept = length (left_by r t.refusal); ended = ended_by t.refusal };
+            upload = record { run = t.state.run; blocks = u.blocks + t.taken; kept = length (left_by r t.refusal); ended = t.refusal };
             lent = t.state.zeroth ++ (padded (left_by r t.refusal) ++ behind);
             rows = t.printed.out;
           })
@@ -134,7 +133,7 @@ module _ (u : Upload) (lent stretch : List ℕ) (room : ℕ) where
 
 -- ---- a stretch that completes none
 
-pub kept_more_lem : (u : Upload) (lent stretch old : List ℕ) {r : Fed} {after : List ℕ} → WellFormed u lent → u.ended ≡ Going → TakenBy u + length stretch ≤ most_fed → u.kept + length stretch < block_bytes
+pub kept_more_lem : (u : Upload) (lent stretch old : List ℕ) {r : Fed} {after : List ℕ} → WellFormed u lent → u.ended ≡ None → TakenBy u + length stretch ≤ most_fed → u.kept + length stretch < block_bytes
     → (r.answer ≡ answer.Length 0) × (r.upload ≡ kept_more u (length stretch)) × (after ≡ sets lent (block_bytes + u.kept) stretch) → Feeds (in_limits u lent stretch (length old)) old r after old
 unfolding completed rest_in wholes front
 kept_more_lem u lent stretch old {r} {after} w going few short h =

@@ -1,7 +1,7 @@
 -- The whole blocks of two stretches: those of the first, and then those of what it left with the second. Assumes nothing.
+use Rattle.std.specs.Prelude.{Option, Some, None}
 use mathlib.Core.Path.{◌≡◌, refl, sym, ap, ap₂, ◌∙◌}
 use mathlib.Core.List.{List, [], ◌∷◌, ◌++◌, append_assoc}
-use mathlib.Core.Option.{Option, none, some}
 use Prim.Native.Nat.{ℕ, zero, suc, ◌+◌, ◌*◌, ◌/◌, ◌≤◌, ◌<◌}
 use native.Mathlib.Omega.{arith}
 use native.Mathlib.Decide.{dec_le}
@@ -69,8 +69,8 @@ parted x t = parted_by (length x) x t (omega arith)
 
 -- what follows the blocks that were taken: nothing follows a refusal
 abbrev pub follows : {S : Type 0} → Took S → Took S → Option Refusal → Took S
-follows w v none = record { state = v.state; taken = w.taken + v.taken; printed = both w.printed v.printed; refusal = v.refusal }
-follows w v (some refusal) = w
+follows w v None = record { state = v.state; taken = w.taken + v.taken; printed = both w.printed v.printed; refusal = v.refusal }
+follows w v (Some refusal) = w
 
 module _ {S : Type 0} (p : Program S) where
   pub through_append : (i : ℕ) (xs bs : List (List ℕ)) (s : S)
@@ -81,35 +81,35 @@ module _ {S : Type 0} (p : Program S) where
       let v = through p i bs s in
       let e : v.taken ≡ 0 + v.taken = omega arith in
       let n : i ≡ i + 0 = omega arith in
-      (λ j. record { state = v.state; taken = e j; printed = v.printed; refusal = v.refusal }) ∙ ap (λ (k : ℕ). follows (none_taken s) (through p k bs s) none) n
+      (λ j. record { state = v.state; taken = e j; printed = v.printed; refusal = v.refusal }) ∙ ap (λ (k : ℕ). follows (none_taken s) (through p k bs s) None) n
   through_append i (a ∷ xs) bs s =
       let t = p.step i s a in
       let n : suc i + length xs ≡ i + suc (length xs) = omega arith in
       go t t.refusal (through p (suc i) xs t.state) (through p (i + suc (length xs)) bs)
       (through_append (suc i) xs bs t.state ∙ ap (λ (k : ℕ). follows (through p (suc i) xs t.state) (through p k bs (through p (suc i) xs t.state).state) (through p (suc i) xs t.state).refusal) n)
     where
-      inner : (t : Turn S) (w v : Took S) (o : Option Refusal) → w.refusal ≡ o → one_more t none (follows w v o) ≡ follows (one_more t none w) v o
-      inner t w v none q =
+      inner : (t : Turn S) (w v : Took S) (o : Option Refusal) → w.refusal ≡ o → one_more t None (follows w v o) ≡ follows (one_more t None w) v o
+      inner t w v None q =
           let e : suc (w.taken + v.taken) ≡ suc w.taken + v.taken = omega arith in
           λ j. record { state = v.state; taken = e j; printed = both_assoc t.printed w.printed v.printed j; refusal = v.refusal }
         where
           both_assoc : (a b c : Printed) → both a (both b c) ≡ both (both a b) c
           both_assoc a b c = λ j. record { out = sym (append_assoc a.out b.out c.out) j; err = sym (append_assoc a.err b.err c.err) j }
-      inner t w v (some refusal) q = refl
+      inner t w v (Some refusal) q = refl
 
       go : (t : Turn S) (o : Option Refusal) (w : Took S) (v : S → Took S) {all : Took S} → all ≡ follows w (v w.state) w.refusal
           → one_more t o all ≡ follows (one_more t o w) (v (one_more t o w).state) (one_more t o w).refusal
-      go t none w v e = ap (one_more t none) e ∙ inner t w (v w.state) w.refusal refl
-      go t (some refusal) w v e = refl
+      go t None w v e = ap (one_more t None) e ∙ inner t w (v w.state) w.refusal refl
+      go t (Some refusal) w v e = refl
 
   -- blocks that are not refused are all taken
-  pub all_taken : (i : ℕ) (bs : List (List ℕ)) (s : S) → (through p i bs s).refusal ≡ none → (through p i bs s).taken ≡ length bs
+  pub all_taken : (i : ℕ) (bs : List (List ℕ)) (s : S) → (through p i bs s).refusal ≡ None → (through p i bs s).taken ≡ length bs
   unfolding front
   all_taken i [] s e = refl
   all_taken i (b ∷ bs) s e =
       let t = p.step i s b in
       go t t.refusal (through p (suc i) bs t.state) (all_taken (suc i) bs t.state) e
     where
-      go : (t : Turn S) (o : Option Refusal) (w : Took S) → (w.refusal ≡ none → w.taken ≡ length bs) → (one_more t o w).refusal ≡ none → (one_more t o w).taken ≡ suc (length bs)
-      go t none w h e = ap suc (h e)
-      go t (some refusal) w h e = let z : ◌≡◌ {A = ℕ} 0 1 = cc in absurd (omega arith)
+      go : (t : Turn S) (o : Option Refusal) (w : Took S) → (w.refusal ≡ None → w.taken ≡ length bs) → (one_more t o w).refusal ≡ None → (one_more t o w).taken ≡ suc (length bs)
+      go t None w h e = ap suc (h e)
+      go t (Some refusal) w h e = let z : ◌≡◌ {A = ℕ} 0 1 = cc in absurd (omega arith)

@@ -1,4 +1,7 @@
 -- A trace that is fed in stretches is fed as one. Assumes nothing.
+use Rattle.std.specs.Prelude.{Option, Some, None, Result, Ok, Err}
+use Rattle.answers.specs.declared.Refusal.{Refusal}
+use Rattle.convert.specs.declared.Run.{Run}
 use mathlib.Core.Path.{◌≡◌, refl, sym, ap, ap₂, ◌∙◌, subst}
 use mathlib.Core.Bool.{true}
 use mathlib.Core.List.{List, [], ◌∷◌, ◌++◌, append-nil, append_assoc}
@@ -15,12 +18,8 @@ use Rattle.numbers.proofs.Octets.{octets_take, octets_drop, octets_append, octet
 use Rattle.walk.specs.Blocks.{joined}
 use Rattle.walk.specs.Fitting.{Took, none_taken, front}
 use Rattle.walk.specs.Pieces.{Octets, whole_in}
-use Rattle.walk.specs.declared.Ended.{Ended}
-use Rattle.walk.specs.declared.Ended.TheVariants as ended
 use Rattle.walk.proofs.Cuts.{Each}
 use Rattle.walk.proofs.Pieces.{whole_none, octets_wholes}
-use Rattle.convert.specs.declared.Begin.{Begin}
-use Rattle.convert.specs.declared.Begin.TheVariants as begin
 use Rattle.convert.specs.declared.feeds.Upload.{Upload}
 use Rattle.convert.specs.Runs.{start_of}
 use Rattle.convert.specs.Tables.{Kept}
@@ -44,9 +43,9 @@ through_octets (suc i) bs k o h = subst Octets (sym (ap (λ (w : Took Kept). w.s
 through_octets zero [] k o h = o
 through_octets zero (b ∷ bs) k o h = go (start_of b) refl
   where
-    go : (r : Begin) → start_of b ≡ r → Octets (through feeding 0 (b ∷ bs) k).state.zeroth
-    go (begin.Started run) q = subst Octets (sym (ap (λ (w : Took Kept). w.state.zeroth) (label_goes k b bs q) ∙ through_zeroth 1 bs (record { run = run; zeroth = b }))) h.0
-    go (begin.Refused refusal) q = subst Octets (sym (ap (λ (w : Took Kept). w.state.zeroth) (label_refused k b bs q))) o
+    go : (r : Result Run Refusal) → start_of b ≡ r → Octets (through feeding 0 (b ∷ bs) k).state.zeroth
+    go (Ok run) q = subst Octets (sym (ap (λ (w : Took Kept). w.state.zeroth) (label_goes k b bs q) ∙ through_zeroth 1 bs (record { run = run; zeroth = b }))) h.0
+    go (Err refusal) q = subst Octets (sym (ap (λ (w : Took Kept). w.state.zeroth) (label_refused k b bs q))) o
 
 -- what holds of an upload and its lent bytes between the feeds of a trace of which so many bytes are to come
 pub record Ongoing (u : Upload) (lent : List ℕ) (more : ℕ) : Type 0 where
@@ -84,7 +83,7 @@ module _ (u : Upload) (lent stretch : List ℕ) (os : Octets stretch) where
 
 -- ---- nothing is fed
 
-fed_none : (u : Upload) (lent : List ℕ) → WellFormed u lent → u.ended ≡ ended.Going
+fed_none : (u : Upload) (lent : List ℕ) → WellFormed u lent → u.ended ≡ None
     → let g = fed_by u lent (rest_in (bytes_at u lent [])) (completed u lent (bytes_at u lent [])) in (g.upload ≡ u) × (g.lent ≡ lent) × (g.rows ≡ [])
 unfolding completed front
 fed_none u lent f going =
@@ -103,9 +102,9 @@ feed_none : (u : Upload) (lent : List ℕ) (room : ℕ) → Ongoing u lent 0 →
     → let g = feed_of u lent [] room in (g.upload ≡ u) × (g.lent ≡ lent) × (g.rows ≡ [])
 feed_none u lent room h fits_in = go u.ended refl
   where
-    go : (e : Ended) → u.ended ≡ e → let g = feed_of u lent [] room in (g.upload ≡ u) × (g.lent ≡ lent) × (g.rows ≡ [])
-    go (ended.Refused refusal) q = rw (feed_sound u lent [] room h.sound q) (refl, refl, refl)
-    go ended.Going q =
+    go : (e : Option Refusal) → u.ended ≡ e → let g = feed_of u lent [] room in (g.upload ≡ u) × (g.lent ≡ lent) × (g.rows ≡ [])
+    go (Some refusal) q = rw (feed_sound u lent [] room h.sound q) (refl, refl, refl)
+    go None q =
         rw (feed_fits u lent [] room (record { sound = h.sound; going = q; most = h.most }) fits_in) (fed_none u lent (well_formed h.sound) q)
 
 -- ---- all feeds as one

@@ -1,19 +1,16 @@
 -- A feed of two stretches is a feed of both together. Assumes nothing.
+use Rattle.std.specs.Prelude.{Option, Some, None}
 use mathlib.Core.Path.{◌≡◌, refl, sym, ap, ap₂, ◌∙◌, subst, subst⁻¹}
 use mathlib.Core.Bool.{Bool, true, false}
 use mathlib.Core.List.{List, ◌++◌, append-nil, append_assoc}
-use mathlib.Core.Option.{Option, none, some}
 use Prim.Native.Nat.{ℕ, ◌+◌, ◌-◌, ◌*◌, ◌≤◌}
 use native.Mathlib.Omega.{arith}
 use lib.ListN.{length, take, replicate, length-append, length-drop}
 use lib.Seq.{take-append_seam}
 use Rattle.answers.specs.declared.Refusal.{Refusal}
 use Rattle.format.specs.Blocks.{block_bytes}
-use Rattle.walk.specs.Endings.{ended_by}
 use Rattle.walk.specs.Fitting.{Took}
 use Rattle.walk.specs.Pieces.{Octets, wholes, whole_in}
-use Rattle.walk.specs.declared.Ended.{Ended}
-use Rattle.walk.specs.declared.Ended.TheVariants as ended
 use Rattle.walk.proofs.Pieces.{whole_many, wholes_fit}
 use Rattle.convert.specs.declared.feeds.Upload.{Upload}
 use Rattle.convert.specs.declared.feeds.FeedAnswer.TheVariants as answer
@@ -30,16 +27,16 @@ use Rattle.convert.proofs.Staying.{bytes_long, left_small, zeroth_whole, fed_sou
 abbrev pub fed_as : Upload → List ℕ → List ℕ → Took Kept → Option Refusal → Given
 fed_as u lent rest w o = record {
   answer = answer_by (u.blocks + w.taken) (length w.printed.out) o;
-  upload = record { run = w.state.run; blocks = u.blocks + w.taken; kept = length (left_by rest o); ended = ended_by o };
+  upload = record { run = w.state.run; blocks = u.blocks + w.taken; kept = length (left_by rest o); ended = o };
   lent = lent_of w.state.zeroth (left_by rest o) lent;
   rows = w.printed.out;
 }
 
 before_by : (block n m : ℕ) (o : Option Refusal) → with_before n (answer_by block m o) ≡ answer_by block (n + m) o
-before_by block n m none = refl
-before_by block n m (some refusal) = refl
+before_by block n m None = refl
+before_by block n m (Some refusal) = refl
 
-module _ (u : Upload) (lent s t : List ℕ) (f : WellFormed u lent) (going : u.ended ≡ ended.Going) (ol : Octets lent) (os : Octets s) (most : TakenBy u + length (s ++ t) ≤ most_fed) where
+module _ (u : Upload) (lent s t : List ℕ) (f : WellFormed u lent) (going : u.ended ≡ None) (ol : Octets lent) (os : Octets s) (most : TakenBy u + length (s ++ t) ≤ most_fed) where
   abbrev x : List ℕ
   x = bytes_at u lent s
 
@@ -75,25 +72,25 @@ module _ (u : Upload) (lent s t : List ℕ) (f : WellFormed u lent) (going : u.e
   sound_as o e = subst (λ (o : Option Refusal). WellFormed (fed_as u lent rest w o).upload (fed_as u lent rest w o).lent) e (fed_sound u lent s f ol os first_most)
 
   -- after a faulty block
-  module _ (refusal : Refusal) (e : w.refusal ≡ some refusal) (b : ℕ) where
-    over : AsOne (fed_as u lent rest w (some refusal)) (feed_of (fed_as u lent rest w (some refusal)).upload (fed_as u lent rest w (some refusal)).lent t b) (fed_by u lent (rest_in (bytes_at u lent (s ++ t))) all)
+  module _ (refusal : Refusal) (e : w.refusal ≡ Some refusal) (b : ℕ) where
+    over : AsOne (fed_as u lent rest w (Some refusal)) (feed_of (fed_as u lent rest w (Some refusal)).upload (fed_as u lent rest w (Some refusal)).lent t b) (fed_by u lent (rest_in (bytes_at u lent (s ++ t))) all)
     over =
-        let g = fed_as u lent rest w (some refusal) in
-        let second : feed_of g.upload g.lent t b ≡ repeated g.upload g.lent refusal = feed_sound g.upload g.lent t b (sound_upload_lem (sound_as (some refusal) e)) refl in
+        let g = fed_as u lent rest w (Some refusal) in
+        let second : feed_of g.upload g.lent t b ≡ repeated g.upload g.lent refusal = feed_sound g.upload g.lent t b (sound_upload_lem (sound_as (Some refusal) e)) refl in
         let both : fed_by u lent (rest_in (bytes_at u lent (s ++ t))) all ≡ g =
-        ap (fed_by u lent (rest_in (bytes_at u lent (s ++ t)))) (all_is (some refusal) e) ∙ ap (fed_as u lent (rest_in (bytes_at u lent (s ++ t))) w) e in
+        ap (fed_by u lent (rest_in (bytes_at u lent (s ++ t)))) (all_is (Some refusal) e) ∙ ap (fed_as u lent (rest_in (bytes_at u lent (s ++ t))) w) e in
         let n = length w.printed.out in
         let same : n + 0 ≡ n = omega arith in
         rw (second, both)
         (record { answer = ap (answer.Faulty refusal (u.blocks + w.taken)) same; upload = refl; lent = refl; rows = append-nil w.printed.out })
 
   -- where the first goes on
-  module _ (e : w.refusal ≡ none) where
+  module _ (e : w.refusal ≡ None) where
     abbrev next : Upload
-    next = (fed_as u lent rest w none).upload
+    next = (fed_as u lent rest w None).upload
 
     abbrev after : List ℕ
-    after = (fed_as u lent rest w none).lent
+    after = (fed_as u lent rest w None).lent
 
     z_long : length w.state.zeroth ≡ block_bytes
     z_long = zeroth_whole u lent s f ol os first_most
@@ -118,24 +115,24 @@ module _ (u : Upload) (lent s t : List ℕ) (f : WellFormed u lent) (going : u.e
     taken_second : Taken next after t
     unfolding rest_in
     taken_second = record {
-      sound = sound_upload_lem (sound_as none e);
+      sound = sound_upload_lem (sound_as None e);
       going = refl;
       most = omega (arith, most, length-append s t, taken_all_lem, whole_many x, wholes_fit x, length-drop (block_bytes * wholes x) x, bytes_long u lent s f ol os first_most);
     }
 
-    goes_on_lem : (b : ℕ) → HasRoom next after t b → AsOne (fed_as u lent rest w none) (feed_of next after t b) (fed_by u lent (rest_in (bytes_at u lent (s ++ t))) all)
+    goes_on_lem : (b : ℕ) → HasRoom next after t b → AsOne (fed_as u lent rest w None) (feed_of next after t b) (fed_by u lent (rest_in (bytes_at u lent (s ++ t))) all)
     goes_on_lem b room =
         let v = behind in
         let second : feed_of next after t b ≡ fed_by next after (rest_in (rest ++ t)) v =
         feed_fits next after t b taken_second room ∙ ap₂ (λ (k : List ℕ) (v : Took Kept). fed_by next after (rest_in (k ++ t)) v) kept_is second_is in
-        let both : fed_by u lent (rest_in (bytes_at u lent (s ++ t))) all ≡ fed_by u lent (rest_in (rest ++ t)) (follows w v none) = ap₂ (fed_by u lent) rest_is (all_is none e) in
+        let both : fed_by u lent (rest_in (bytes_at u lent (s ++ t))) all ≡ fed_by u lent (rest_in (rest ++ t)) (follows w v None) = ap₂ (fed_by u lent) rest_is (all_is None e) in
         let blocks : u.blocks + w.taken + v.taken ≡ u.blocks + (w.taken + v.taken) = omega arith in
         let rows = sym (length-append w.printed.out v.printed.out) in
         let end = lent_behind lent f.long w.state.zeroth rest z_long rest_short in
         rw (second, both)
         (record {
           answer = before_by (u.blocks + w.taken + v.taken) (length w.printed.out) (length v.printed.out) v.refusal ∙ ap₂ (λ (n m : ℕ). answer_by n m v.refusal) blocks rows;
-          upload = λ i. record { run = v.state.run; blocks = blocks i; kept = length (left_by (rest_in (rest ++ t)) v.refusal); ended = ended_by v.refusal };
+          upload = λ i. record { run = v.state.run; blocks = blocks i; kept = length (left_by (rest_in (rest ++ t)) v.refusal); ended = v.refusal };
           lent = ap (λ (l : List ℕ). v.state.zeroth ++ (padded (left_by (rest_in (rest ++ t)) v.refusal) ++ l)) end;
           rows = refl;
         })
@@ -146,20 +143,20 @@ module _ (u : Upload) (lent s t : List ℕ) (f : WellFormed u lent) (going : u.e
     where
       go : (o : Option Refusal) → w.refusal ≡ o → HasRoom (fed_as u lent rest w o).upload (fed_as u lent rest w o).lent t b
           → AsOne (fed_as u lent rest w o) (feed_of (fed_as u lent rest w o).upload (fed_as u lent rest w o).lent t b) (fed_by u lent (rest_in (bytes_at u lent (s ++ t))) all)
-      go none e room = goes_on_lem e b room
-      go (some refusal) e room = over refusal e b
+      go None e room = goes_on_lem e b room
+      go (Some refusal) e room = over refusal e b
 
 pub feed_in_parts : FeedInParts
 feed_in_parts u lent s t a b c ol os most = by_sound (sound_upload u lent) u.ended refl refl
   where
-    by_sound : (q : Bool) (e : Ended) → sound_upload u lent ≡ q → u.ended ≡ e
+    by_sound : (q : Bool) (e : Option Refusal) → sound_upload u lent ≡ q → u.ended ≡ e
         → let first = feed_of u lent s a in
         HasRoom u lent s a → HasRoom first.upload first.lent t b → HasRoom u lent (s ++ t) c → AsOne first (feed_of first.upload first.lent t b) (feed_of u lent (s ++ t) c)
     by_sound false e q r ha hb hc =
         rw (feed_malformed u lent s a q, feed_malformed u lent t b q, feed_malformed u lent (s ++ t) c q) (record { answer = refl; upload = refl; lent = refl; rows = refl })
-    by_sound true (ended.Refused refusal) q r ha hb hc =
+    by_sound true (Some refusal) q r ha hb hc =
         rw (feed_sound u lent s a q r, feed_sound u lent t b q r, feed_sound u lent (s ++ t) c q r) (record { answer = refl; upload = refl; lent = refl; rows = refl })
-    by_sound true ended.Going q r ha hb hc =
+    by_sound true None q r ha hb hc =
         let first = feed_fits u lent s a (record { sound = q; going = r; most = omega (arith, most, length-append s t) }) ha in
         let both = feed_fits u lent (s ++ t) c (record { sound = q; going = r; most = most }) hc in
         let g = fed_by u lent (rest_in (bytes_at u lent s)) (completed u lent (bytes_at u lent s)) in

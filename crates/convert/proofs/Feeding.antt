@@ -1,7 +1,7 @@
 -- What the blocks that a feed completes do, block 0 among them. Assumes nothing.
+use Rattle.std.specs.Prelude.{Option, Some, None, Ok, Err}
 use mathlib.Core.Path.{◌≡◌, refl, sym, ap, ap₂, ◌∙◌, subst⁻¹}
 use mathlib.Core.List.{List, [], ◌∷◌, append-nil}
-use mathlib.Core.Option.{Option, none, some}
 use Prim.Native.Nat.{ℕ, suc, ◌+◌, ◌*◌, ◌≤◌}
 use native.Mathlib.Omega.{arith}
 use lib.ListN.{length, drop, length-append, length-drop}
@@ -12,13 +12,9 @@ use Rattle.format.specs.Blocks.{block_bytes}
 use Rattle.walk.specs.Programs.{nothing, Turn}
 use Rattle.walk.specs.Pieces.{whole_in}
 use Rattle.walk.specs.Fitting.{Took, none_taken, one_more, front}
-use Rattle.walk.specs.Endings.{refusal_in}
-use Rattle.walk.specs.declared.Ended.{Ended}
-use Rattle.walk.specs.declared.Ended.TheVariants as ended
 use Rattle.walk.proofs.Fits.{front_few}
 use Rattle.walk.proofs.Pieces.{whole_first, whole_none, whole_many, wholes_fit}
 use Rattle.convert.specs.declared.Run.{Run}
-use Rattle.convert.specs.declared.Begin.TheVariants as begin
 use Rattle.convert.specs.declared.feed_passes.Passed.{Passed}
 use Rattle.convert.specs.Runs.{start_of}
 use Rattle.convert.specs.Tables.{Kept, ecntable}
@@ -50,18 +46,18 @@ taken_few i piece k = omega (arith, front_few ecntable i (length (whole_in piece
 -- ---- block 0
 
 module _ (k : Kept) (b : List ℕ) (bs : List (List ℕ)) where
-  pub label_goes : {run : Run} → start_of b ≡ begin.Started run
-      → through feeding 0 (b ∷ bs) k ≡ one_more (record { state = kept run b; printed = nothing; refusal = none }) none (through ecntable 1 bs (kept run b))
+  pub label_goes : {run : Run} → start_of b ≡ Ok run
+      → through feeding 0 (b ∷ bs) k ≡ one_more (record { state = kept run b; printed = nothing; refusal = None }) None (through ecntable 1 bs (kept run b))
   label_goes {run} e =
-      through_by feeding 0 b bs k (record { state = kept run b; printed = nothing; refusal = none }) (ap (labelled k b) e)
-      ∙ ap (one_more (record { state = kept run b; printed = nothing; refusal = none }) none) (through_later 0 bs (kept run b))
+      through_by feeding 0 b bs k (record { state = kept run b; printed = nothing; refusal = None }) (ap (labelled k b) e)
+      ∙ ap (one_more (record { state = kept run b; printed = nothing; refusal = None }) None) (through_later 0 bs (kept run b))
 
-  pub label_refused : {refusal : Refusal} → start_of b ≡ begin.Refused refusal
-      → through feeding 0 (b ∷ bs) k ≡ record { state = k; taken = 0; printed = nothing; refusal = some refusal }
-  label_refused {refusal} e = through_by feeding 0 b bs k (record { state = k; printed = nothing; refusal = some refusal }) (ap (labelled k b) e)
+  pub label_refused : {refusal : Refusal} → start_of b ≡ Err refusal
+      → through feeding 0 (b ∷ bs) k ≡ record { state = k; taken = 0; printed = nothing; refusal = Some refusal }
+  label_refused {refusal} e = through_by feeding 0 b bs k (record { state = k; printed = nothing; refusal = Some refusal }) (ap (labelled k b) e)
 
-pub passes_label : (k : Kept) {all w : Took Kept} {s : Kept} {old out : List ℕ} {bytes used : ℕ} {e : Ended} {run : Run}
-    → all ≡ one_more (record { state = k; printed = nothing; refusal = none }) none w → PassedBy w s bytes 0 used (refusal_in e) old out → s.run ≡ run
+pub passes_label : (k : Kept) {all w : Took Kept} {s : Kept} {old out : List ℕ} {bytes used : ℕ} {e : Option Refusal} {run : Run}
+    → all ≡ one_more (record { state = k; printed = nothing; refusal = None }) None w → PassedBy w s bytes 0 used e old out → s.run ≡ run
     → Passes all old (record { run = run; bytes = 512 + bytes; used = used; ended = e }) out
 passes_label k {all} {w} {s} {old} {out} {bytes} {used} {e} {run} is p r =
     subst⁻¹ (λ (a : Took Kept). Passes a old (record { run = run; bytes = 512 + bytes; used = used; ended = e }) out) is
@@ -74,15 +70,15 @@ passes_label k {all} {w} {s} {old} {out} {bytes} {used} {e} {run} is p r =
       stores = p.stores;
     })
 
-pub passes_no_label : (k : Kept) {all : Took Kept} {refusal : Refusal} (old : List ℕ) → all ≡ record { state = k; taken = 0; printed = nothing; refusal = some refusal }
-    → Passes all old (record { run = k.run; bytes = 0; used = 0; ended = ended.Refused refusal }) old
+pub passes_no_label : (k : Kept) {all : Took Kept} {refusal : Refusal} (old : List ℕ) → all ≡ record { state = k; taken = 0; printed = nothing; refusal = Some refusal }
+    → Passes all old (record { run = k.run; bytes = 0; used = 0; ended = Some refusal }) old
 passes_no_label k {all} {refusal} old is =
-    subst⁻¹ (λ (a : Took Kept). Passes a old (record { run = k.run; bytes = 0; used = 0; ended = ended.Refused refusal }) old) is
+    subst⁻¹ (λ (a : Took Kept). Passes a old (record { run = k.run; bytes = 0; used = 0; ended = Some refusal }) old) is
     (record { run = refl; taken = omega arith; refusal = refl; long = refl; few = omega arith; stores = λ h. refl })
 
 -- ---- a later block, and those after it
 
-pub passed_run : {all : Took Kept} {s : Kept} {old out : List ℕ} {r : Passed} → PassedBy all s r.bytes 0 r.used (refusal_in r.ended) old out → s.run ≡ r.run → Passes all old r out
+pub passed_run : {all : Took Kept} {s : Kept} {old out : List ℕ} {r : Passed} → PassedBy all s r.bytes 0 r.used r.ended old out → s.run ≡ r.run → Passes all old r out
 passed_run {all} {s} {old} {out} {r} p e = record {
   run = ap (λ (x : Kept). x.run) p.state ∙ e;
   taken = p.taken;
@@ -109,33 +105,33 @@ module _ (i : ℕ) (b : List ℕ) (bs : List (List ℕ)) (k : Kept) where
   all_by o e = ap₂ (λ (o : Option Refusal) (w : Took Kept). one_more turn o w) e (through_later (suc i) bs turn.state)
 
   -- a refused one ends the pass
-  pub all_refused : {refusal : Refusal} → one.refusal ≡ some refusal → through feeding (suc i) (b ∷ bs) k ≡ one
+  pub all_refused : {refusal : Refusal} → one.refusal ≡ Some refusal → through feeding (suc i) (b ∷ bs) k ≡ one
   all_refused {refusal} e = go turn.refusal refl
     where
       go : (o : Option Refusal) → turn.refusal ≡ o → through feeding (suc i) (b ∷ bs) k ≡ one
-      go none q = let w : none ≡ some refusal = ap (λ (w : Took Kept). w.refusal) (sym (one_by none q)) ∙ e in let z : ◌≡◌ {A = ℕ} 0 1 = cc in absurd (omega arith)
-      go (some r) q = all_by (some r) q ∙ sym (one_by (some r) q)
+      go None q = let w : None ≡ Some refusal = ap (λ (w : Took Kept). w.refusal) (sym (one_by None q)) ∙ e in let z : ◌≡◌ {A = ℕ} 0 1 = cc in absurd (omega arith)
+      go (Some r) q = all_by (Some r) q ∙ sym (one_by (Some r) q)
 
   record OneTaken : Type 0 where
-    is : one ≡ one_more turn none (none_taken turn.state)
-    all : through feeding (suc i) (b ∷ bs) k ≡ one_more turn none (through ecntable (suc (suc i)) bs turn.state)
+    is : one ≡ one_more turn None (none_taken turn.state)
+    all : through feeding (suc i) (b ∷ bs) k ≡ one_more turn None (through ecntable (suc (suc i)) bs turn.state)
 
-  one_taken : one.refusal ≡ none → OneTaken
+  one_taken : one.refusal ≡ None → OneTaken
   one_taken e = go turn.refusal refl
     where
       go : (o : Option Refusal) → turn.refusal ≡ o → OneTaken
-      go none q = record { is = one_by none q; all = all_by none q }
-      go (some r) q = let w : some r ≡ none = ap (λ (w : Took Kept). w.refusal) (sym (one_by (some r) q)) ∙ e in let z : ◌≡◌ {A = ℕ} 0 1 = cc in absurd (omega arith)
+      go None q = record { is = one_by None q; all = all_by None q }
+      go (Some r) q = let w : Some r ≡ None = ap (λ (w : Took Kept). w.refusal) (sym (one_by (Some r) q)) ∙ e in let z : ◌≡◌ {A = ℕ} 0 1 = cc in absurd (omega arith)
 
   -- one pass after another
-  module _ {m s : Kept} {old mid out : List ℕ} {first last used bytes : ℕ} {e : Ended} {run : Run} where
-    pub passes_both : PassedBy one m first 0 used none old mid → PassedBy (through ecntable (suc (suc i)) bs m) s bytes used last (refusal_in e) mid out → length mid ≡ length old → s.run ≡ run
+  module _ {m s : Kept} {old mid out : List ℕ} {first last used bytes : ℕ} {e : Option Refusal} {run : Run} where
+    pub passes_both : PassedBy one m first 0 used None old mid → PassedBy (through ecntable (suc (suc i)) bs m) s bytes used last e mid out → length mid ≡ length old → s.run ≡ run
         → Passes (through feeding (suc i) (b ∷ bs) k) old (record { run = run; bytes = 512 + bytes; used = last; ended = e }) out
     passes_both p q size r =
         let t = one_taken p.refusal in
         let state : turn.state ≡ m = ap (λ (w : Took Kept). w.state) (sym t.is) ∙ p.state in
         let w = through ecntable (suc (suc i)) bs m in
-        let all : through feeding (suc i) (b ∷ bs) k ≡ one_more turn none w = t.all ∙ ap (λ (x : Kept). one_more turn none (through ecntable (suc (suc i)) bs x)) state in
+        let all : through feeding (suc i) (b ∷ bs) k ≡ one_more turn None w = t.all ∙ ap (λ (x : Kept). one_more turn None (through ecntable (suc (suc i)) bs x)) state in
         let rows : one.printed.out ≡ turn.printed.out = ap (λ (w : Took Kept). w.printed.out) t.is ∙ append-nil turn.printed.out in
         let long : length turn.printed.out ≡ used = omega (arith, ap length rows, p.long) in
         let place : used ≡ 0 + length turn.printed.out = omega (arith, long) in

@@ -1,8 +1,8 @@
 -- The loop over the blocks of a piece: its turns, and its ways out. Assumes nothing.
+use Rattle.std.specs.Prelude.{Some, None}
 use mathlib.Core.Path.{◌≡◌, sym, ap, ◌∙◌, subst}
 use mathlib.Core.Bool.{true}
 use mathlib.Core.List.{List}
-use mathlib.Core.Option.{none, some}
 use Prim.Native.Nat.{ℕ, ◌+◌, ◌-◌, ◌≤◌, ◌<◌}
 use native.Mathlib.Omega.{arith}
 use lib.ListN.{length, take, drop}
@@ -14,7 +14,6 @@ use Rattle.numbers.proofs.Octets.{octets_take, octets_drop}
 use Rattle.walk.specs.Programs.{nothing, to_output}
 use Rattle.walk.specs.Steps.{goes, refuses}
 use Rattle.walk.specs.Puts.{WasPut, NoRoom, WasRefused}
-use Rattle.walk.specs.declared.Ended.TheVariants as ended
 use Rattle.walk.proofs.Loops.{Going, going_first, going_last, going_taken, going_pauses, going_refused}
 use Rattle.convert.specs.declared.Run.{Run}
 use Rattle.convert.specs.Runs.{sound_run, row_of, row_in, next_of}
@@ -27,11 +26,11 @@ kept run zeroth = record { run = run; zeroth = zeroth }
 
 -- the turn of a block, by what it brings
 pub turn_goes : (i : ℕ) (run : Run) (zeroth b : List ℕ) {next : Run} → next_of run b ≡ goes next
-    → ecntable.step i (kept run zeroth) b ≡ record { state = kept next zeroth; printed = to_output (row_of next zeroth); refusal = none }
+    → ecntable.step i (kept run zeroth) b ≡ record { state = kept next zeroth; printed = to_output (row_of next zeroth); refusal = None }
 turn_goes i run zeroth b e = ap (taken (kept run zeroth)) e
 
 pub turn_refuses : (i : ℕ) (run : Run) (zeroth b : List ℕ) {refusal : Refusal} → next_of run b ≡ refuses refusal
-    → ecntable.step i (kept run zeroth) b ≡ record { state = kept run zeroth; printed = nothing; refusal = some refusal }
+    → ecntable.step i (kept run zeroth) b ≡ record { state = kept run zeroth; printed = nothing; refusal = Some refusal }
 turn_refuses i run zeroth b e = ap (taken (kept run zeroth)) e
 
 pub record Loop (start : Run) (zeroth piece old : List ℕ) (run : Run) (at : ℕ) (out : List ℕ) (used : ℕ) : Type 0 where
@@ -52,7 +51,7 @@ module _ {start : Run} {zeroth piece old : List ℕ} {run : Run} {at : ℕ} {out
   pub loop_size : length out ≡ length old
   loop_size = (l.going 0).left.size
 
-  pub loop_last : length piece - at < block_bytes → Fitted start zeroth piece old run at used ended.Going out
+  pub loop_last : length piece - at < block_bytes → Fitted start zeroth piece old run at used None out
   loop_last h first = going_last ecntable first piece old (kept start zeroth) (l.going first) (omega (arith, h, loop_within))
 
   module _ (h : block_bytes ≤ length piece - at) {end : ℕ} (is : end ≡ at + block_bytes) where
@@ -81,7 +80,7 @@ module _ {start : Run} {zeroth piece old : List ℕ} {run : Run} {at : ℕ} {out
         }
 
     pub loop_pauses : {now : List ℕ} → NoRoom {A = Run} (next_of run block) (row_in zeroth (next_of run block)) out used now
-        → Fitted start zeroth piece old run at used ended.Going now
+        → Fitted start zeroth piece old run at used None now
     loop_pauses {now} w first =
         let does = ap (next_of run) (sym block_is) ∙ w.does in
         let row : row_in zeroth (next_of run block) ≡ row_of w.brings zeroth = ap (row_in zeroth) w.does in
@@ -90,7 +89,7 @@ module _ {start : Run} {zeroth piece old : List ℕ} {run : Run} {at : ℕ} {out
         rw w.stores r
 
     pub loop_refused : {refusal : Refusal} {now : List ℕ} → WasRefused {A = Run} (next_of run block) refusal out now
-        → Fitted start zeroth piece old run at used (ended.Refused refusal) now
+        → Fitted start zeroth piece old run at used (Some refusal) now
     loop_refused {refusal} {now} w first =
         let does = ap (next_of run) (sym block_is) ∙ w.does in
         rw w.stores (going_refused ecntable first piece old (kept start zeroth) (l.going first) inside refusal (turn_refuses (first + (l.going first).done) run zeroth (take block_bytes (drop at piece)) does))

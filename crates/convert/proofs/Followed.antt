@@ -1,8 +1,9 @@
 -- The calls over a trace follow the program ecntable. Assumes nothing.
+use Rattle.std.specs.Prelude.{Option, Some, None, Result, Ok, Err}
+use Rattle.answers.specs.declared.Refusal.{Refusal}
 use mathlib.Core.Path.{◌≡◌, refl, sym, ap, ◌∙◌, subst}
 use mathlib.Core.Bool.{true}
 use mathlib.Core.List.{List, []}
-use mathlib.Core.Option.{some}
 use Prim.Native.Nat.{ℕ, ◌+◌, ◌^◌, ◌≤◌, ◌<◌}
 use native.Mathlib.Omega.{arith}
 use lib.ListN.{length}
@@ -13,17 +14,13 @@ use Rattle.walk.specs.Programs.{nothing, to_output}
 use Rattle.walk.specs.Steps.{Next, goes, refuses}
 use Rattle.walk.specs.Pieces.{Octets, wholes, whole_in}
 use Rattle.walk.specs.Fitting.{Took, fitting}
-use Rattle.walk.specs.Endings.{refusal_in, is_going}
+use Rattle.walk.specs.Endings.{is_going}
 use Rattle.walk.specs.Machines.{Standing, begun_by, fitting_by, ending_by, goes_on, Gives, Follows}
-use Rattle.walk.specs.declared.Ended.{Ended}
-use Rattle.walk.specs.declared.Ended.TheVariants as ended
 use Rattle.walk.proofs.Pieces.{whole_many, octets_wholes}
 use Rattle.walk.proofs.Fits.{fitting_fits, fitting_keeps, fitting_quiet, room_is_enough}
-use Rattle.walk.proofs.Standing.{ended_back, number_small}
+use Rattle.walk.proofs.Standing.{number_small}
 use Rattle.walk.proofs.Sessions.{fitting_gives, session_prints}
 use Rattle.convert.specs.declared.Run.{Run}
-use Rattle.convert.specs.declared.Begin.{Begin}
-use Rattle.convert.specs.declared.Begin.TheVariants as begin
 use Rattle.convert.specs.Runs.{sound_run, start_of, next_of}
 use Rattle.convert.specs.Tables.{Kept, begun, taken, ecntable, printed}
 use Rattle.table.specs.Lines.{head_bytes}
@@ -36,7 +33,7 @@ use Rattle.convert.proofs.Steps.{next_by_lem}
 -- ---- a block's turn
 
 -- a part of a block is refused with 1
-pub short_turn : (i : ℕ) (k : Kept) (b : List ℕ) → length b < block_bytes → ecntable.step i k b ≡ record { state = k; printed = nothing; refusal = some Incomplete }
+pub short_turn : (i : ℕ) (k : Kept) (b : List ℕ) → length b < block_bytes → ecntable.step i k b ≡ record { state = k; printed = nothing; refusal = Some Incomplete }
 short_turn i k b h = ap (taken k) (next_by_lem k.run b (later_short k.run.form k.run.ssrc b (λ e. omega (arith, e))))
 
 -- what is kept: the run is that of block 0
@@ -62,44 +59,43 @@ turn_quiet i k b = go (next_of k.run b)
 -- a held progress stands for the program's run; one that goes on is sound
 record StandsFor (h : Held) (s : Standing Kept) : Type 0 where
   standing : standing h.progress h.zeroth ≡ s
-  sound : h.progress.ended ≡ ended.Going → sound_run h.progress.run h.zeroth ≡ true
+  sound : h.progress.ended ≡ None → sound_run h.progress.run h.zeroth ≡ true
 
 begins : (b : List ℕ) → StandsFor (calls.begin b).state (begun_by (ecntable.begin b)) × ((calls.begin b).printed ≡ (ecntable.begin b).printed)
 unfolding begin_of
 begins b = go (start_of b) refl
   where
-    go : (r : Begin) → start_of b ≡ r → StandsFor (record { progress = begin_by (begun b r); zeroth = b }) (begun_by (begun b r)) × (to_output head_bytes ≡ (begun b r).printed)
-    go (begin.Started run) e = (record { standing = refl; sound = λ q. sound_good (start_good b run e) }, refl)
-    go (begin.Refused refusal) e = (record { standing = refl; sound = λ q. let z : ◌≡◌ {A = ℕ} 0 1 = cc in absurd (omega arith) }, refl)
+    go : (r : Result Run Refusal) → start_of b ≡ r → StandsFor (record { progress = begin_by (begun b r); zeroth = b }) (begun_by (begun b r)) × (to_output head_bytes ≡ (begun b r).printed)
+    go (Ok run) e = (record { standing = refl; sound = λ q. sound_good (start_good b run e) }, refl)
+    go (Err refusal) e = (record { standing = refl; sound = λ q. let z : ◌≡◌ {A = ℕ} 0 1 = cc in absurd (omega arith) }, refl)
 
 module _ (h : Held) (piece : List ℕ) (room : ℕ) (o : Octets piece) (few : h.progress.block + wholes piece < 2 ^ 64)
-    (sound : h.progress.ended ≡ ended.Going → sound_run h.progress.run h.zeroth ≡ true) where
+    (sound : h.progress.ended ≡ None → sound_run h.progress.run h.zeroth ≡ true) where
   abbrev here : Standing Kept
   here = standing h.progress h.zeroth
 
-  gives_by : (e : Ended) → h.progress.ended ≡ e
-      → Gives StandsFor here (fitting_by ecntable here (refusal_in e) piece room) (gave_by h (fitting_by ecntable here (refusal_in e) piece room) (piece_fault h.progress h.zeroth e))
-  gives_by (ended.Refused refusal) q =
+  gives_by : (e : Option Refusal) → h.progress.ended ≡ e
+      → Gives StandsFor here (fitting_by ecntable here e piece room) (gave_by h (fitting_by ecntable here e piece room) (piece_fault h.progress h.zeroth e))
+  gives_by (Some refusal) q =
       let number = number_small h.progress.block 0 (omega arith) in
       record {
         stands = record {
-          standing = λ i. record { state = here.state; block = number i; refusal = some refusal };
+          standing = λ i. record { state = here.state; block = number i; refusal = Some refusal };
           sound = λ q. let z : ◌≡◌ {A = ℕ} 0 1 = cc in absurd (omega arith);
         };
         taken = refl;
         printed = refl;
       }
-  gives_by ended.Going q =
+  gives_by None q =
       let w = fitting ecntable here.block (whole_in piece) here.state room in
       let small = (fitting_fits Kept ecntable here.block (whole_in piece) here.state room).1 in
       let number = number_small here.block w.taken (omega (arith, small, whole_many piece, few)) in
       let kept = fitting_keeps ecntable (Sound h.zeroth) (turn_keeps h.zeroth) here.block (whole_in piece) here.state room (sound q, refl) (octets_wholes piece o) in
       let quiet = fitting_quiet ecntable turn_quiet here.block (whole_in piece) here.state room in
-      let back = ended_back w.refusal in
       rw (sound q)
       (record {
         stands = record {
-          standing = λ i. record { state = record { run = w.state.run; zeroth = sym kept.1 i }; block = number i; refusal = back i };
+          standing = λ i. record { state = record { run = w.state.run; zeroth = sym kept.1 i }; block = number i; refusal = w.refusal };
           sound = λ q. kept.0;
         };
         taken = refl;
@@ -110,11 +106,11 @@ module _ (h : Held) (piece : List ℕ) (room : ℕ) (o : Octets piece) (few : h.
   unfolding took_of
   gives = gives_by h.progress.ended refl
 
-going_by : (e : Ended) → is_going e ≡ goes_on (refusal_in e)
-going_by ended.Going = refl
-going_by (ended.Refused refusal) = refl
+going_by : (e : Option Refusal) → is_going e ≡ goes_on e
+going_by None = refl
+going_by (Some refusal) = refl
 
-ends_as : (h : Held) (rest : List ℕ) → calls.end h rest ≡ ecntable.close (standing h.progress h.zeroth).state (ending_by h.progress.block (refusal_in h.progress.ended) rest)
+ends_as : (h : Held) (rest : List ℕ) → calls.end h rest ≡ ecntable.close (standing h.progress h.zeroth).state (ending_by h.progress.block h.progress.ended rest)
 unfolding end_of
 ends_as h rest = refl
 

@@ -1,4 +1,6 @@
 -- One block that is taken, its row written where there is room. Assumes nothing.
+use Rattle.std.specs.Prelude.{Result, Ok, Err}
+use Rattle.answers.specs.declared.Unwritten.{Unwritten}
 use mathlib.Core.Path.{◌≡◌, refl, ap, ◌∙◌, subst, subst⁻¹}
 use mathlib.Core.Bool.{Bool, true, false, cond}
 use mathlib.Core.List.{List, ◌++◌}
@@ -11,8 +13,6 @@ use lib.ListN.{length, drop}
 use lib.Seq.{sets}
 use Rattle.answers.specs.Writers.{written, stored}
 use Rattle.answers.specs.declared.Refusal.{Refusal}
-use Rattle.answers.specs.declared.Written.{Written}
-use Rattle.answers.specs.declared.Written.TheVariants.{Length, Room, Refused}
 use Rattle.answers.proofs.Stores.{wrote_refused}
 use Rattle.walk.specs.Steps.{Next, goes, refuses, state_after, Stepped}
 use Rattle.walk.specs.Puts.{WasRefused}
@@ -22,29 +22,29 @@ use Rattle.convert.specs.Passes.{Forwarded, WasMoved}
 
 -- ---- one block
 
-after_same : (next : Run) (w : Written) → state_after next (goes next) w ≡ next
-after_same next (Length n) = refl
-after_same next (Room n) = refl
-after_same next (Refused refusal) = refl
+after_same : (next : Run) (w : Result ℕ Unwritten) → state_after next (goes next) w ≡ next
+after_same next (Ok n) = refl
+after_same next (Err (Unwritten.Room n)) = refl
+after_same next (Err (Unwritten.Refused refusal)) = refl
 
-pub forwarded_goes : (given : Run) {next : Run} {bytes old : List ℕ} {answer : Written} {state : Run} {out : List ℕ}
+pub forwarded_goes : (given : Run) {next : Run} {bytes old : List ℕ} {answer : Result ℕ Unwritten} {state : Run} {out : List ℕ}
     → Stepped next (goes next) bytes old answer state out → Forwarded given (goes next) bytes old answer state out
 forwarded_goes given {next} {bytes} {old} {answer} s = record { wrote = s.wrote; after = s.after ∙ after_same next answer }
 
-pub forwarded_refuses : (given : Run) {next : Next Run} {refusal : Refusal} (bytes old : List ℕ) {answer : Written} {state : Run}
-    → next ≡ refuses refusal → answer ≡ Refused refusal → state ≡ given → Forwarded given next bytes old answer state old
+pub forwarded_refuses : (given : Run) {next : Next Run} {refusal : Refusal} (bytes old : List ℕ) {answer : Result ℕ Unwritten} {state : Run}
+    → next ≡ refuses refusal → answer ≡ Err (Unwritten.Refused refusal) → state ≡ given → Forwarded given next bytes old answer state old
 forwarded_refuses given {next} {refusal} bytes old e a s = rw (e, a) (record { wrote = wrote_refused bytes old refl; after = s })
 
 -- by the writer's answer
-abbrev pub MovedAs : Next Run → List ℕ → List ℕ → ℕ → List ℕ → Run → Written → Type 0
-MovedAs next bytes old at out state (Length n) = WasMoved next bytes old at n state out
-MovedAs next bytes old at out state (Room n) = WasMoved next bytes old at n state out
-MovedAs next bytes old at out state (Refused refusal) = WasRefused next refusal old out
+abbrev pub MovedAs : Next Run → List ℕ → List ℕ → ℕ → List ℕ → Run → Result ℕ Unwritten → Type 0
+MovedAs next bytes old at out state (Ok n) = WasMoved next bytes old at n state out
+MovedAs next bytes old at out state (Err (Unwritten.Room n)) = WasMoved next bytes old at n state out
+MovedAs next bytes old at out state (Err (Unwritten.Refused refusal)) = WasRefused next refusal old out
 
 -- on the part of an output from a place on, or from its end on where the place is past it
 module _ (given : Run) (bytes old : List ℕ) (at from : ℕ) (is : from ≡ min at (length old)) where
-  by_room : (state : Run) (answer : Written) (ys : List ℕ) (small : Bool) → ltb (length (part old from)) (length bytes) ≡ small
-      → answer ≡ cond small (Room (length bytes)) (Length (length bytes)) → ys ≡ cond small (part old from) (bytes ++ drop (length bytes) (part old from))
+  by_room : (state : Run) (answer : Result ℕ Unwritten) (ys : List ℕ) (small : Bool) → ltb (length (part old from)) (length bytes) ≡ small
+      → answer ≡ cond small (Err (Unwritten.Room (length bytes))) (Ok (length bytes)) → ys ≡ cond small (part old from) (bytes ++ drop (length bytes) (part old from))
       → MovedAs (goes state) bytes old at (put_mid from (length old - from) old ys) state answer
   by_room state answer ys true t a s =
       subst⁻¹ (MovedAs (goes state) bytes old at (put_mid from (length old - from) old ys) state) a
@@ -63,7 +63,7 @@ module _ (given : Run) (bytes old : List ℕ) (at from : ℕ) (is : from ≡ min
             part_front old from bytes ys (omega arith) s ∙ ap (λ (i : ℕ). sets old i bytes) here;
       })
 
-  pub moved_of : (next : Next Run) (state : Run) (answer : Written) (ys : List ℕ) → Forwarded given next bytes (part old from) answer state ys
+  pub moved_of : (next : Next Run) (state : Run) (answer : Result ℕ Unwritten) (ys : List ℕ) → Forwarded given next bytes (part old from) answer state ys
       → MovedAs next bytes old at (put_mid from (length old - from) old ys) state answer
   unfolding written stored
   moved_of (refuses refusal) state answer ys f =

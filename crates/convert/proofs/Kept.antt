@@ -1,8 +1,9 @@
 -- A run that a block gives is sound. Assumes nothing.
+use Rattle.std.specs.Prelude.{None, Result, Ok, Err}
+use Rattle.answers.specs.declared.Refusal.{Refusal}
 use mathlib.Core.Path.{◌≡◌, refl, sym, ap, ◌∙◌, subst}
 use mathlib.Core.Bool.{true, and-true}
 use mathlib.Core.List.{List}
-use mathlib.Core.Option.{none}
 use Prim.Native.Nat.{ℕ, ◌*◌, ◌^◌, ◌≤◌, ◌<◌}
 use native.Mathlib.Omega.{arith}
 use borrow.Author.Tests.{eqb-true, leb-true, le-leb, eq-eqb}
@@ -24,9 +25,6 @@ use Rattle.source.proofs.Totalled.{SoundTotals, fresh_totals_lem, next_sound}
 use Rattle.trace.specs.Contents.{label_ok}
 use Rattle.trace.specs.Places.{zeroth_of, later_of}
 use Rattle.trace.specs.declared.Zeroth.{Zeroth}
-use Rattle.trace.specs.declared.Zeroth.TheVariants as zeroth
-use Rattle.trace.specs.declared.Later.{Later}
-use Rattle.trace.specs.declared.Later.TheVariants as later
 use Rattle.numbers.proofs.Octets.{octets_take, octets_drop}
 use Rattle.trace.proofs.Accepted.{accepted}
 use Rattle.trace.proofs.Placed.{zeroth_label}
@@ -36,7 +34,6 @@ use Rattle.table.proofs.Faults.{fault_none}
 use Rattle.table.proofs.RowFits as table
 use Rattle.walk.specs.Steps.{goes}
 use Rattle.convert.specs.declared.Run.{Run}
-use Rattle.convert.specs.declared.Begin.TheVariants as begin
 use Rattle.convert.specs.Runs.{label_of, row_of, start_by, start_of, arrived, next_by, next_of, own_label, sound_totals, run_conditions, sound_run}
 
 -- ---- what is known of a sound run
@@ -79,7 +76,7 @@ module _ {run : Run} {zeroth : List ℕ} where
   whole g = eqb-true (length zeroth) block_bytes (all_true (own_label run zeroth) 0 g.own)
 
   -- its row is not refused
-  pub row_fits : Good run zeroth → row_fault (label_of run zeroth) run.totals ≡ none
+  pub row_fits : Good run zeroth → row_fault (label_of run zeroth) run.totals ≡ None
   row_fits g = fault_none (label_of run zeroth) run.totals g.totals.good g.label g.totals.jumped g.totals.restarts
 
 -- ---- the last condition decides
@@ -119,18 +116,18 @@ pub next_good : (run : Run) (zeroth b : List ℕ) (next : Run) → Octets b → 
 unfolding next_of
 next_good run zeroth b next o g e = go (later_of run.form run.ssrc b) e
   where
-    go : (r : Later) → next_by run b r ≡ goes next → Good next zeroth
-    go (later.Arrivals n) e = let same : arrived run n b ≡ next = cc in subst (λ (r : Run). Good r zeroth) same (arrived_good run zeroth n b o g)
-    go (later.Refused refusal) e = let z : ◌≡◌ {A = ℕ} 0 1 = cc in absurd (omega arith)
+    go : (r : Result ℕ Refusal) → next_by run b r ≡ goes next → Good next zeroth
+    go (Ok n) e = let same : arrived run n b ≡ next = cc in subst (λ (r : Run). Good r zeroth) same (arrived_good run zeroth n b o g)
+    go (Err refusal) e = let z : ◌≡◌ {A = ℕ} 0 1 = cc in absurd (omega arith)
 
 -- it is of the same source
 pub next_ssrc : (run : Run) (b : List ℕ) (next : Run) → next_of run b ≡ goes next → next.ssrc ≡ run.ssrc
 unfolding next_of arrived
 next_ssrc run b next e = go (later_of run.form run.ssrc b) e
   where
-    go : (r : Later) → next_by run b r ≡ goes next → next.ssrc ≡ run.ssrc
-    go (later.Arrivals n) e = let same : arrived run n b ≡ next = cc in sym (ap (λ (r : Run). r.ssrc) same)
-    go (later.Refused refusal) e = let z : ◌≡◌ {A = ℕ} 0 1 = cc in absurd (omega arith)
+    go : (r : Result ℕ Refusal) → next_by run b r ≡ goes next → next.ssrc ≡ run.ssrc
+    go (Ok n) e = let same : arrived run n b ≡ next = cc in sym (ap (λ (r : Run). r.ssrc) same)
+    go (Err refusal) e = let z : ◌≡◌ {A = ℕ} 0 1 = cc in absurd (omega arith)
 
 -- and its row is no longer than the longest
 pub row_long : (run : Run) (zeroth : List ℕ) → run.ssrc < 2 ^ 32 → Good run zeroth → length (row_of run zeroth) ≤ row_most
@@ -139,20 +136,20 @@ row_long run zeroth small g = table.row_fits (label_of run zeroth) run.ssrc run.
 
 -- ---- the run that block 0 starts
 
-pub start_good : (zeroth : List ℕ) (run : Run) → start_of zeroth ≡ begin.Started run → Good run zeroth
+pub start_good : (zeroth : List ℕ) (run : Run) → start_of zeroth ≡ Ok run → Good run zeroth
 unfolding start_of
 start_good b run e = go (zeroth_of b) refl e
   where
-    go : (r : Zeroth) → zeroth_of b ≡ r → start_by r ≡ begin.Started run → Good run b
-    go (zeroth.Label form n ssrc) q e =
+    go : (r : Result Zeroth Refusal) → zeroth_of b ≡ r → start_by r ≡ Ok run → Good run b
+    go (Ok own) q e =
         let a = accepted b (zeroth_label b q) in
         let k = a.block in
-        let same : ◌≡◌ {A = Run} (record { form = form; length = n; ssrc = ssrc; totals = fresh_totals }) run = cc in
+        let same : ◌≡◌ {A = Run} (record { form = own.form; length = own.length; ssrc = own.ssrc; totals = fresh_totals }) run = cc in
         subst (λ (r : Run). Good r b) same
         (record {
-          own = rw (eq-eqb (length b) block_bytes k.whole, eq-eqb (word 2 b 0) (shape_of form).label k.its_kind, eq-eqb (word 2 b 2) n k.its_count, eq-eqb (word 4 b 4) ssrc k.its_ssrc);
+          own = rw (eq-eqb (length b) block_bytes k.whole, eq-eqb (word 2 b 0) (shape_of own.form).label k.its_kind, eq-eqb (word 2 b 2) own.length k.its_count, eq-eqb (word 4 b 4) own.ssrc k.its_ssrc);
           short = k.room;
           label = ap label_ok (sym k.place) ∙ a.label;
           totals = fresh_totals_lem;
         })
-    go (zeroth.Refused refusal) q e = let z : ◌≡◌ {A = ℕ} 0 1 = cc in absurd (omega arith)
+    go (Err refusal) q e = let z : ◌≡◌ {A = ℕ} 0 1 = cc in absurd (omega arith)

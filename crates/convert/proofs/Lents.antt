@@ -5,6 +5,7 @@ use mathlib.Core.List.{List, [], ◌∷◌, ◌++◌, append_assoc}
 use Prim.Native.Nat.{ℕ, zero, suc, ◌+◌, ◌-◌, ◌≤◌}
 use native.Mathlib.Omega.{arith}
 use borrow.Author.Tests.{eqb-true}
+use borrow.Rule.Slice.PartMut.{put_mid}
 use lib.Dec.{eqb}
 use lib.ListN.{length, take, drop, replicate, length-append, length-take, length-drop, length-replicate, take-append-drop}
 use lib.Seq.{sets, length-sets, sets-eq, take-append-le, drop-append-le, drop-drop, take-take, take-add, take_at, drop_at, take-nil}
@@ -38,6 +39,14 @@ zeros_hold zero = refl
 zeros_hold (suc n) = zeros_hold n
 
 -- ---- what is stored at a place
+
+-- a part that is written anew
+pub put_is_stored : (xs ys : List ℕ) (at n : ℕ) → length ys ≡ n → at + n ≤ length xs → put_mid at n xs ys ≡ sets xs at ys
+put_is_stored xs ys at n long inside =
+    let end : at + n ≡ at + length ys = omega (arith, long) in
+    ap (λ (l : List ℕ). take at xs ++ (ys ++ l)) (drop-drop n at xs ∙ ap (λ (k : ℕ). drop k xs) end)
+    ∙ sym (append_assoc (take at xs) ys (drop (at + length ys) xs))
+    ∙ sym (sets-eq ys xs at (omega (arith, long)))
 
 module _ (l : List ℕ) (at : ℕ) (vs : List ℕ) (fits : at + length vs ≤ length l) where
   pub take-sets : (n : ℕ) → n ≤ at → take n (sets l at vs) ≡ take n l

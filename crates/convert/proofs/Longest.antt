@@ -1,7 +1,7 @@
 -- No row of a pass is longer than the longest. Assumes nothing.
+use Rattle.std.specs.Prelude.{Option, Some, None, Result, Ok, Err}
 use mathlib.Core.Path.{◌≡◌, refl, ap}
 use mathlib.Core.List.{List, [], ◌∷◌}
-use mathlib.Core.Option.{Option, none, some}
 use Prim.Native.Nat.{ℕ, zero, suc, ◌*◌, ◌^◌, ◌≤◌, ◌<◌}
 use native.Mathlib.Omega.{arith}
 use lib.ListN.{length, drop, length-append}
@@ -12,7 +12,6 @@ use Rattle.numbers.proofs.Octets.{octets_take, octets_drop}
 use Rattle.table.specs.Theorems.{row_most}
 use Rattle.trace.specs.Places.{zeroth_of}
 use Rattle.trace.specs.declared.Zeroth.{Zeroth}
-use Rattle.trace.specs.declared.Zeroth.TheVariants as zeroth
 use Rattle.trace.proofs.Accepted.{accepted}
 use Rattle.trace.proofs.Placed.{zeroth_label}
 use Rattle.walk.specs.Pieces.{Octets, wholes, whole_in}
@@ -20,8 +19,6 @@ use Rattle.walk.specs.Fitting.{Took, one_more, front}
 use Rattle.walk.proofs.Cuts.{Each}
 use Rattle.walk.proofs.Pieces.{whole_many, octets_wholes}
 use Rattle.convert.specs.declared.Run.{Run}
-use Rattle.convert.specs.declared.Begin.{Begin}
-use Rattle.convert.specs.declared.Begin.TheVariants as begin
 use Rattle.convert.specs.declared.feeds.Upload.{Upload}
 use Rattle.convert.specs.Runs.{start_by, start_of}
 use Rattle.convert.specs.Tables.{Kept, ecntable}
@@ -44,19 +41,19 @@ through_few zeroth i (b ∷ bs) k f o =
   where
     go : (o : Option Refusal) (w : Took Kept) → length (ecntable.step i k b).printed.out ≤ row_most → length w.printed.out ≤ row_most * length bs
         → length (one_more (ecntable.step i k b) o w).printed.out ≤ row_most * suc (length bs)
-    go none w h e = omega (arith, h, e, length-append (ecntable.step i k b).printed.out w.printed.out)
-    go (some refusal) w h e = omega (arith, h)
+    go None w h e = omega (arith, h, e, length-append (ecntable.step i k b).printed.out w.printed.out)
+    go (Some refusal) w h e = omega (arith, h)
 
 -- the SSRC of a label has 32 bits
-start_ssrc : (b : List ℕ) (run : Run) → Octets b → start_of b ≡ begin.Started run → run.ssrc < 2 ^ 32
+start_ssrc : (b : List ℕ) (run : Run) → Octets b → start_of b ≡ Ok run → run.ssrc < 2 ^ 32
 unfolding start_of
 start_ssrc b run o e = go (zeroth_of b) refl e
   where
-    go : (z : Zeroth) → zeroth_of b ≡ z → start_by z ≡ begin.Started run → run.ssrc < 2 ^ 32
-    go (zeroth.Label form n ssrc) q e =
-        let is : ssrc ≡ run.ssrc = cc in
+    go : (z : Result Zeroth Refusal) → zeroth_of b ≡ z → start_by z ≡ Ok run → run.ssrc < 2 ^ 32
+    go (Ok label) q e =
+        let is : label.ssrc ≡ run.ssrc = cc in
         omega (arith, (accepted b (zeroth_label b q)).block.its_ssrc, word_lt b 4 4 o, is)
-    go (zeroth.Refused refusal) q e = let z : ◌≡◌ {A = ℕ} 0 1 = cc in absurd (omega arith)
+    go (Err refusal) q e = let z : ◌≡◌ {A = ℕ} 0 1 = cc in absurd (omega arith)
 
 pub done_few : (u : Upload) (lent rest : List ℕ) → Ready u lent rest → u.run.ssrc < 2 ^ 32 → Octets lent → Octets rest
     → length (done_by u lent rest).printed.out ≤ row_most * suc (wholes rest)
@@ -74,9 +71,9 @@ done_few u lent rest ready small ol or = go u.blocks refl
         omega (arith, few, whole_many rest, ap (λ (w : Took Kept). length w.printed.out) (through_later i (part_in lent ∷ whole_in rest) (held_by u lent)))
     go zero e = by (start_of (part_in lent)) refl
       where
-        by : (r : Begin) → start_of (part_in lent) ≡ r → length (through feeding 0 (part_in lent ∷ whole_in rest) (held_by u lent)).printed.out ≤ row_most * suc (wholes rest)
-        by (begin.Started run) q =
+        by : (r : Result Run Refusal) → start_of (part_in lent) ≡ r → length (through feeding 0 (part_in lent ∷ whole_in rest) (held_by u lent)).printed.out ≤ row_most * suc (wholes rest)
+        by (Ok run) q =
             let k = kept run (part_in lent) in
             let few = through_few (part_in lent) 1 (whole_in rest) k ((sound_good (start_good (part_in lent) run q), refl), start_ssrc (part_in lent) run block_octets q) (octets_wholes rest or) in
             omega (arith, few, whole_many rest, ap (λ (w : Took Kept). length w.printed.out) (label_goes (held_by u lent) (part_in lent) (whole_in rest) q))
-        by (begin.Refused refusal) q = omega (arith, ap (λ (w : Took Kept). length w.printed.out) (label_refused (held_by u lent) (part_in lent) (whole_in rest) q))
+        by (Err refusal) q = omega (arith, ap (λ (w : Took Kept). length w.printed.out) (label_refused (held_by u lent) (part_in lent) (whole_in rest) q))

@@ -1,8 +1,8 @@
 -- All whole blocks of a piece in turn, their rows counted in any case and written where there is room for all of them. Assumes nothing.
+use Rattle.std.specs.Prelude.{Option, Some, None}
 use mathlib.Core.Path.{◌≡◌, refl, sym, ap, ◌∙◌, subst}
 use mathlib.Core.Bool.{true}
 use mathlib.Core.List.{List, ◌∷◌}
-use mathlib.Core.Option.{Option, none, some}
 use Prim.Native.Nat.{ℕ, suc, ◌+◌, ◌-◌, ◌*◌, ◌^◌, ◌≤◌, ◌<◌}
 use native.Mathlib.Omega.{arith}
 use lib.ListN.{length, take, drop, length-append, length-drop}
@@ -45,7 +45,7 @@ pub record LeftAll (all rest : Took Kept) (at from : ℕ) (old out : List ℕ) (
 
 module _ {all : Took Kept} {at from : ℕ} {old out : List ℕ} {used : ℕ} where
   left_goes : (next : Kept) (bytes : List ℕ) (rest : Took Kept) {now : List ℕ} {n : ℕ}
-      → LeftAll all (one_more (record { state = next; printed = to_output bytes; refusal = none }) none rest) at from old out used
+      → LeftAll all (one_more (record { state = next; printed = to_output bytes; refusal = None }) None rest) at from old out used
       → (used + n ≤ length old → now ≡ sets out used bytes) → n ≡ length bytes → LeftAll all rest (at + block_bytes) from old now (used + n)
   left_goes next bytes rest {now} {n} l s k = record {
     state = l.state;
@@ -107,11 +107,11 @@ module _ {start : Run} {zeroth piece old : List ℕ} {from : ℕ} {run : Run} {a
   done_is first s o k = left_done s o (omega (arith, l.few, l.at_block, k.taken)) k
 
   pub passage_last : length piece - at < block_bytes → (first : ℕ)
-      → PassedBy (through ecntable first (whole_in piece) (kept start zeroth)) (kept run zeroth) at from used none old out
+      → PassedBy (through ecntable first (whole_in piece) (kept start zeroth)) (kept run zeroth) at from used None old out
   unfolding front
   passage_last h first =
       let e = whole_none (drop at piece) (omega (arith, length-drop at piece)) in
-      done_is first (kept run zeroth) none (left_same (ap (λ (bs : List (List ℕ)). through ecntable (first + l.done) bs (kept run zeroth)) e) (l.left first))
+      done_is first (kept run zeroth) None (left_same (ap (λ (bs : List (List ℕ)). through ecntable (first + l.done) bs (kept run zeroth)) e) (l.left first))
 
   module _ (h : block_bytes ≤ length piece - at) {end : ℕ} (is : end ≡ at + block_bytes) where
     -- the block as the code has it
@@ -157,7 +157,7 @@ module _ {start : Run} {zeroth piece old : List ℕ} {from : ℕ} {run : Run} {a
           sound = sound_good g;
           left = λ first.
               let behind = whole_in (drop (at + block_bytes) piece) in
-              let t : Turn Kept = record { state = kept next zeroth; printed = to_output (row_of next zeroth); refusal = none } in
+              let t : Turn Kept = record { state = kept next zeroth; printed = to_output (row_of next zeroth); refusal = None } in
               let e : suc (first + l.done) ≡ first + suc l.done = omega arith in
               let k = left_goes (kept next zeroth) (row_of next zeroth) (through ecntable (suc (first + l.done)) behind (kept next zeroth))
               (turned first t (turn_goes (first + l.done) run zeroth whole_block does))
@@ -167,9 +167,9 @@ module _ {start : Run} {zeroth piece old : List ℕ} {from : ℕ} {run : Run} {a
         }
 
     pub passage_refused : {refusal : Refusal} {now : List ℕ} → WasRefused {A = Run} (next_of run block) refusal out now → (first : ℕ)
-        → PassedBy (through ecntable first (whole_in piece) (kept start zeroth)) (kept run zeroth) at from used (some refusal) old now
+        → PassedBy (through ecntable first (whole_in piece) (kept start zeroth)) (kept run zeroth) at from used (Some refusal) old now
     passage_refused {refusal} {now} w first =
         let does : next_of run whole_block ≡ refuses refusal = ap (next_of run) (sym block_is) ∙ w.does in
         rw w.stores
-        (done_is first (kept run zeroth) (some refusal)
-        (turned first (record { state = kept run zeroth; printed = nothing; refusal = some refusal }) (turn_refuses (first + l.done) run zeroth whole_block does)))
+        (done_is first (kept run zeroth) (Some refusal)
+        (turned first (record { state = kept run zeroth; printed = nothing; refusal = Some refusal }) (turn_refuses (first + l.done) run zeroth whole_block does)))

@@ -1,12 +1,13 @@
 -- When an upload is sound, test by test, and how it is closed. Assumes nothing.
+use Rattle.std.specs.Prelude.{Option, None, Result, Ok, Err}
+use Rattle.answers.specs.declared.Refusal.{Refusal}
+use denote.Enum.Bare.{sameb}
 use mathlib.Core.Path.{◌≡◌, refl, sym, ap, ◌∙◌, subst}
 use mathlib.Core.Bool.{Bool, true, false, cond, not, ◌||◌, and-true}
 use mathlib.Core.List.{List, [], ◌∷◌}
 use Prim.Native.Nat.{ℕ, ◌≤◌, ◌<◌}
 use native.Mathlib.Omega.{arith}
 use borrow.Author.Tests.{eq-eqb, ne_eqb, eqb-true, leb-true, le-leb, ltb-true, lt-ltb}
-use denote.Enum.Declared.{tag_of}
-use types.Run.{OneOf}
 use lib.Dec.{eqb, leb}
 use lib.ListN.{length, drop}
 use Rattle.answers.specs.Conditions.{all}
@@ -14,6 +15,8 @@ use Rattle.answers.specs.declared.Refusal.TheVariants.{Incomplete, Malformed}
 use Rattle.answers.proofs.Conditions.{all_true, and_left, and_right}
 use Rattle.format.specs.Blocks.{block_bytes}
 use Rattle.format.specs.Forms.{same_form}
+use Rattle.format.proofs.Same.{same_form_lem}
+use Rattle.format.specs.contracts.Form.{the_type}
 use Rattle.format.specs.declared.Form.{Form}
 use Rattle.format.specs.declared.Form.TheVariants.{One, Two}
 use Rattle.source.specs.declared.Source.{Source}
@@ -23,10 +26,6 @@ use Rattle.source.proofs.Facts.{fresh_is}
 use Rattle.trace.specs.Contents.{every, is_zero}
 use Rattle.trace.specs.Places.{zeroth_of}
 use Rattle.trace.specs.declared.Zeroth.{Zeroth}
-use Rattle.trace.specs.declared.Zeroth.TheVariants as zeroth
-use Rattle.trace.specs.contracts.Zeroth.{the_type}
-use Rattle.walk.specs.declared.Ended.{Ended}
-use Rattle.walk.specs.declared.Ended.TheVariants.{Going}
 use Rattle.convert.specs.declared.Run.{Run}
 use Rattle.convert.specs.declared.feeds.Upload.{Upload}
 use Rattle.convert.specs.declared.feeds.Fed.{Fed}
@@ -52,31 +51,37 @@ none_counted s e = go (fresh s) (has_counted s) refl refl
         let is : sound s ≡ true = rw (p, q) in
         sym (sym p ∙ fresh_is s is ∙ eq-eqb (arrivals s) 0 e)
 
+-- what `a != b` says of two forms
+pub forms_differ : (a b : Form) → true ≡ not (sameb the_type a b) → same_form a b ≡ false
+forms_differ One One e = e
+forms_differ One Two e = refl
+forms_differ Two One e = refl
+forms_differ Two Two e = e
+
+pub forms_agree : (a b : Form) → false ≡ not (sameb the_type a b) → same_form a b ≡ true
+forms_agree One One e = refl
+forms_agree One Two e = e
+forms_agree Two One e = e
+forms_agree Two Two e = refl
+
 -- a block 0 that is refused is no run's own
-pub own_refused : (run : Run) (z : Zeroth) → OneOf (1 ∷ []) (tag_of the_type z) → own_by run z ≡ false
-own_refused run (zeroth.Label form n ssrc) h = absurd (omega arith)
-own_refused run (zeroth.Refused refusal) h = refl
+pub own_refused : (run : Run) {z : Result Zeroth Refusal} {refusal : Refusal} → z ≡ Err refusal → own_by run z ≡ false
+own_refused run e = ap (own_by run) e
 
 -- a run with its own label is sound
-same_form_lem : (a b : Form) → same_form a b ≡ true → a ≡ b
-same_form_lem One One e = refl
-same_form_lem One Two e = let z : ◌≡◌ {A = ℕ} 0 1 = cc in absurd (omega arith)
-same_form_lem Two One e = let z : ◌≡◌ {A = ℕ} 0 1 = cc in absurd (omega arith)
-same_form_lem Two Two e = refl
-
 own_good : (run : Run) (b : List ℕ) → own_by run (zeroth_of b) ≡ true → all (sound_totals run.totals) ≡ true → sound_run run b ≡ true
 own_good run b own totals = go (zeroth_of b) refl own
   where
-    go : (z : Zeroth) → zeroth_of b ≡ z → own_by run z ≡ true → sound_run run b ≡ true
-    go (zeroth.Refused refusal) q e = let z : ◌≡◌ {A = ℕ} 0 1 = cc in absurd (omega arith)
-    go (zeroth.Label form n ssrc) q e =
-        let conditions : List Bool = same_form form run.form ∷ eqb n run.length ∷ eqb ssrc run.ssrc ∷ [] in
-        let f = same_form_lem form run.form (all_true conditions 0 e) in
-        let l = eqb-true n run.length (all_true conditions 1 e) in
-        let s = eqb-true ssrc run.ssrc (all_true conditions 2 e) in
-        let same : ◌≡◌ {A = Run} (record { form = form; length = n; ssrc = ssrc; totals = fresh_totals }) (record { form = run.form; length = run.length; ssrc = run.ssrc; totals = fresh_totals }) =
+    go : (z : Result Zeroth Refusal) → zeroth_of b ≡ z → own_by run z ≡ true → sound_run run b ≡ true
+    go (Err refusal) q e = let z : ◌≡◌ {A = ℕ} 0 1 = cc in absurd (omega arith)
+    go (Ok own) q e =
+        let conditions : List Bool = same_form own.form run.form ∷ eqb own.length run.length ∷ eqb own.ssrc run.ssrc ∷ [] in
+        let f = same_form_lem own.form run.form (all_true conditions 0 e) in
+        let l = eqb-true own.length run.length (all_true conditions 1 e) in
+        let s = eqb-true own.ssrc run.ssrc (all_true conditions 2 e) in
+        let same : ◌≡◌ {A = Run} (record { form = own.form; length = own.length; ssrc = own.ssrc; totals = fresh_totals }) (record { form = run.form; length = run.length; ssrc = run.ssrc; totals = fresh_totals }) =
         λ i. record { form = f i; length = l i; ssrc = s i; totals = fresh_totals } in
-        let g = subst (λ (r : Run). Good r b) same (start_good b (record { form = form; length = n; ssrc = ssrc; totals = fresh_totals }) (start_by_lem b q)) in
+        let g = subst (λ (r : Run). Good r b) same (start_good b (record { form = own.form; length = own.length; ssrc = own.ssrc; totals = fresh_totals }) (start_by_lem b q)) in
         sound_good (record {
           own = g.own;
           short = g.short;
@@ -143,7 +148,7 @@ module _ (u : Upload) (lent : List ℕ) where
   unfolding feed_of
   feed_malformed stretch room e = rw e
 
-  pub feed_sound : (stretch : List ℕ) (room : ℕ) {e : Ended} → sound_upload u lent ≡ true → u.ended ≡ e → feed_of u lent stretch room ≡ feed_by u lent stretch room e
+  pub feed_sound : (stretch : List ℕ) (room : ℕ) {e : Option Refusal} → sound_upload u lent ≡ true → u.ended ≡ e → feed_of u lent stretch room ≡ feed_by u lent stretch room e
   unfolding feed_of
   feed_sound stretch room s e =
       ap (λ (t : Bool). cond (not t) (unchanged u lent (answer.Refused Malformed)) (feed_by u lent stretch room u.ended)) s ∙ ap (feed_by u lent stretch room) e
@@ -152,7 +157,7 @@ module _ (u : Upload) (lent : List ℕ) where
   unfolding close_of
   close_malformed e = rw e
 
-  pub close_sound : {e : Ended} → sound_upload u lent ≡ true → u.ended ≡ e → close_of u lent ≡ close_by u lent e
+  pub close_sound : {e : Option Refusal} → sound_upload u lent ≡ true → u.ended ≡ e → close_of u lent ≡ close_by u lent e
   unfolding close_of
   close_sound s e = ap (λ (t : Bool). cond (not t) (unchanged u lent (answer.Refused Malformed)) (close_by u lent u.ended)) s ∙ ap (close_by u lent) e
 
@@ -164,15 +169,15 @@ closes_unchanged is a u = rw is (record { answer = a; upload = u })
 
 -- ---- the closing call
 
-pub closes_broken : (u : Upload) (lent : List ℕ) {r : Fed} → ends_whole u ≡ false → (r.answer ≡ answer.Faulty Incomplete u.blocks 0) × (r.upload ≡ broken u) → Closes (close_by u lent Going) r
+pub closes_broken : (u : Upload) (lent : List ℕ) {r : Fed} → ends_whole u ≡ false → (r.answer ≡ answer.Faulty Incomplete u.blocks 0) × (r.upload ≡ broken u) → Closes (close_by u lent None) r
 closes_broken u lent {r} e h =
-    let same : close_by u lent Going ≡ unchanged (broken u) lent (answer.Faulty Incomplete u.blocks 0) =
+    let same : close_by u lent None ≡ unchanged (broken u) lent (answer.Faulty Incomplete u.blocks 0) =
     ap (λ (b : Bool). cond b (unchanged u lent (answer.Length 0)) (unchanged (broken u) lent (answer.Faulty Incomplete u.blocks 0))) e in
     record { answer = h.0 ∙ ap (λ (g : Given). g.answer) (sym same); upload = h.1 ∙ ap (λ (g : Given). g.upload) (sym same) }
 
-pub closes_whole : (u : Upload) (lent : List ℕ) → ends_whole u ≡ true → Closes (close_by u lent Going) (record { answer = answer.Length 0; upload = u })
+pub closes_whole : (u : Upload) (lent : List ℕ) → ends_whole u ≡ true → Closes (close_by u lent None) (record { answer = answer.Length 0; upload = u })
 closes_whole u lent e =
-    let same : close_by u lent Going ≡ unchanged u lent (answer.Length 0) =
+    let same : close_by u lent None ≡ unchanged u lent (answer.Length 0) =
     ap (λ (b : Bool). cond b (unchanged u lent (answer.Length 0)) (unchanged (broken u) lent (answer.Faulty Incomplete u.blocks 0))) e in
     record { answer = ap (λ (g : Given). g.answer) (sym same); upload = ap (λ (g : Given). g.upload) (sym same) }
 

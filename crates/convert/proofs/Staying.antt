@@ -1,8 +1,8 @@
 -- An upload that is fed stays sound. Assumes nothing.
+use Rattle.std.specs.Prelude.{Option, Some, None, Result, Ok, Err}
 use mathlib.Core.Path.{◌≡◌, refl, sym, ap, ◌∙◌}
 use mathlib.Core.Bool.{true, false}
 use mathlib.Core.List.{List, [], ◌∷◌}
-use mathlib.Core.Option.{Option, none, some}
 use Prim.Native.Nat.{ℕ, zero, suc, ◌+◌, ◌-◌, ◌*◌, ◌≤◌, ◌<◌}
 use native.Mathlib.Omega.{arith}
 use borrow.Author.Tests.{eq-eqb, ne_eqb, le-leb}
@@ -19,19 +19,13 @@ use Rattle.answers.proofs.Conditions.{and_left}
 use Rattle.trace.specs.Contents.{every, is_zero}
 use Rattle.trace.specs.Places.{zeroth_of, later_of}
 use Rattle.trace.specs.declared.Zeroth.{Zeroth}
-use Rattle.trace.specs.declared.Zeroth.TheVariants as zeroth
-use Rattle.trace.specs.declared.Later.{Later}
-use Rattle.trace.specs.declared.Later.TheVariants as later
 use Rattle.walk.specs.Steps.{Next, goes, refuses}
 use Rattle.walk.specs.Pieces.{Octets, wholes, whole_in}
 use Rattle.walk.specs.Fitting.{Took, one_more, front}
-use Rattle.walk.specs.Endings.{ended_by}
 use Rattle.walk.proofs.Cuts.{Each}
 use Rattle.walk.proofs.Fits.{front_few}
 use Rattle.walk.proofs.Pieces.{whole_many, wholes_fit, wholes_small, octets_wholes}
 use Rattle.convert.specs.declared.Run.{Run}
-use Rattle.convert.specs.declared.Begin.{Begin}
-use Rattle.convert.specs.declared.Begin.TheVariants as begin
 use Rattle.convert.specs.declared.feeds.Upload.{Upload}
 use Rattle.convert.specs.Runs.{start_by, start_of, arrived, next_by, next_of, sound_totals, sound_run}
 use Rattle.convert.specs.Tables.{Kept, taken, ecntable}
@@ -57,15 +51,15 @@ next_label : (run : Run) (b : List ℕ) (next : Run) → next_of run b ≡ goes 
 unfolding next_of arrived
 next_label run b next e = go (later_of run.form run.ssrc b) e
   where
-    go : (r : Later) → next_by run b r ≡ goes next → SameLabel run next
-    go (later.Arrivals n) e =
+    go : (r : Result ℕ Refusal) → next_by run b r ≡ goes next → SameLabel run next
+    go (Ok n) e =
         let same : arrived run n b ≡ next = cc in
         record { form = ap (λ (r : Run). r.form) same; length = ap (λ (r : Run). r.length) same; ssrc = ap (λ (r : Run). r.ssrc) same }
-    go (later.Refused refusal) e = let z : ◌≡◌ {A = ℕ} 0 1 = cc in absurd (omega arith)
+    go (Err refusal) e = let z : ◌≡◌ {A = ℕ} 0 1 = cc in absurd (omega arith)
 
-own_same : {run next : Run} → SameLabel run next → (z : Zeroth) → own_by run z ≡ own_by next z
-own_same s (zeroth.Label form n ssrc) = λ i. all (same_form form (s.form i) ∷ eqb n (s.length i) ∷ eqb ssrc (s.ssrc i) ∷ [])
-own_same s (zeroth.Refused refusal) = refl
+own_same : {run next : Run} → SameLabel run next → (z : Result Zeroth Refusal) → own_by run z ≡ own_by next z
+own_same s (Ok label) = λ i. all (same_form label.form (s.form i) ∷ eqb label.length (s.length i) ∷ eqb label.ssrc (s.ssrc i) ∷ [])
+own_same s (Err refusal) = refl
 
 turn_owned : (i : ℕ) (k : Kept) (b : List ℕ) → Owned k → Octets b → Owned (ecntable.step i k b).state
 turn_owned i k b h o = go (next_of k.run b) refl
@@ -83,20 +77,20 @@ through_owned i (b ∷ bs) k h o =
     go t.refusal (through ecntable (suc i) bs t.state) s (through_owned (suc i) bs t.state s o.1)
   where
     go : (o : Option Refusal) (w : Took Kept) → Owned (ecntable.step i k b).state → Owned w.state → Owned (one_more (ecntable.step i k b) o w).state
-    go none w h e = e
-    go (some refusal) w h e = h
+    go None w h e = e
+    go (Some refusal) w h e = h
 
-start_owned : (b : List ℕ) (run : Run) → start_of b ≡ begin.Started run → Owned (kept run b)
+start_owned : (b : List ℕ) (run : Run) → start_of b ≡ Ok run → Owned (kept run b)
 unfolding start_of
 start_owned b run e = (go (zeroth_of b) refl e, sound_good (start_good b run e))
   where
-    go : (z : Zeroth) → zeroth_of b ≡ z → start_by z ≡ begin.Started run → own_by run (zeroth_of b) ≡ true
-    go (zeroth.Label form n ssrc) q e =
-        let same : ◌≡◌ {A = Run} (record { form = form; length = n; ssrc = ssrc; totals = fresh_totals }) run = cc in
+    go : (z : Result Zeroth Refusal) → zeroth_of b ≡ z → start_by z ≡ Ok run → own_by run (zeroth_of b) ≡ true
+    go (Ok own) q e =
+        let same : ◌≡◌ {A = Run} (record { form = own.form; length = own.length; ssrc = own.ssrc; totals = fresh_totals }) run = cc in
         ap (own_by run) q
-        ∙ ap (λ (r : Run). own_by r (zeroth.Label form n ssrc)) (sym same)
-        ∙ rw (eq-eqb (shape_of form).label (shape_of form).label refl, eq-eqb n n refl, eq-eqb ssrc ssrc refl)
-    go (zeroth.Refused refusal) q e = let z : ◌≡◌ {A = ℕ} 0 1 = cc in absurd (omega arith)
+        ∙ ap (λ (r : Run). own_by r (Ok (record { form = own.form; length = own.length; ssrc = own.ssrc }))) (sym same)
+        ∙ rw (eq-eqb (shape_of own.form).label (shape_of own.form).label refl, eq-eqb own.length own.length refl, eq-eqb own.ssrc own.ssrc refl)
+    go (Err refusal) q e = let z : ◌≡◌ {A = ℕ} 0 1 = cc in absurd (omega arith)
 
 -- what the blocks leave: what there was, while none is taken, and then a run with its own label
 pub record Leaves (i : ℕ) (k : Kept) (w : Took Kept) : Type 0 where
@@ -112,11 +106,11 @@ through_leaves (suc i) bs k h o = record {
 through_leaves zero [] k h o = record { none_taken_lem = λ e. refl; owned = λ s. absurd (omega (arith, s)) }
 through_leaves zero (b ∷ bs) k h o = go (start_of b) refl
   where
-    go : (r : Begin) → start_of b ≡ r → Leaves 0 k (through feeding 0 (b ∷ bs) k)
-    go (begin.Started run) q =
+    go : (r : Result Run Refusal) → start_of b ≡ r → Leaves 0 k (through feeding 0 (b ∷ bs) k)
+    go (Ok run) q =
         rw (label_goes k b bs q)
         (record { none_taken_lem = λ e. absurd (omega (arith, e)); owned = λ s. through_owned 1 bs (kept run b) (start_owned b run q) o.1 })
-    go (begin.Refused refusal) q = rw (label_refused k b bs q) (record { none_taken_lem = λ e. refl; owned = λ s. absurd (omega (arith, s)) })
+    go (Err refusal) q = rw (label_refused k b bs q) (record { none_taken_lem = λ e. refl; owned = λ s. absurd (omega (arith, s)) })
 
 -- ---- a fed upload
 
@@ -152,16 +146,16 @@ module _ (u : Upload) (lent stretch : List ℕ) (f : WellFormed u lent) (o : Oct
 
   left_by_lem : (o : Option Refusal) → (length (left_by (rest_in bytes) o) < block_bytes) × (block_bytes * wholes bytes + length (left_by (rest_in bytes) o) ≤ length bytes)
   unfolding rest_in
-  left_by_lem none = let l = length-drop (block_bytes * wholes bytes) bytes in (omega (arith, l, wholes_small bytes), omega (arith, l, wholes_fit bytes))
-  left_by_lem (some refusal) = (omega arith, omega (arith, wholes_fit bytes))
+  left_by_lem None = let l = length-drop (block_bytes * wholes bytes) bytes in (omega (arith, l, wholes_small bytes), omega (arith, l, wholes_fit bytes))
+  left_by_lem (Some refusal) = (omega arith, omega (arith, wholes_fit bytes))
 
   pub left_small : length left < block_bytes
   left_small = (left_by_lem done.refusal).0
 
   left_octets_by : (o : Option Refusal) → Octets (left_by (rest_in bytes) o)
   unfolding rest_in
-  left_octets_by none = octets_drop (block_bytes * wholes bytes) bytes bytes_octets
-  left_octets_by (some refusal) = octets_nil
+  left_octets_by None = octets_drop (block_bytes * wholes bytes) bytes bytes_octets
+  left_octets_by (Some refusal) = octets_nil
 
   pub left_octets : Octets left
   left_octets = left_octets_by done.refusal
@@ -192,9 +186,9 @@ module _ (u : Upload) (lent stretch : List ℕ) (f : WellFormed u lent) (o : Oct
           ap (run_ok done.state.run done.state.zeroth) late
           ∙ rw (own.0, t.good, le-leb done.state.run.totals.jumped most_told t.jumped, le-leb done.state.run.totals.restarts most_told t.restarts)
 
-  ended_ok : (o : Option Refusal) → FaultOf o → keepable (ended_by o) ≡ true
-  ended_ok none h = refl
-  ended_ok (some refusal) h = h
+  ended_ok : (o : Option Refusal) → FaultOf o → keepable o ≡ true
+  ended_ok None h = refl
+  ended_ok (Some refusal) h = h
 
   pub fed_sound : WellFormed (fed_by u lent (rest_in bytes) done).upload (fed_by u lent (rest_in bytes) done).lent
   unfolding completed

@@ -1,7 +1,7 @@
 -- How the walk over all blocks of a piece ends. Assumes nothing.
+use Rattle.std.specs.Prelude.{Option, Some, None}
 use mathlib.Core.Path.{◌≡◌, refl, sym, ap, ap₂, ◌∙◌}
 use mathlib.Core.List.{List, [], ◌∷◌, ◌++◌, append-nil}
-use mathlib.Core.Option.{Option, none, some}
 use Prim.Native.Nat.{ℕ, suc, ◌+◌, ◌*◌, ◌<◌}
 use native.Mathlib.Omega.{arith}
 use lib.ListN.{length, drop, length-drop, drop_of_length-le}
@@ -23,8 +23,8 @@ use Rattle.convert.proofs.Followed.{short_turn, turn_quiet}
 -- ---- the end of the walk: a part of a block is refused with 1
 
 abbrev pub last_of : ℕ → List ℕ → Option Ending
-last_of n [] = none
-last_of n (c ∷ rest) = some (record { refusal = Incomplete; block = n })
+last_of n [] = None
+last_of n (c ∷ rest) = Some (record { refusal = Incomplete; block = n })
 
 walk_rest : (n : ℕ) (k : Kept) (rest : List ℕ) → length rest < block_bytes → walk ecntable n (blocks_in rest) k ≡ record { state = k; printed = nothing; ended = last_of n rest }
 unfolding walk onward
@@ -37,8 +37,8 @@ walk_rest n k (c ∷ rest) h =
 
 -- how a walk over a piece's blocks ends
 abbrev pub end_of : ℕ → Option Refusal → List ℕ → Option Ending
-end_of n (some refusal) rest = some (record { refusal = refusal; block = n })
-end_of n none rest = last_of n rest
+end_of n (Some refusal) rest = Some (record { refusal = refusal; block = n })
+end_of n None rest = last_of n rest
 
 both_nothing : (q : Printed) → both q nothing ≡ q
 both_nothing q = λ i. record { out = append-nil q.out i; err = append-nil q.err i }
@@ -63,17 +63,17 @@ module _ (i : ℕ) (d : List ℕ) (k : Kept) where
   walk_by : (o : Option Refusal) → whole_part.refusal ≡ o
       → onward (run_of i whole_part) more ≡ record { state = whole_part.state; printed = whole_part.printed; ended = end_of (i + whole_part.taken) o (rest_in d) }
   unfolding rest_in onward
-  walk_by (some refusal) e =
+  walk_by (Some refusal) e =
       onward_ended (run_of i whole_part) more (record { refusal = refusal; block = i + whole_part.taken }) (ap (ending_at (i + whole_part.taken)) e)
       ∙ (λ j. record { state = whole_part.state; printed = whole_part.printed; ended = ending_at (i + whole_part.taken) (e j) })
-  walk_by none e =
+  walk_by None e =
       let w = whole_part in
       let n = i + w.taken in
       let many = all_taken ecntable i (whole_in d) k e in
       let rest = drop (block_bytes * wholes d) d in
       let last = walk_rest n w.state rest (omega (arith, length-drop (block_bytes * wholes d) d, wholes_small d)) in
       ap (λ (o : Option Refusal). onward (record { state = w.state; printed = w.printed; ended = ending_at n o }) more) e
-      ∙ ap (λ (bs : List (List ℕ)). onward (record { state = w.state; printed = w.printed; ended = none }) (walk ecntable n bs)) (drop_at (whole_in d) behind w.taken (sym many))
+      ∙ ap (λ (bs : List (List ℕ)). onward (record { state = w.state; printed = w.printed; ended = None }) (walk ecntable n bs)) (drop_at (whole_in d) behind w.taken (sym many))
       ∙ ap (λ (r : Walked Kept). record { state = r.state; printed = both w.printed r.printed; ended = r.ended }) last
       ∙ ap (λ (q : Printed). record { state = w.state; printed = q; ended = last_of n rest }) (both_nothing w.printed)
 
@@ -89,5 +89,5 @@ through_quiet i (b ∷ bs) k =
     go t.refusal (through ecntable (suc i) bs t.state) (turn_quiet i k b) (through_quiet (suc i) bs t.state)
   where
     go : (o : Option Refusal) (w : Took Kept) → (ecntable.step i k b).printed.err ≡ [] → w.printed.err ≡ [] → (one_more (ecntable.step i k b) o w).printed.err ≡ []
-    go none w h e = ap (λ (l : List ℕ). l ++ w.printed.err) h ∙ e
-    go (some refusal) w h e = h
+    go None w h e = ap (λ (l : List ℕ). l ++ w.printed.err) h ∙ e
+    go (Some refusal) w h e = h

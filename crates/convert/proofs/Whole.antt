@@ -1,4 +1,6 @@
 -- What the whole run prints, block by block, and that the calls for one block each print it. Assumes nothing.
+use Rattle.std.specs.Prelude.{Result, Ok, Err}
+use Rattle.answers.specs.declared.Refusal.{Refusal}
 use mathlib.Core.Path.{◌≡◌, refl, ap, ◌∙◌, subst, subst⁻¹}
 use mathlib.Core.List.{List, ◌∷◌}
 use Prim.Native.Nat.{ℕ, suc}
@@ -11,8 +13,6 @@ use Rattle.walk.specs.Singles.{Starts, Turns, Mirrors}
 use Rattle.walk.proofs.Walks.{closed_goes}
 use Rattle.walk.proofs.Singles.{singles_print}
 use Rattle.convert.specs.declared.Run.{Run}
-use Rattle.convert.specs.declared.Begin.{Begin}
-use Rattle.convert.specs.declared.Begin.TheVariants as begin
 use Rattle.convert.specs.Runs.{row_in, row_of, start_of, next_of}
 use Rattle.convert.specs.Tables.{Kept, begun, taken, ecntable, printed}
 use Rattle.convert.specs.Theorems.{started_on, next_on, block_calls, CallsPrint}
@@ -41,16 +41,16 @@ module _ (zeroth : List ℕ) (i : ℕ) (b : List ℕ) (bs : List (List ℕ)) (ru
   rest_goes {next} e = by_next e ∙ closed_goes ecntable (turned i (taken (kept run zeroth) (goes next))) more refl
 
 -- what is printed by what block 0 does
-printed_by_lem : (trace : List ℕ) (r : Begin) → start_of (blocks_of trace).zeroth ≡ r
+printed_by_lem : (trace : List ℕ) (r : Result Run Refusal) → start_of (blocks_of trace).zeroth ≡ r
     → printed trace ≡ closed ecntable (onward (turned 0 (begun (blocks_of trace).zeroth r)) (walk ecntable 1 (blocks_of trace).others))
 unfolding printed printed_by walked
-printed_by_lem trace r e = ap (λ (r : Begin). closed ecntable (onward (turned 0 (begun (blocks_of trace).zeroth r)) (walk ecntable 1 (blocks_of trace).others))) e
+printed_by_lem trace r e = ap (λ (r : Result Run Refusal). closed ecntable (onward (turned 0 (begun (blocks_of trace).zeroth r)) (walk ecntable 1 (blocks_of trace).others))) e
 
-pub printed_started : (trace : List ℕ) (run : Run) → start_of (blocks_of trace).zeroth ≡ begin.Started run
+pub printed_started : (trace : List ℕ) (run : Run) → start_of (blocks_of trace).zeroth ≡ Ok run
     → printed trace ≡ both (to_output head_bytes) (rest 1 (blocks_of trace).others run (blocks_of trace).zeroth)
 printed_started trace run e =
-    printed_by_lem trace (begin.Started run) e
-    ∙ closed_goes ecntable (turned 0 (begun (blocks_of trace).zeroth (begin.Started run))) (walk ecntable 1 (blocks_of trace).others) refl
+    printed_by_lem trace (Ok run) e
+    ∙ closed_goes ecntable (turned 0 (begun (blocks_of trace).zeroth (Ok run))) (walk ecntable 1 (blocks_of trace).others) refl
 
 -- ---- the calls for one block each
 
@@ -58,9 +58,9 @@ printed_started trace run e =
 abbrev Same : Kept → Kept → Type 0
 Same k s = (k ≡ s) × Good k.run k.zeroth
 
-starts : (b : List ℕ) (r : Begin) → start_of b ≡ r → Starts Same block_calls ecntable (begun b r) (started_on b r) × ((begun b r).printed ≡ to_output head_bytes)
-starts b (begin.Started run) e = (((refl, start_good b run e), refl), refl)
-starts b (begin.Refused refusal) e = ((refl, refl), refl)
+starts : (b : List ℕ) (r : Result Run Refusal) → start_of b ≡ r → Starts Same block_calls ecntable (begun b r) (started_on b r) × ((begun b r).printed ≡ to_output head_bytes)
+starts b (Ok run) e = (((refl, start_good b run e), refl), refl)
+starts b (Err refusal) e = ((refl, refl), refl)
 
 turns : (k : Kept) (b : List ℕ) → Good k.run k.zeroth → Octets b → (n : Next Run) → next_of k.run b ≡ n
     → Turns Same k k (row_in k.zeroth n) (taken k n) (next_on k.zeroth n)

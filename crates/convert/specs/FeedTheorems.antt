@@ -1,6 +1,5 @@
 -- What holds of the feeds of a trace (document 02, request L7).
-use Rattle.std.specs.Prelude.{◌≡◌, true, List, [], ◌∷◌, ◌++◌, ℕ, suc, ◌+◌, ◌≤◌, ◌<◌, length, take}
-use Rattle.std.proofs.Math.Option.{Option, none, some}
+use Rattle.std.specs.Prelude.{◌≡◌, true, List, [], ◌∷◌, ◌++◌, ℕ, suc, ◌+◌, ◌≤◌, ◌<◌, length, take, Option, Some, None}
 use Rattle.answers.specs.declared.Refusal.{Refusal}
 use Rattle.answers.specs.declared.Refusal.TheVariants.{Incomplete}
 use Rattle.table.specs.Lines.{head_bytes}
@@ -8,7 +7,6 @@ use Rattle.trace.specs.Contents.{every, is_zero}
 use Rattle.walk.specs.Blocks.{blocks_of, joined}
 use Rattle.walk.specs.Pieces.{Octets}
 use Rattle.walk.specs.Programs.{Ending, to_output, walked}
-use Rattle.walk.specs.declared.Ended.TheVariants as ended
 use Rattle.convert.specs.declared.feeds.Upload.{Upload}
 use Rattle.convert.specs.declared.feeds.FeedAnswer.{FeedAnswer}
 use Rattle.convert.specs.declared.feeds.FeedAnswer.TheVariants as answer
@@ -40,7 +38,7 @@ FeedRoomIsExact = (u : Upload) (lent stretch : List ℕ) (room n : ℕ) → (fee
 -- a closing call leaves the lent bytes, and changes nothing but that the refusal 1 is kept
 pub data ClosedBy (u : Upload) (lent : List ℕ) (g : Given) : Type 0 where
   same : g ≡ unchanged u lent g.answer → ClosedBy u lent g
-  breaks : u.ended ≡ ended.Going → g ≡ unchanged (broken u) lent (answer.Faulty Incomplete u.blocks 0) → ClosedBy u lent g
+  breaks : u.ended ≡ None → g ≡ unchanged (broken u) lent (answer.Faulty Incomplete u.blocks 0) → ClosedBy u lent g
 
 abbrev pub CloseChanges : Type 0
 CloseChanges = (u : Upload) (lent : List ℕ) → ClosedBy u lent (close_of u lent)
@@ -57,7 +55,7 @@ pub record Repeats (g : Given) (refusal : Refusal) (block : ℕ) : Type 0 where
 
 abbrev pub KeptRepeats : Type 0
 KeptRepeats =
-    (u : Upload) (lent : List ℕ) (refusal : Refusal) → sound_upload u lent ≡ true → u.ended ≡ ended.Refused refusal → Repeats (repeated u lent refusal) refusal u.blocks
+    (u : Upload) (lent : List ℕ) (refusal : Refusal) → sound_upload u lent ≡ true → u.ended ≡ Some refusal → Repeats (repeated u lent refusal) refusal u.blocks
 
 abbrev pub FaultRepeats : Type 0
 FaultRepeats =
@@ -126,15 +124,15 @@ Enough rooms i g (x ∷ xs) = HasRoom g.upload g.lent x (rooms i) × Enough room
 
 -- the refusal that a closing call gives, with its block
 abbrev pub ending_in : FeedAnswer → Option Ending
-ending_in (answer.Length n) = none
-ending_in (answer.Room n) = none
-ending_in (answer.Refused refusal) = none
-ending_in (answer.Faulty refusal block n) = some (record { refusal = refusal; block = block })
+ending_in (answer.Length n) = None
+ending_in (answer.Room n) = None
+ending_in (answer.Refused refusal) = None
+ending_in (answer.Faulty refusal block n) = Some (record { refusal = refusal; block = block })
 
 -- a closing call's answer to a run that ended so
 abbrev pub closed_as : Option Ending → FeedAnswer
-closed_as none = answer.Length 0
-closed_as (some e) = answer.Faulty e.refusal e.block 0
+closed_as None = answer.Length 0
+closed_as (Some e) = answer.Faulty e.refusal e.block 0
 
 -- what was fed and then closed is the run in one go: the head line, the rows joined and the line of the refusal are what ecntable prints, and the run, the
 -- refusal and its block are those of the walk

@@ -1,7 +1,6 @@
 -- Document 02, request L7: a trace that arrives bit by bit. An upload is fed stretches of it. The first 1,024 lent bytes are block 0 and then what is kept of
 -- the next block, block 0's own too; those that stand after them are left alone.
-use Rattle.std.specs.Prelude.{◌≡◌, Bool, true, false, cond, not, ◌&&◌, ◌||◌, List, [], ◌∷◌, ◌++◌, ℕ, zero, suc, ◌+◌, ◌-◌, ◌*◌, ◌^◌, eqb, leb, ltb, length, take, drop, replicate}
-use Rattle.std.proofs.Math.Option.{Option, none, some}
+use Rattle.std.specs.Prelude.{◌≡◌, Bool, true, false, cond, not, ◌&&◌, ◌||◌, List, [], ◌∷◌, ◌++◌, ℕ, zero, suc, ◌+◌, ◌-◌, ◌*◌, ◌^◌, eqb, leb, ltb, length, take, drop, replicate, Option, Some, None, Result, Ok, Err}
 use Rattle.answers.specs.Conditions.{all}
 use Rattle.answers.specs.Refusals.{number_of}
 use Rattle.answers.specs.declared.Refusal.{Refusal}
@@ -12,16 +11,10 @@ use Rattle.source.specs.Record.{fresh}
 use Rattle.trace.specs.Contents.{every, is_zero}
 use Rattle.trace.specs.Places.{zeroth_of}
 use Rattle.trace.specs.declared.Zeroth.{Zeroth}
-use Rattle.trace.specs.declared.Zeroth.TheVariants as zeroth
 use Rattle.walk.specs.Programs.{nothing, Turn, Program}
 use Rattle.walk.specs.Pieces.{wholes, whole_in}
 use Rattle.walk.specs.Fitting.{Took, front}
-use Rattle.walk.specs.Endings.{ended_by}
-use Rattle.walk.specs.declared.Ended.{Ended}
-use Rattle.walk.specs.declared.Ended.TheVariants as ended
 use Rattle.convert.specs.declared.Run.{Run}
-use Rattle.convert.specs.declared.Begin.{Begin}
-use Rattle.convert.specs.declared.Begin.TheVariants as begin
 use Rattle.convert.specs.declared.feeds.Upload.{Upload}
 use Rattle.convert.specs.declared.feeds.FeedAnswer.{FeedAnswer}
 use Rattle.convert.specs.declared.feeds.FeedAnswer.TheVariants as answer
@@ -33,7 +26,7 @@ use Rattle.convert.specs.Tables.{Kept, no_run, ecntable}
 
 -- before the first stretch
 abbrev pub fresh_upload : Upload
-fresh_upload = record { run = no_run; blocks = 0; kept = 0; ended = ended.Going }
+fresh_upload = record { run = no_run; blocks = 0; kept = 0; ended = None }
 
 -- the bytes taken in all, at most 2^48
 abbrev pub TakenBy : Upload → ℕ
@@ -76,9 +69,9 @@ is_no_run run =
     ∷ []
 
 -- block 0 reads as a label of the run's form, length and SSRC
-abbrev pub own_by : Run → Zeroth → Bool
-own_by run (zeroth.Label form n ssrc) = all (same_form form run.form ∷ eqb n run.length ∷ eqb ssrc run.ssrc ∷ [])
-own_by run (zeroth.Refused refusal) = false
+abbrev pub own_by : Run → Result Zeroth Refusal → Bool
+own_by run (Ok label) = all (same_form label.form run.form ∷ eqb label.length run.length ∷ eqb label.ssrc run.ssrc ∷ [])
+own_by run (Err refusal) = false
 
 -- while no block is taken, the run and block 0's place are not in use; then they are a sound run and its label
 abbrev pub run_ok : Run → List ℕ → Bool → Bool
@@ -89,9 +82,9 @@ run_ok run zeroth false = own_by run (zeroth_of zeroth) && all (sound_totals run
 abbrev pub is_fault : Refusal → Bool
 is_fault refusal = eqb (number_of refusal) 1 || (eqb (number_of refusal) 13 || eqb (number_of refusal) 14)
 
-abbrev pub keepable : Ended → Bool
-keepable ended.Going = true
-keepable (ended.Refused refusal) = is_fault refusal
+abbrev pub keepable : Option Refusal → Bool
+keepable None = true
+keepable (Some refusal) = is_fault refusal
 
 abbrev pub upload_conditions : Upload → List ℕ → List Bool
 upload_conditions u lent =
@@ -109,9 +102,9 @@ sound_upload u lent = all (upload_conditions u lent)
 -- ---- the blocks
 
 -- block 0 starts the run and prints nothing, since the caller prints the head line; one that is refused leaves all as it was
-abbrev pub labelled : Kept → List ℕ → Begin → Turn Kept
-labelled k b (begin.Started run) = record { state = record { run = run; zeroth = b }; printed = nothing; refusal = none }
-labelled k b (begin.Refused refusal) = record { state = k; printed = nothing; refusal = some refusal }
+abbrev pub labelled : Kept → List ℕ → Result Run Refusal → Turn Kept
+labelled k b (Ok run) = record { state = record { run = run; zeroth = b }; printed = nothing; refusal = None }
+labelled k b (Err refusal) = record { state = k; printed = nothing; refusal = Some refusal }
 
 -- each later block prints its row, as in ecntable
 abbrev pub turn_at : ℕ → Kept → List ℕ → Turn Kept
@@ -155,19 +148,19 @@ repeated u lent refusal = unchanged u lent (answer.Faulty refusal u.blocks 0)
 
 -- a block that is refused is reported with its number and the length of the rows before it
 abbrev pub answer_by : ℕ → ℕ → Option Refusal → FeedAnswer
-answer_by block n none = answer.Length n
-answer_by block n (some refusal) = answer.Faulty refusal block n
+answer_by block n None = answer.Length n
+answer_by block n (Some refusal) = answer.Faulty refusal block n
 
 -- nothing is kept after it
 abbrev pub left_by : List ℕ → Option Refusal → List ℕ
-left_by rest none = rest
-left_by rest (some refusal) = []
+left_by rest None = rest
+left_by rest (Some refusal) = []
 
 -- `w` is what the blocks do, and `rest` what is left after them
 abbrev pub fed_by : Upload → List ℕ → List ℕ → Took Kept → Given
 fed_by u lent rest w = record {
   answer = answer_by (u.blocks + w.taken) (length w.printed.out) w.refusal;
-  upload = record { run = w.state.run; blocks = u.blocks + w.taken; kept = length (left_by rest w.refusal); ended = ended_by w.refusal };
+  upload = record { run = w.state.run; blocks = u.blocks + w.taken; kept = length (left_by rest w.refusal); ended = w.refusal };
   lent = lent_of w.state.zeroth (left_by rest w.refusal) lent;
   rows = w.printed.out;
 }
@@ -186,9 +179,9 @@ in_limits u lent stretch room =
     cond (ltb most_fed (TakenBy u + length stretch)) (unchanged u lent (answer.Refused Limits))
     (in_room u lent (rest_in (bytes_at u lent stretch)) (completed u lent (bytes_at u lent stretch)) room)
 
-abbrev pub feed_by : Upload → List ℕ → List ℕ → ℕ → Ended → Given
-feed_by u lent stretch room (ended.Refused refusal) = repeated u lent refusal
-feed_by u lent stretch room ended.Going = in_limits u lent stretch room
+abbrev pub feed_by : Upload → List ℕ → List ℕ → ℕ → Option Refusal → Given
+feed_by u lent stretch room (Some refusal) = repeated u lent refusal
+feed_by u lent stretch room None = in_limits u lent stretch room
 
 -- 9 first of all
 unfoldable pub feed_of : Upload → List ℕ → List ℕ → ℕ → Given
@@ -201,12 +194,12 @@ ends_whole u = eqb u.kept 0 && not (eqb u.blocks 0)
 
 -- 1 is kept
 abbrev pub broken : Upload → Upload
-broken u = record { run = u.run; blocks = u.blocks; kept = u.kept; ended = ended.Refused Incomplete }
+broken u = record { run = u.run; blocks = u.blocks; kept = u.kept; ended = Some Incomplete }
 
 -- the kept refusal, then 1
-abbrev pub close_by : Upload → List ℕ → Ended → Given
-close_by u lent (ended.Refused refusal) = repeated u lent refusal
-close_by u lent ended.Going = cond (ends_whole u) (unchanged u lent (answer.Length 0)) (unchanged (broken u) lent (answer.Faulty Incomplete u.blocks 0))
+abbrev pub close_by : Upload → List ℕ → Option Refusal → Given
+close_by u lent (Some refusal) = repeated u lent refusal
+close_by u lent None = cond (ends_whole u) (unchanged u lent (answer.Length 0)) (unchanged (broken u) lent (answer.Faulty Incomplete u.blocks 0))
 
 -- 9 first of all
 unfoldable pub close_of : Upload → List ℕ → Given

@@ -1,21 +1,17 @@
 -- The passes over the blocks that a feed completes: contracts of the functions in `feed_passes`.
-use Rattle.std.specs.Prelude.{◌≡◌, true, cond, List, ◌∷◌, ℕ, zero, suc, ◌+◌, ◌-◌, ◌*◌, ◌/◌, ◌^◌, ◌≤◌, ◌<◌, length, replicate, ltb}
-use Rattle.std.proofs.Math.Option.{Option}
+use Rattle.answers.specs.declared.Unwritten.{Unwritten}
+use Rattle.std.specs.Prelude.{◌≡◌, true, cond, List, ◌∷◌, ℕ, zero, suc, ◌+◌, ◌-◌, ◌*◌, ◌/◌, ◌^◌, ◌≤◌, ◌<◌, length, replicate, ltb, Option, Result, Ok, Err}
 use Rattle.std.proofs.lemmas.List.Edits.{sets}
 use Rattle.answers.specs.Writers.{Wrote}
 use Rattle.answers.specs.declared.Refusal.{Refusal}
-use Rattle.answers.specs.declared.Written.{Written}
 use Rattle.format.specs.Blocks.{block_bytes}
 use Rattle.table.specs.Theorems.{row_most}
 use Rattle.walk.specs.Steps.{Next, goes, refuses, fault_in}
 use Rattle.walk.specs.Puts.{WasRefused}
 use Rattle.walk.specs.Pieces.{whole_in}
 use Rattle.walk.specs.Fitting.{Took}
-use Rattle.walk.specs.Endings.{refusal_in}
 use Rattle.convert.specs.declared.Run.{Run}
 use Rattle.convert.specs.declared.feeds.Upload.{Upload}
-use Rattle.convert.specs.declared.feed_passes.Moved.{Moved}
-use Rattle.convert.specs.declared.feed_passes.Moved.TheVariants as moved
 use Rattle.convert.specs.declared.feed_passes.Passed.{Passed}
 use Rattle.convert.specs.Runs.{sound_run}
 use Rattle.convert.specs.Tables.{Kept, ecntable}
@@ -31,7 +27,7 @@ moved_to given (goes next) = next
 moved_to given (refuses refusal) = given
 
 -- the row is written if there is room for it, and the run is the next one in any case
-pub record Forwarded (given : Run) (next : Next Run) (bytes old : List ℕ) (answer : Written) (state : Run) (out : List ℕ) : Type 0 where
+pub record Forwarded (given : Run) (next : Next Run) (bytes old : List ℕ) (answer : Result ℕ Unwritten) (state : Run) (out : List ℕ) : Type 0 where
   pub wrote : Wrote (fault_in next) bytes old answer out
   pub after : state ≡ moved_to given next
 
@@ -40,9 +36,9 @@ pub record WasMoved (next : Next Run) (bytes old : List ℕ) (at n : ℕ) (state
   pub long : n ≡ length bytes
   pub stores : at + n ≤ length old → out ≡ sets old at bytes
 
-abbrev pub MovedBy : Next Run → List ℕ → List ℕ → ℕ → List ℕ → Moved → Type 0
-MovedBy next bytes old at out (moved.Row state n) = WasMoved next bytes old at n state out
-MovedBy next bytes old at out (moved.Refused refusal) = WasRefused next refusal old out
+abbrev pub MovedBy : Next Run → List ℕ → List ℕ → ℕ → List ℕ → Result (Run × ℕ) Refusal → Type 0
+MovedBy next bytes old at out (Ok (state, n)) = WasMoved next bytes old at n state out
+MovedBy next bytes old at out (Err refusal) = WasRefused next refusal old out
 
 -- ---- the blocks of a piece
 
@@ -63,13 +59,13 @@ pub record PassedBy (all : Took Kept) (s : Kept) (bytes from used : ℕ) (o : Op
 
 pub record PassesAll (start : Run) (zeroth piece old : List ℕ) (from : ℕ) (r : Passed) (out : List ℕ) : Type 0 where
   pub sound : sound_run r.run zeroth ≡ true
-  pub passed : (first : ℕ) → PassedBy (through ecntable first (whole_in piece) (record { run = start; zeroth = zeroth })) (record { run = r.run; zeroth = zeroth }) r.bytes from r.used (refusal_in r.ended) old out
+  pub passed : (first : ℕ) → PassedBy (through ecntable first (whole_in piece) (record { run = start; zeroth = zeroth })) (record { run = r.run; zeroth = zeroth }) r.bytes from r.used r.ended old out
 
 -- the same, of the run alone, from the front of the output on
 pub record Passes (all : Took Kept) (old : List ℕ) (r : Passed) (out : List ℕ) : Type 0 where
   pub run : all.state.run ≡ r.run
   pub taken : block_bytes * all.taken ≡ r.bytes
-  pub refusal : all.refusal ≡ refusal_in r.ended
+  pub refusal : all.refusal ≡ r.ended
   pub long : length all.printed.out ≡ r.used
   pub few : length all.printed.out ≤ row_most * all.taken
   pub stores : r.used ≤ length old → out ≡ sets old 0 all.printed.out
@@ -94,10 +90,10 @@ pub record Settleable (u : Upload) (lent rest : List ℕ) (passed : Passed) : Ty
   pub bytes : passed.bytes ≤ 2 ^ 50
 
 abbrev pub kept_of : List ℕ → Passed → List ℕ
-kept_of rest passed = left_by (rest_in rest) (refusal_in passed.ended)
+kept_of rest passed = left_by (rest_in rest) passed.ended
 
 pub record Settled (u : Upload) (lent rest : List ℕ) (passed : Passed) (r : Fed) (after : List ℕ) : Type 0 where
-  pub answer : r.answer ≡ answer_by (u.blocks + passed.bytes / block_bytes) passed.used (refusal_in passed.ended)
+  pub answer : r.answer ≡ answer_by (u.blocks + passed.bytes / block_bytes) passed.used passed.ended
   pub upload : r.upload ≡ record { run = passed.run; blocks = u.blocks + passed.bytes / block_bytes; kept = length (kept_of rest passed); ended = passed.ended }
   pub keeps : after ≡ sets (label_moved u.blocks passed.bytes lent) block_bytes (padded (kept_of rest passed))
 

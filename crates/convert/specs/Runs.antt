@@ -1,5 +1,6 @@
 -- One run of the program ecntable (document 01, "Trace file" and "Table"): what each block does to it. `zeroth` is block 0.
-use Rattle.std.specs.Prelude.{ℕ, ◌*◌, Bool, cond, List, [], ◌∷◌, eqb, leb, length, take, drop}
+use Rattle.answers.specs.declared.Refusal.{Refusal}
+use Rattle.std.specs.Prelude.{ℕ, ◌*◌, Bool, cond, List, [], ◌∷◌, eqb, leb, length, take, drop, Result, Ok, Err}
 use Rattle.answers.specs.Conditions.{all}
 use Rattle.answers.specs.declared.Refusal.TheVariants.{Malformed}
 use Rattle.format.specs.Blocks.{block_bytes, body_at, body_bytes}
@@ -12,14 +13,9 @@ use Rattle.trace.specs.Contents.{label_ok}
 use Rattle.trace.specs.Reading.{kind_in, count_in, ssrc_in}
 use Rattle.trace.specs.Places.{zeroth_of, later_of}
 use Rattle.trace.specs.declared.Zeroth.{Zeroth}
-use Rattle.trace.specs.declared.Zeroth.TheVariants as zeroth
-use Rattle.trace.specs.declared.Later.{Later}
-use Rattle.trace.specs.declared.Later.TheVariants as later
 use Rattle.walk.specs.Steps.{Next, goes, refuses}
 use Rattle.table.specs.Lines.{row_bytes}
 use Rattle.convert.specs.declared.Run.{Run}
-use Rattle.convert.specs.declared.Begin.{Begin}
-use Rattle.convert.specs.declared.Begin.TheVariants as begin
 
 -- the label in block 0, and a run's row
 abbrev pub label_of : Run → List ℕ → List ℕ
@@ -30,11 +26,11 @@ row_of run zeroth = row_bytes (label_of run zeroth) run.ssrc run.totals
 
 -- ---- block 0: a label
 
-abbrev pub start_by : Zeroth → Begin
-start_by (zeroth.Label form n ssrc) = begin.Started (record { form = form; length = n; ssrc = ssrc; totals = fresh_totals })
-start_by (zeroth.Refused refusal) = begin.Refused refusal
+abbrev pub start_by : Result Zeroth Refusal → Result Run Refusal
+start_by (Ok label) = Ok (record { form = label.form; length = label.length; ssrc = label.ssrc; totals = fresh_totals })
+start_by (Err refusal) = Err refusal
 
-unfoldable pub start_of : List ℕ → Begin
+unfoldable pub start_of : List ℕ → Result Run Refusal
 start_of b = start_by (zeroth_of b)
 
 -- ---- the others: arrivals of the label's form and SSRC
@@ -49,9 +45,9 @@ arrived run n b = record {
 }
 
 -- what a block does
-abbrev pub next_by : Run → List ℕ → Later → Next Run
-next_by run b (later.Arrivals n) = goes (arrived run n b)
-next_by run b (later.Refused refusal) = refuses refusal
+abbrev pub next_by : Run → List ℕ → Result ℕ Refusal → Next Run
+next_by run b (Ok n) = goes (arrived run n b)
+next_by run b (Err refusal) = refuses refusal
 
 unfoldable pub next_of : Run → List ℕ → Next Run
 next_of run b = next_by run b (later_of run.form run.ssrc b)

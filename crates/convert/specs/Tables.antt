@@ -1,6 +1,6 @@
 -- The whole run (document 01, "Table"): what ecntable prints for a trace.
-use Rattle.std.specs.Prelude.{ℕ, List}
-use Rattle.std.proofs.Math.Option.{Option, none, some}
+use Rattle.answers.specs.declared.Refusal.{Refusal}
+use Rattle.std.specs.Prelude.{ℕ, List, Option, Some, None, Result, Ok, Err}
 use Rattle.answers.specs.Refusals.{number_of}
 use Rattle.format.specs.declared.Form.TheVariants.{One}
 use Rattle.source.specs.Totals.{fresh_totals}
@@ -8,8 +8,6 @@ use Rattle.table.specs.Lines.{head_bytes, refused_line}
 use Rattle.walk.specs.Blocks.{blocks_of}
 use Rattle.walk.specs.Programs.{Printed, nothing, to_output, Turn, Ending, Program, printed_by}
 use Rattle.convert.specs.declared.Run.{Run}
-use Rattle.convert.specs.declared.Begin.{Begin}
-use Rattle.convert.specs.declared.Begin.TheVariants.{Started, Refused}
 use Rattle.walk.specs.Steps.{Next, goes, refuses}
 use Rattle.convert.specs.Runs.{row_of, start_of, next_of}
 
@@ -23,23 +21,23 @@ abbrev pub no_run : Run
 no_run = record { form = One; length = 0; ssrc = 0; totals = fresh_totals }
 
 -- the head line always; a label block starts a run
-abbrev pub begun : List ℕ → Begin → Turn Kept
-begun zeroth (Started run) = record { state = record { run = run; zeroth = zeroth }; printed = to_output head_bytes; refusal = none }
-begun zeroth (Refused refusal) = record {
+abbrev pub begun : List ℕ → Result Run Refusal → Turn Kept
+begun zeroth (Ok run) = record { state = record { run = run; zeroth = zeroth }; printed = to_output head_bytes; refusal = None }
+begun zeroth (Err refusal) = record {
   state = record { run = no_run; zeroth = zeroth };
   printed = to_output head_bytes;
-  refusal = some refusal;
+  refusal = Some refusal;
 }
 
 -- one row after each arrivals block
 abbrev pub taken : Kept → Next Run → Turn Kept
-taken k (goes next) = record { state = record { run = next; zeroth = k.zeroth }; printed = to_output (row_of next k.zeroth); refusal = none }
-taken k (refuses refusal) = record { state = k; printed = nothing; refusal = some refusal }
+taken k (goes next) = record { state = record { run = next; zeroth = k.zeroth }; printed = to_output (row_of next k.zeroth); refusal = None }
+taken k (refuses refusal) = record { state = k; printed = nothing; refusal = Some refusal }
 
 -- the first refused block prints `refused N block I` and ends the run
 abbrev pub closing : Option Ending → Printed
-closing none = nothing
-closing (some e) = to_output (refused_line (number_of e.refusal) e.block)
+closing None = nothing
+closing (Some e) = to_output (refused_line (number_of e.refusal) e.block)
 
 abbrev pub ecntable : Program Kept
 ecntable = record {

@@ -2,8 +2,6 @@
 ghost use Rattle.std.specs.Prelude.{◌≡◌, true, List, ℕ, ◌+◌, ◌≤◌, ◌<◌, length, drop};
 ghost use Rattle.std.proofs.lemmas.List.Edits.{sets};
 ghost use Rattle.format.specs.Blocks.{block_bytes};
-ghost use Rattle.walk.specs.Endings.{refusal_in};
-ghost use Rattle.walk.specs.declared.Ended.TheVariants.{Going};
 ghost use Rattle.convert.specs.declared.feeds.FeedAnswer.TheVariants.{Length};
 ghost use Rattle.convert.specs.Feeds.{lent_bytes, left_by, rest_in, answer_by, sound_upload, in_limits, Feeds};
 ghost use Rattle.convert.specs.Passes.{kept_more, label_moved, Ready, Settleable, Settled, Wanted, CanAdd, CanComplete, added_by, room_of};
@@ -14,28 +12,27 @@ use crate::feeds::{Fed, FeedAnswer, Upload};
 use answers::Refusal;
 use answers::copy::put_bytes;
 use format::block::BLOCK;
-use walk::Ended;
 
 // No row is longer.
 const ROW: usize = 1228;
 
 // Where the bytes begin that are kept of those after the last block: none are after a faulty one.
-fn left_from(n: usize, ended: Ended) -> usize
-    ensures { ((rest : List ℕ) → length rest ≡ n → drop result rest ≡ left_by (rest_in rest) (refusal_in ended)) × (result ≤ n) × (n < result + block_bytes) }
+fn left_from(n: usize, ended: Option<Refusal>) -> usize
+    ensures { ((rest : List ℕ) → length rest ≡ n → drop result rest ≡ left_by (rest_in rest) ended) × (result ≤ n) × (n < result + block_bytes) }
 {
     match ended {
-        Ended::Going => n / BLOCK * BLOCK,
-        Ended::Refused(_) => n,
+        None => n / BLOCK * BLOCK,
+        Some(_) => n,
     }
 }
 
 // The answer of a pass that wrote its rows.
-fn answer_of(ended: Ended, block: u64, length: usize) -> FeedAnswer
-    ensures { result ≡ answer_by block length (refusal_in ended) }
+fn answer_of(ended: Option<Refusal>, block: u64, length: usize) -> FeedAnswer
+    ensures { result ≡ answer_by block length ended }
 {
     match ended {
-        Ended::Going => FeedAnswer::Length(length),
-        Ended::Refused(refusal) => FeedAnswer::Faulty {
+        None => FeedAnswer::Length(length),
+        Some(refusal) => FeedAnswer::Faulty {
             refusal,
             block,
             length,
@@ -62,20 +59,18 @@ fn settle(u: Upload, lent: &mut [u8], rest: &[u8], passed: Passed) -> Fed
     requires { Settleable u lent.old rest.now passed }
     ensures { Settled u lent.old rest.now passed result lent.new }
 {
-    let run = passed.run;
-    let ended = passed.ended;
     let blocks = u.blocks + (passed.bytes / BLOCK) as u64;
-    let from = left_from(rest.len(), ended);
+    let from = left_from(rest.len(), passed.ended);
     move_label(u.blocks, passed.bytes, lent);
     keep(lent, &rest[from..]);
     let upload = Upload {
-        run,
+        run: passed.run,
         blocks,
         kept: rest.len() - from,
-        ended,
+        ended: passed.ended,
     };
     Fed {
-        answer: answer_of(ended, blocks, passed.used),
+        answer: answer_of(passed.ended, blocks, passed.used),
         upload,
     }
 }
@@ -113,13 +108,9 @@ fn keep_more(u: Upload, lent: &mut [u8], stretch: &[u8]) -> Fed
     requires { u.kept + length stretch.now < block_bytes }
     ensures { (result.answer ≡ Length 0) × (result.upload ≡ kept_more u (length stretch.now)) × (lent.new ≡ sets lent.old (block_bytes + u.kept) stretch.now) }
 {
-    let run = u.run;
-    let ended = u.ended;
     let upload = Upload {
-        run,
-        blocks: u.blocks,
         kept: u.kept + stretch.len(),
-        ended,
+        ..u
     };
     put_bytes(stretch, lent, BLOCK + u.kept);
     Fed {
@@ -133,15 +124,14 @@ fn complete(u: Upload, lent: &mut [u8], stretch: &[u8], out: &mut [u8]) -> Fed
     requires { CanComplete u lent.old stretch.now }
     ensures { Feeds (room_of u lent.old stretch.now (length out.old)) out.old result lent.new out.new }
 {
-    let front = 0;
     let missing = BLOCK - u.kept;
-    put_bytes(&stretch[front..missing], lent, BLOCK + u.kept);
+    put_bytes(&stretch[..missing], lent, BLOCK + u.kept);
     add_blocks(u, lent, &stretch[missing..], out)
 }
 
 // Takes a stretch. Refusals: 10, 12, the block's.
 pub fn take_stretch(u: Upload, lent: &mut [u8], stretch: &[u8], out: &mut [u8]) -> Fed
-    requires { (sound_upload u lent.old ≡ true) × (u.ended ≡ Going) }
+    requires { (sound_upload u lent.old ≡ true) × (u.ended ≡ None) }
     ensures { Feeds (in_limits u lent.old stretch.now (length out.old)) out.old result lent.new out.new }
 {
     let taken = 512 * u.blocks + u.kept as u64;

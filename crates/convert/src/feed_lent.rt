@@ -11,16 +11,14 @@ use format::block::BLOCK;
 // How many they are.
 pub const LENT: usize = 1024;
 
-// Whether all bytes of s are zero.
+// Whether all bytes of s are zero. (trace has the same for the contents of blocks, in a module of its own that is private.)
 pub fn all_zero(s: &[u8]) -> bool
     requires { length s.now ≤ block_bytes }
     ensures { result ≡ every is_zero s.now }
 {
     let mut sum: u32 = 0;
-    let mut i = 0;
-    while i < s.len() {
-        sum += s[i] as u32;
-        i += 1;
+    for &b in s {
+        sum += b as u32;
     }
     sum == 0
 }
@@ -30,11 +28,7 @@ pub fn clear(lent: &mut [u8], from: usize)
     requires { (from ≤ lent_bytes) × (lent_bytes ≤ length lent.old) }
     ensures { lent.new ≡ sets lent.old from (replicate (lent_bytes - from) 0) }
 {
-    let mut i = from;
-    while i < LENT {
-        lent[i] = 0;
-        i += 1;
-    }
+    lent[from..LENT].fill(0);
 }
 
 // Stores the next block as block 0.
@@ -42,11 +36,8 @@ pub fn move_block(lent: &mut [u8])
     requires { lent_bytes ≤ length lent.old }
     ensures { lent.new ≡ sets lent.old 0 (part_in lent.old) }
 {
-    let mut i = 0;
-    while i < BLOCK {
-        lent[i] = lent[BLOCK + i];
-        i += 1;
-    }
+    let (label, next) = lent.split_at_mut(BLOCK);
+    label.copy_from_slice(&next[..BLOCK]);
 }
 
 // Stores what is kept of the next block, and zeros after it.

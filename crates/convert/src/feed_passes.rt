@@ -1,6 +1,6 @@
 // All whole blocks of a piece in turn, of a run that was found sound. Their rows are counted in any case, and written where out has room for all of them: a
 // pass with no room tells the rows' length.
-ghost use Rattle.std.specs.Prelude.{◌≡◌, true, List, ◌∷◌, ℕ, suc, ◌≤◌, min, length};
+ghost use Rattle.std.specs.Prelude.{◌≡◌, true, List, ◌∷◌, ℕ, suc, ◌≤◌, length};
 ghost use Rattle.format.specs.Blocks.{block_bytes};
 ghost use Rattle.walk.specs.Pieces.{whole_in};
 ghost use Rattle.convert.specs.Runs.{sound_run, row_in, next_of};
@@ -9,17 +9,9 @@ ghost use Rattle.convert.specs.Passes.{MovedBy, Passable, PassesAll, Passes, Rea
 
 use crate::feed_lent::LENT;
 use crate::feeds::Upload;
-use crate::{Begin, Run, rows};
-use answers::{Refusal, Written};
+use crate::{Run, rows};
+use answers::{Refusal, Unwritten};
 use format::block::BLOCK;
-use walk::Ended;
-
-// A block that was taken: the next run and the row's length, or why the block is refused.
-#[derive(Clone, Copy)]
-enum Moved {
-    Row { run: Run, length: usize },
-    Refused(Refusal),
-}
 
 // How far a pass came: the run, the bytes that it took, the place in out after the rows, and whether the next block was refused.
 #[derive(Clone, Copy)]
@@ -27,37 +19,26 @@ pub struct Passed {
     pub run: Run,
     pub bytes: usize,
     pub used: usize,
-    pub ended: Ended,
-}
-
-fn least(a: usize, b: usize) -> usize
-    ensures { result ≡ min a b }
-{
-    if a < b {
-        return a;
-    }
-    b
+    pub ended: Option<Refusal>,
 }
 
 // Takes a block and writes its row from a place of out on, if there is room.
-fn forward_at(run: Run, zeroth: &[u8], block: &[u8], out: &mut [u8], at: usize) -> Moved
+fn forward_at(
+    run: Run,
+    zeroth: &[u8],
+    block: &[u8],
+    out: &mut [u8],
+    at: usize,
+) -> Result<(Run, usize), Refusal>
     requires { sound_run run zeroth.now ≡ true }
     ensures { MovedBy (next_of run block.now) (row_in zeroth.now (next_of run block.now)) out.old at out.new result }
 {
-    let from = least(at, out.len());
+    let from = at.min(out.len());
     let step = rows::forward(run, zeroth, block, &mut out[from..]);
-    let next = step.run;
-    let answer = step.answer;
-    match answer {
-        Written::Length(n) => Moved::Row {
-            run: next,
-            length: n,
-        },
-        Written::Room(n) => Moved::Row {
-            run: next,
-            length: n,
-        },
-        Written::Refused(refusal) => Moved::Refused(refusal),
+    match step.answer {
+        Ok(n) => Ok((step.run, n)),
+        Err(Unwritten::Room(n)) => Ok((step.run, n)),
+        Err(Unwritten::Refused(refusal)) => Err(refusal),
     }
 }
 
@@ -69,20 +50,20 @@ fn take_all(start: Run, zeroth: &[u8], piece: &[u8], out: &mut [u8], from: usize
     let mut run = start;
     let mut at = 0;
     let mut used = from;
+    // A loop with a step of its own: it stops in front of a block, whose place is given.
     while BLOCK <= piece.len() - at {
         let end = at + BLOCK;
-        let moved = forward_at(run, zeroth, &piece[at..end], out, used);
-        match moved {
-            Moved::Row { run: next, length } => {
+        match forward_at(run, zeroth, &piece[at..end], out, used) {
+            Ok((next, length)) => {
                 run = next;
                 used += length;
             }
-            Moved::Refused(refusal) => {
+            Err(refusal) => {
                 return Passed {
                     run,
                     bytes: at,
                     used,
-                    ended: Ended::Refused(refusal),
+                    ended: Some(refusal),
                 };
             }
         }
@@ -92,7 +73,7 @@ fn take_all(start: Run, zeroth: &[u8], piece: &[u8], out: &mut [u8], from: usize
         run,
         bytes: at,
         used,
-        ended: Ended::Going,
+        ended: None,
     }
 }
 
@@ -102,22 +83,18 @@ fn from_label(given: Run, block: &[u8], rest: &[u8], out: &mut [u8]) -> Passed
     ensures { (zeroth : List ℕ) → Passes (through feeding 0 (block.now ∷ whole_in rest.now) (record { run = given; zeroth = zeroth })) out.old result out.new }
 {
     match Run::start(block) {
-        Begin::Started(run) => {
+        Ok(run) => {
             let last = take_all(run, block, rest, out, 0);
-            let next = last.run;
-            let ended = last.ended;
             Passed {
-                run: next,
                 bytes: BLOCK + last.bytes,
-                used: last.used,
-                ended,
+                ..last
             }
         }
-        Begin::Refused(refusal) => Passed {
+        Err(refusal) => Passed {
             run: given,
             bytes: 0,
             used: 0,
-            ended: Ended::Refused(refusal),
+            ended: Some(refusal),
         },
     }
 }
@@ -128,19 +105,13 @@ fn from_block(run: Run, zeroth: &[u8], block: &[u8], rest: &[u8], out: &mut [u8]
     ensures { (i : ℕ) → Passes (through feeding (suc i) (block.now ∷ whole_in rest.now) (record { run = run; zeroth = zeroth.now })) out.old result out.new }
 {
     let first = take_all(run, zeroth, block, out, 0);
-    let before = first.ended;
-    let Ended::Going = before else {
+    let None = first.ended else {
         return first;
     };
-    let middle = first.run;
-    let last = take_all(middle, zeroth, rest, out, first.used);
-    let next = last.run;
-    let ended = last.ended;
+    let last = take_all(first.run, zeroth, rest, out, first.used);
     Passed {
-        run: next,
         bytes: BLOCK + last.bytes,
-        used: last.used,
-        ended,
+        ..last
     }
 }
 
@@ -149,12 +120,10 @@ pub fn pass(u: Upload, lent: &[u8], rest: &[u8], out: &mut [u8]) -> Passed
     requires { Ready u lent.now rest.now }
     ensures { Passes (through feeding u.blocks (part_in lent.now ∷ whole_in rest.now) (held_by u lent.now)) out.old result out.new }
 {
-    let run = u.run;
     if u.blocks == 0 {
-        return from_label(run, &lent[BLOCK..LENT], rest, out);
+        return from_label(u.run, &lent[BLOCK..LENT], rest, out);
     }
-    let front = 0;
-    from_block(run, &lent[front..BLOCK], &lent[BLOCK..LENT], rest, out)
+    from_block(u.run, &lent[..BLOCK], &lent[BLOCK..LENT], rest, out)
 }
 
 // The length of the rows that a pass writes.

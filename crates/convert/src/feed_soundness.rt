@@ -16,7 +16,6 @@ use format::block::BLOCK;
 use source::Source;
 use trace::Zeroth;
 use trace::places::read_label;
-use walk::Ended;
 
 // Whether a source's record is fresh: a sound one that has counted nothing.
 fn is_fresh(s: Source) -> bool
@@ -41,10 +40,7 @@ fn is_fresh(s: Source) -> bool
 fn is_no_run(run: Run) -> bool
     ensures { result ≡ all (is_no_run run) }
 {
-    let form = run.form;
-    let totals = run.totals;
-    let source = totals.source;
-    if form.label() != Form::One.label() {
+    if run.form != Form::One {
         return false;
     }
     if 0 < run.length {
@@ -53,25 +49,23 @@ fn is_no_run(run: Run) -> bool
     if 0 < run.ssrc {
         return false;
     }
-    if !is_fresh(source) {
+    if !is_fresh(run.totals.source) {
         return false;
     }
-    if 0 < totals.jumped {
+    if 0 < run.totals.jumped {
         return false;
     }
-    totals.restarts == 0
+    run.totals.restarts == 0
 }
 
 // Whether block 0 reads as the run's label.
 fn is_own(run: Run, zeroth: &[u8]) -> bool
     ensures { result ≡ own_by run (zeroth_of zeroth.now) }
 {
-    let own = run.form;
-    let read = read_label(zeroth);
-    let Zeroth::Label { form, length, ssrc } = read else {
+    let Ok(Zeroth { form, length, ssrc }) = read_label(zeroth) else {
         return false;
     };
-    if form.label() != own.label() {
+    if form != run.form {
         return false;
     }
     if length != run.length {
@@ -94,31 +88,26 @@ fn is_run(run: Run, zeroth: &[u8], blocks: u64) -> bool
     if !is_own(run, zeroth) {
         return false;
     }
-    let totals = run.totals;
-    are_sound(totals)
+    are_sound(run.totals)
 }
 
 // Whether a refusal is one that a trace's block has.
 fn is_fault(refusal: Refusal) -> bool
     ensures { result ≡ is_fault refusal }
 {
-    let n = refusal.number();
-    if n == 1 {
-        return true;
-    }
-    if n == 13 {
-        return true;
-    }
-    n == 14
+    matches!(
+        refusal,
+        Refusal::Incomplete | Refusal::Checksum | Refusal::Contents
+    )
 }
 
 // Whether no refusal is kept, or such a one.
-fn is_kept(ended: Ended) -> bool
+fn is_kept(ended: Option<Refusal>) -> bool
     ensures { result ≡ keepable ended }
 {
     match ended {
-        Ended::Going => true,
-        Ended::Refused(refusal) => is_fault(refusal),
+        None => true,
+        Some(refusal) => is_fault(refusal),
     }
 }
 
@@ -137,25 +126,21 @@ fn is_taken(blocks: u64, kept: usize) -> bool
 pub fn is_sound(u: Upload, lent: &[u8]) -> bool
     ensures { result ≡ sound_upload u lent.now }
 {
-    let run = u.run;
-    let ended = u.ended;
-    let kept = u.kept;
     if lent.len() < LENT {
         return false;
     }
-    if BLOCK <= kept {
+    if BLOCK <= u.kept {
         return false;
     }
-    if !is_taken(u.blocks, kept) {
+    if !is_taken(u.blocks, u.kept) {
         return false;
     }
-    let from = BLOCK + kept;
+    let from = BLOCK + u.kept;
     if !all_zero(&lent[from..LENT]) {
         return false;
     }
-    let front = 0;
-    if !is_run(run, &lent[front..BLOCK], u.blocks) {
+    if !is_run(u.run, &lent[..BLOCK], u.blocks) {
         return false;
     }
-    is_kept(ended)
+    is_kept(u.ended)
 }

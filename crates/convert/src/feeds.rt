@@ -2,7 +2,6 @@
 // caller lends 1,024 bytes between the calls, block 0 and then the partial block, and prints the head line.
 ghost use Rattle.std.specs.Prelude.{◌≡◌, List, ℕ, length};
 ghost use Rattle.answers.specs.declared.Refusal.TheVariants.{Incomplete};
-ghost use Rattle.walk.specs.declared.Ended.TheVariants.{Going};
 ghost use Rattle.convert.specs.declared.feeds.FeedAnswer.TheVariants.{Faulty};
 ghost use Rattle.convert.specs.Numbered.{feed_as};
 ghost use Rattle.convert.specs.Feeds.{fresh_upload, broken, feed_of, close_by, close_of, Feeds, Closes};
@@ -11,7 +10,6 @@ use crate::feed_blocks::take_stretch;
 use crate::feed_soundness::is_sound;
 use crate::{Run, no_run};
 use answers::Refusal;
-use walk::Ended;
 
 // How far a trace has come: the run, the whole blocks taken, how many bytes of the next are kept, 0 to 511, and whether a refusal is kept: 1, 13 or 14, its
 // block the number of blocks taken.
@@ -20,7 +18,7 @@ pub struct Upload {
     pub run: Run,
     pub blocks: u64,
     pub kept: usize,
-    pub ended: Ended,
+    pub ended: Option<Refusal>,
 }
 
 // The answer to a call: the length of the rows; 12, with the length that the rows have; 9 or 10; or the refusal of a block, with the block's number and the
@@ -65,19 +63,16 @@ fn broken(u: Upload) -> Fed
         block: u.blocks,
         length: 0,
     };
-    let run = u.run;
     let upload = Upload {
-        run,
-        blocks: u.blocks,
-        kept: u.kept,
-        ended: Ended::Refused(Refusal::Incomplete),
+        ended: Some(Refusal::Incomplete),
+        ..u
     };
     Fed { answer, upload }
 }
 
 // Closes a sound upload that goes on.
 fn closed(u: Upload) -> Fed
-    ensures { (lent : List ℕ) → Closes (close_by u lent Going) result }
+    ensures { (lent : List ℕ) → Closes (close_by u lent None) result }
 {
     if 0 < u.kept {
         return broken(u);
@@ -103,7 +98,7 @@ impl Upload {
             run: no_run(),
             blocks: 0,
             kept: 0,
-            ended: Ended::Going,
+            ended: None,
         }
     }
 
@@ -120,10 +115,9 @@ impl Upload {
                 upload: self,
             };
         }
-        let ended = self.ended;
-        match ended {
-            Ended::Refused(refusal) => repeated(self, refusal),
-            Ended::Going => take_stretch(self, lent, stretch, out),
+        match self.ended {
+            Some(refusal) => repeated(self, refusal),
+            None => take_stretch(self, lent, stretch, out),
         }
     }
 
@@ -139,10 +133,9 @@ impl Upload {
                 upload: self,
             };
         }
-        let ended = self.ended;
-        match ended {
-            Ended::Refused(refusal) => repeated(self, refusal),
-            Ended::Going => closed(self),
+        match self.ended {
+            Some(refusal) => repeated(self, refusal),
+            None => closed(self),
         }
     }
 }

@@ -8,7 +8,7 @@ ghost use Rattle.convert.specs.Numbered.{begin_as};
 ghost use Rattle.convert.specs.Runs.{start_of, call_next, row_in};
 ghost use Rattle.convert.specs.Tables.{no_run};
 
-use answers::{Refusal, Written};
+use answers::{Refusal, Unwritten};
 use format::Form;
 use source::Totals;
 use trace::Zeroth;
@@ -32,17 +32,10 @@ pub struct Run {
     pub totals: Totals,
 }
 
-// The answer to block 0: the run, or why it is refused.
-#[derive(Clone, Copy)]
-pub enum Begin {
-    Started(Run),
-    Refused(Refusal),
-}
-
 // The answer to a later block: what the row's writer says, and the next run where the row was written, else the run that was given.
 #[derive(Clone, Copy)]
 pub struct Step {
-    pub answer: Written,
+    pub answer: Result<usize, Unwritten>,
     pub run: Run,
 }
 
@@ -50,33 +43,28 @@ pub struct Step {
 fn no_run() -> Run
     ensures { result ≡ no_run }
 {
-    let totals = Totals::fresh();
     Run {
         form: Form::One,
         length: 0,
         ssrc: 0,
-        totals,
+        totals: Totals::fresh(),
     }
 }
 
 impl Run {
     // Takes block 0, which must be a label block. Refusals: 1, 13 and 14, as `read_label` gives them.
-    pub fn start(zeroth: &[u8]) -> Begin
+    pub fn start(zeroth: &[u8]) -> Result<Run, Refusal>
         ensures value { result ≡ start_of zeroth.now }
         ensures numbered { begin_as result ≡ begin_as (start_of zeroth.now) }
     {
-        match read_label(zeroth) {
-            Zeroth::Label { form, length, ssrc } => {
-                let totals = Totals::fresh();
-                Begin::Started(Run {
-                    form,
-                    length,
-                    ssrc,
-                    totals,
-                })
-            }
-            Zeroth::Refused(refusal) => Begin::Refused(refusal),
-        }
+        let Zeroth { form, length, ssrc } = read_label(zeroth)?;
+        let totals = Totals::fresh();
+        Ok(Run {
+            form,
+            length,
+            ssrc,
+            totals,
+        })
     }
 
     // Takes a later block, which must hold arrivals of the label's form and SSRC, and writes the row after it at the front of out. `zeroth` is block 0.

@@ -1,41 +1,39 @@
 // A run of ecntable over pieces of a trace, in three calls: block 0; the whole blocks of a piece; the end. What they write, joined, is what the program prints,
 // however the trace is cut (specs/Pieces, `trace_prints`).
 ghost use Rattle.std.specs.Prelude.{◌≡◌, true, ◌≤◌, length};
-ghost use Rattle.std.proofs.Math.Option.{none};
 ghost use Rattle.answers.specs.Refusals.{number_of};
 ghost use Rattle.answers.specs.Writers.{Wrote};
-ghost use Rattle.answers.specs.declared.Written.TheVariants.{Length};
 ghost use Rattle.table.specs.Lines.{refused_line};
 ghost use Rattle.walk.specs.Puts.{PutBy};
 ghost use Rattle.convert.specs.Runs.{sound_run, row_in, next_of};
 ghost use Rattle.convert.specs.Pieces.{begin_of, not_begun, Begins, Fitted, Takes, Ends};
 
 use crate::soundness::is_sound;
-use crate::{Begin, Run, Step, no_run, rows};
-use answers::{Refusal, Written};
+use crate::{Run, Step, no_run, rows};
+use answers::{Refusal, Unwritten};
 use format::block::BLOCK;
 use table::{write_head, write_refused};
-use walk::{Closed, Ended, number_after};
+use walk::{Closed, number_after};
 
 // How far a run has come: what is kept between blocks, the number of the next block, and whether that was refused.
 #[derive(Clone, Copy)]
 pub struct Progress {
     pub run: Run,
     pub block: u64,
-    pub ended: Ended,
+    pub ended: Option<Refusal>,
 }
 
 // The answer to block 0: what the writer of the head line says, and the progress.
 #[derive(Clone, Copy)]
 pub struct Begun {
-    pub answer: Written,
+    pub answer: Result<usize, Unwritten>,
     pub progress: Progress,
 }
 
 // The answer to a piece: what was written, how many bytes of the piece were taken, and the progress.
 #[derive(Clone, Copy)]
 pub struct Taken {
-    pub answer: Written,
+    pub answer: Result<usize, Unwritten>,
     pub bytes: usize,
     pub progress: Progress,
 }
@@ -46,7 +44,7 @@ struct Reach {
     run: Run,
     bytes: usize,
     used: usize,
-    ended: Ended,
+    ended: Option<Refusal>,
 }
 
 // The progress behind block 0.
@@ -54,15 +52,15 @@ fn started(zeroth: &[u8]) -> Progress
     ensures { result ≡ begin_of zeroth.now }
 {
     match Run::start(zeroth) {
-        Begin::Started(run) => Progress {
+        Ok(run) => Progress {
             run,
             block: 1,
-            ended: Ended::Going,
+            ended: None,
         },
-        Begin::Refused(refusal) => Progress {
+        Err(refusal) => Progress {
             run: no_run(),
             block: 0,
-            ended: Ended::Refused(refusal),
+            ended: Some(refusal),
         },
     }
 }
@@ -74,7 +72,7 @@ fn not_begun() -> Progress
     Progress {
         run: no_run(),
         block: 0,
-        ended: Ended::Going,
+        ended: None,
     }
 }
 
@@ -94,29 +92,29 @@ fn take_fitting(start: Run, zeroth: &[u8], piece: &[u8], out: &mut [u8]) -> Reac
     let mut run = start;
     let mut at = 0;
     let mut used = 0;
+    // A loop with a step of its own: it stops in front of a block, whose place is given.
     while BLOCK <= piece.len() - at {
         let end = at + BLOCK;
         let step = put_row(run, zeroth, &piece[at..end], out, used);
-        let answer = step.answer;
-        match answer {
-            Written::Length(n) => {
+        match step.answer {
+            Ok(n) => {
                 run = step.run;
                 used += n;
             }
-            Written::Room(_) => {
+            Err(Unwritten::Room(_)) => {
                 return Reach {
                     run,
                     bytes: at,
                     used,
-                    ended: Ended::Going,
+                    ended: None,
                 };
             }
-            Written::Refused(refusal) => {
+            Err(Unwritten::Refused(refusal)) => {
                 return Reach {
                     run,
                     bytes: at,
                     used,
-                    ended: Ended::Refused(refusal),
+                    ended: Some(refusal),
                 };
             }
         }
@@ -126,12 +124,12 @@ fn take_fitting(start: Run, zeroth: &[u8], piece: &[u8], out: &mut [u8]) -> Reac
         run,
         bytes: at,
         used,
-        ended: Ended::Going,
+        ended: None,
     }
 }
 
 // A piece of which nothing is taken.
-fn none_taken(progress: Progress, answer: Written) -> Taken
+fn none_taken(progress: Progress, answer: Result<usize, Unwritten>) -> Taken
     ensures { result ≡ record { answer = answer; bytes = 0; progress = progress } }
 {
     Taken {
@@ -143,12 +141,12 @@ fn none_taken(progress: Progress, answer: Written) -> Taken
 
 // The end of a run by a refusal at a block.
 fn refused_at(refusal: Refusal, block: u64, out: &mut [u8]) -> Closed
-    ensures { (result.err ≡ Length 0) × Wrote none (refused_line (number_of refusal) block) out.old result.out out.new }
+    ensures { (result.err ≡ Ok 0) × Wrote None (refused_line (number_of refusal) block) out.old result.out out.new }
 {
     let line = write_refused(refusal.number(), block, out);
     Closed {
         out: line,
-        err: Written::Length(0),
+        err: Ok(0),
     }
 }
 
@@ -160,11 +158,11 @@ impl Progress {
     {
         let answer = write_head(out);
         match answer {
-            Written::Length(_) => Begun {
+            Ok(_) => Begun {
                 answer,
                 progress: started(zeroth),
             },
-            _ => Begun {
+            Err(_) => Begun {
                 answer,
                 progress: not_begun(),
             },
@@ -176,24 +174,20 @@ impl Progress {
     pub fn blocks(self, zeroth: &[u8], piece: &[u8], out: &mut [u8]) -> Taken
         ensures { Takes self zeroth.now piece.now out.old result out.new }
     {
-        let run = self.run;
-        let before = self.ended;
-        let Ended::Going = before else {
-            return none_taken(self, Written::Length(0));
+        let None = self.ended else {
+            return none_taken(self, Ok(0));
         };
-        if !is_sound(run, zeroth) {
-            return none_taken(self, Written::Refused(Refusal::Malformed));
+        if !is_sound(self.run, zeroth) {
+            return none_taken(self, Err(Unwritten::Refused(Refusal::Malformed)));
         }
-        let reach = take_fitting(run, zeroth, piece, out);
-        let next = reach.run;
-        let ended = reach.ended;
+        let reach = take_fitting(self.run, zeroth, piece, out);
         let progress = Progress {
-            run: next,
+            run: reach.run,
             block: number_after(self.block, (reach.bytes / BLOCK) as u64),
-            ended,
+            ended: reach.ended,
         };
         Taken {
-            answer: Written::Length(reach.used),
+            answer: Ok(reach.used),
             bytes: reach.bytes,
             progress,
         }
@@ -204,14 +198,13 @@ impl Progress {
     pub fn end(self, rest: &[u8], out: &mut [u8], err: &mut [u8]) -> Closed
         ensures { Ends self rest.now out.old err.old result out.new err.new }
     {
-        let ended = self.ended;
-        match ended {
-            Ended::Refused(refusal) => refused_at(refusal, self.block, out),
-            Ended::Going => {
+        match self.ended {
+            Some(refusal) => refused_at(refusal, self.block, out),
+            None => {
                 if rest.len() == 0 {
                     return Closed {
-                        out: Written::Length(0),
-                        err: Written::Length(0),
+                        out: Ok(0),
+                        err: Ok(0),
                     };
                 }
                 refused_at(Refusal::Incomplete, self.block, out)

@@ -1,26 +1,24 @@
 // The row after an arrivals block, of a run that was found sound.
 ghost use Rattle.std.specs.Prelude.{◌≡◌, true};
-ghost use Rattle.answers.specs.declared.Written.TheVariants.{Refused};
-ghost use Rattle.trace.specs.Reading.{block_of};
 ghost use Rattle.trace.specs.declared.Block.{Block};
+ghost use Rattle.trace.specs.Reading.{block_of};
 ghost use Rattle.walk.specs.Steps.{goes, Stepped};
 ghost use Rattle.convert.specs.Runs.{sound_run, row_of, row_in, arrived, next_of};
 ghost use Rattle.convert.specs.Passes.{Forwarded};
 
 use crate::{Run, Step};
-use answers::{Refusal, Written};
+use answers::{Refusal, Unwritten};
 use engine::count_block;
 use format::block::BODY;
 use table::write_row;
-use trace::Later;
 use trace::places::read_own;
 
 // A refusal, with the run that was given.
 pub fn refused(run: Run, refusal: Refusal) -> Step
-    ensures { (result.answer ≡ Refused refusal) × (result.run ≡ run) }
+    ensures { (result.answer ≡ Err (Unwritten.Refused refusal)) × (result.run ≡ run) }
 {
     Step {
-        answer: Written::Refused(refusal),
+        answer: Err(Unwritten::Refused(refusal)),
         run,
     }
 }
@@ -30,38 +28,31 @@ fn row(run: Run, next: Run, zeroth: &[u8], out: &mut [u8]) -> Step
     requires { sound_run next zeroth.now ≡ true }
     ensures { Stepped run (goes next) (row_of next zeroth.now) out.old result.answer result.run out.new }
 {
-    let length = next.length;
-    let totals = next.totals;
-    let end = BODY + length;
-    let answer = write_row(&zeroth[BODY..end], next.ssrc, totals, out);
+    let end = BODY + next.length;
+    let answer = write_row(&zeroth[BODY..end], next.ssrc, next.totals, out);
     match answer {
-        Written::Length(_) => Step { answer, run: next },
-        _ => Step { answer, run },
+        Ok(_) => Step { answer, run: next },
+        Err(_) => Step { answer, run },
     }
 }
 
 // The run with the n arrivals of a block.
 fn counted(run: Run, n: usize, block: &[u8]) -> Run
-    requires { block_of block.now ≡ Block.Arrivals run.form n run.ssrc }
+    requires { block_of block.now ≡ Ok (Block.Arrivals run.form n run.ssrc) }
     ensures { result ≡ arrived run n block.now }
 {
-    let before = run.totals;
-    let source = before.source;
-    let form = run.form;
-    let width = form.width();
+    let width = run.form.width();
     let end = BODY + n * width;
-    let totals = before.with_block(count_block(source, &block[BODY..end], width));
+    let counted = count_block(run.totals.source, &block[BODY..end], width);
     Run {
-        form,
-        length: run.length,
-        ssrc: run.ssrc,
-        totals,
+        totals: run.totals.with_block(counted),
+        ..run
     }
 }
 
 // Counts the n arrivals of a block and writes the row after it.
 fn arrivals(run: Run, zeroth: &[u8], n: usize, block: &[u8], out: &mut [u8]) -> Step
-    requires { (sound_run run zeroth.now ≡ true) × (block_of block.now ≡ Block.Arrivals run.form n run.ssrc) }
+    requires { (sound_run run zeroth.now ≡ true) × (block_of block.now ≡ Ok (Block.Arrivals run.form n run.ssrc)) }
     ensures { Stepped run (goes (arrived run n block.now)) (row_of (arrived run n block.now) zeroth.now) out.old result.answer result.run out.new }
 {
     let next = counted(run, n, block);
@@ -73,16 +64,15 @@ pub fn step(run: Run, zeroth: &[u8], block: &[u8], out: &mut [u8]) -> Step
     requires { sound_run run zeroth.now ≡ true }
     ensures { Stepped run (next_of run block.now) (row_in zeroth.now (next_of run block.now)) out.old result.answer result.run out.new }
 {
-    let form = run.form;
-    match read_own(form, run.ssrc, block) {
-        Later::Arrivals { count } => arrivals(run, zeroth, count, block, out),
-        Later::Refused(refusal) => refused(run, refusal),
+    match read_own(run.form, run.ssrc, block) {
+        Ok(count) => arrivals(run, zeroth, count, block, out),
+        Err(refusal) => refused(run, refusal),
     }
 }
 
 // Counts the n arrivals of a block and writes the row after it; the next run comes back also where out has no room.
 fn forward_row(run: Run, zeroth: &[u8], n: usize, block: &[u8], out: &mut [u8]) -> Step
-    requires { (sound_run run zeroth.now ≡ true) × (block_of block.now ≡ Block.Arrivals run.form n run.ssrc) }
+    requires { (sound_run run zeroth.now ≡ true) × (block_of block.now ≡ Ok (Block.Arrivals run.form n run.ssrc)) }
     ensures { Forwarded run (goes (arrived run n block.now)) (row_of (arrived run n block.now) zeroth.now) out.old result.answer result.run out.new }
 {
     let next = counted(run, n, block);
@@ -94,9 +84,8 @@ pub fn forward(run: Run, zeroth: &[u8], block: &[u8], out: &mut [u8]) -> Step
     requires { sound_run run zeroth.now ≡ true }
     ensures { Forwarded run (next_of run block.now) (row_in zeroth.now (next_of run block.now)) out.old result.answer result.run out.new }
 {
-    let form = run.form;
-    match read_own(form, run.ssrc, block) {
-        Later::Arrivals { count } => forward_row(run, zeroth, count, block, out),
-        Later::Refused(refusal) => refused(run, refusal),
+    match read_own(run.form, run.ssrc, block) {
+        Ok(count) => forward_row(run, zeroth, count, block, out),
+        Err(refusal) => refused(run, refusal),
     }
 }

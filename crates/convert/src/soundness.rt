@@ -6,7 +6,7 @@ ghost use Rattle.convert.specs.Runs.{own_label, sound_totals, sound_run};
 use crate::Run;
 use format::block::{BLOCK, BODY, BODY_BYTES, COUNT, KIND, SSRC};
 use numbers::big_endian::{read16, read32};
-use source::{Lost, Totals};
+use source::Totals;
 use trace::label::is_label;
 
 // Whether block 0 is the run's own. (Its header says so: no checksum is taken per call.)
@@ -16,8 +16,7 @@ fn is_own(run: Run, zeroth: &[u8]) -> bool
     if zeroth.len() != BLOCK {
         return false;
     }
-    let form = run.form;
-    if read16(zeroth, KIND) != form.label() {
+    if read16(zeroth, KIND) != run.form.label() {
         return false;
     }
     if read16(zeroth, COUNT) as usize != run.length {
@@ -30,8 +29,7 @@ fn is_own(run: Run, zeroth: &[u8]) -> bool
 pub fn are_sound(t: Totals) -> bool
     ensures { result ≡ all (sound_totals t) }
 {
-    let source = t.source;
-    let Lost::Packets(_) = source.lost() else {
+    let Ok(_) = t.source.lost() else {
         return false;
     };
     if Totals::MOST < t.jumped {
@@ -44,17 +42,15 @@ pub fn are_sound(t: Totals) -> bool
 pub fn is_sound(run: Run, zeroth: &[u8]) -> bool
     ensures { result ≡ sound_run run zeroth.now }
 {
-    let length = run.length;
-    let totals = run.totals;
     if !is_own(run, zeroth) {
         return false;
     }
-    if BODY_BYTES < length {
+    if BODY_BYTES < run.length {
         return false;
     }
-    let end = BODY + length;
+    let end = BODY + run.length;
     if !is_label(&zeroth[BODY..end]) {
         return false;
     }
-    are_sound(totals)
+    are_sound(run.totals)
 }

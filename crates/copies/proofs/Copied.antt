@@ -1,7 +1,7 @@
 -- Lists of a trace's own blocks: put together, cut again, and copied by a program. Assumes nothing.
+use Rattle.std.specs.Prelude.{Option, Some, None, Ok}
 use mathlib.Core.Path.{◌≡◌, refl, sym, ap, ◌∙◌}
 use mathlib.Core.List.{List, [], ◌∷◌, ◌++◌, append_assoc}
-use mathlib.Core.Option.{Option, none, some}
 use Prim.Native.Nat.{ℕ, zero, suc, ◌+◌, ◌*◌, ◌≤◌}
 use native.Mathlib.Omega.{arith}
 use native.Mathlib.Decide.{ℕ_discrete}
@@ -11,7 +11,6 @@ use Rattle.answers.specs.declared.Refusal.{Refusal}
 use Rattle.format.specs.Blocks.{block_bytes}
 use Rattle.format.specs.declared.Form.{Form}
 use Rattle.trace.specs.Places.{zeroth_of}
-use Rattle.trace.specs.declared.Zeroth.TheVariants as zeroth
 use Rattle.trace.proofs.Placed.{zeroth_short, later_short}
 use Rattle.walk.specs.Blocks.{cut, blocks_of, joined}
 use Rattle.walk.specs.Programs.{to_output, both, Turn, Program}
@@ -26,7 +25,7 @@ use Rattle.copies.proofs.Fronts.{fault_by_lem}
 -- ---- a trace's own block is whole
 
 module _ (form : Form) (ssrc : ℕ) where
-  pub own_long : (b : List ℕ) → fault_of form ssrc b ≡ none → length b ≡ block_bytes
+  pub own_long : (b : List ℕ) → fault_of form ssrc b ≡ None → length b ≡ block_bytes
   own_long b e = go (ℕ_discrete (length b) block_bytes)
     where
       go : Dec (length b ≡ block_bytes) → length b ≡ block_bytes
@@ -41,7 +40,7 @@ module _ (form : Form) (ssrc : ℕ) where
   all_long (b ∷ bs) h = (own_long b h.0, all_long bs h.1)
 
 -- and so is a label
-pub label_long : (b : List ℕ) {form : Form} {n ssrc : ℕ} → zeroth_of b ≡ zeroth.Label form n ssrc → length b ≡ block_bytes
+pub label_long : (b : List ℕ) {form : Form} {n ssrc : ℕ} → zeroth_of b ≡ Ok (record { form = form; length = n; ssrc = ssrc }) → length b ≡ block_bytes
 label_long b {form} {n} {ssrc} e = go (ℕ_discrete (length b) block_bytes)
   where
     go : Dec (length b ≡ block_bytes) → length b ≡ block_bytes
@@ -80,7 +79,7 @@ abbrev pub behind : {S : Type 0} → List ℕ → ℕ → Took S → Took S
 behind bytes many w = record { state = w.state; taken = many + w.taken; printed = both (to_output bytes) w.printed; refusal = w.refusal }
 
 module _ {S : Type 0} (p : Program S) (s : S) (form : Form) (ssrc : ℕ)
-    (copies : (i : ℕ) (b : List ℕ) → fault_of form ssrc b ≡ none → p.step i s b ≡ record { state = s; printed = to_output b; refusal = none }) where
+    (copies : (i : ℕ) (b : List ℕ) → fault_of form ssrc b ≡ None → p.step i s b ≡ record { state = s; printed = to_output b; refusal = None }) where
   none_copied : (i more : ℕ) (bs : List (List ℕ)) → front p i (0 + more) bs s ≡ behind [] 0 (front p (i + 0) more bs s)
   none_copied i more bs =
       let w = front p i more bs s in
@@ -91,7 +90,7 @@ module _ {S : Type 0} (p : Program S) (s : S) (form : Form) (ssrc : ℕ)
       ∙ (λ j. record { state = w.state; taken = same j; printed = w.printed; refusal = w.refusal })
       ∙ ap (λ (n : ℕ). behind [] 0 (front p n more bs s)) here
 
-  one_copied : (i more : ℕ) (b : List ℕ) (bs : List (List ℕ)) (bytes : List ℕ) (many : ℕ) (w : Took S) → fault_of form ssrc b ≡ none
+  one_copied : (i more : ℕ) (b : List ℕ) (bs : List (List ℕ)) (bytes : List ℕ) (many : ℕ) (w : Took S) → fault_of form ssrc b ≡ None
       → front p (suc i) (many + more) bs s ≡ behind bytes many w → front p i (suc many + more) (b ∷ bs) s ≡ behind (b ++ bytes) (suc many) w
   unfolding front
   one_copied i more b bs bytes many w own back =
@@ -99,7 +98,7 @@ module _ {S : Type 0} (p : Program S) (s : S) (form : Form) (ssrc : ℕ)
       let same : suc (many + w.taken) ≡ suc many + w.taken = omega arith in
       ap (λ (n : ℕ). front p i n (b ∷ bs) s) few
       ∙ ap (λ (t : Turn S). one_more t t.refusal (front p (suc i) (many + more) bs t.state)) (copies i b own)
-      ∙ ap (one_more (record { state = s; printed = to_output b; refusal = none }) none) back
+      ∙ ap (one_more (record { state = s; printed = to_output b; refusal = None }) None) back
       ∙ (λ j. record {
         state = w.state;
         taken = same j;
@@ -121,8 +120,8 @@ module _ {S : Type 0} (p : Program S) (s : S) (form : Form) (ssrc : ℕ)
           → front p (suc i) (rest.many + more) bs s ≡ behind (joined (take rest.many bs)) rest.many (front p (suc i + rest.many) more (drop rest.many bs) s)
           → let f = sound_by o rest in
           front p i (f.many + more) (b ∷ bs) s ≡ behind (joined (take f.many (b ∷ bs))) f.many (front p (i + f.many) more (drop f.many (b ∷ bs)) s)
-      go none own back =
+      go None own back =
           let here : suc i + rest.many ≡ i + suc rest.many = omega arith in
           one_copied i more b bs (joined (take rest.many bs)) rest.many (front p (suc i + rest.many) more (drop rest.many bs) s) own back
           ∙ ap (λ (n : ℕ). behind (b ++ joined (take rest.many bs)) (suc rest.many) (front p n more (drop rest.many bs) s)) here
-      go (some refusal) own back = none_copied i more (b ∷ bs)
+      go (Some refusal) own back = none_copied i more (b ∷ bs)

@@ -1,6 +1,6 @@
 -- The hypotheses are met; each theorem is used with what meets its own. Assumes nothing.
+use Rattle.std.specs.Prelude.{Some}
 use mathlib.Core.Path.{◌≡◌, refl}
-use mathlib.Core.Option.{some}
 use Rattle.answers.specs.declared.Refusal.TheVariants.{FormTwo}
 use Rattle.numbers.specs.BigEndian.{word, bytes}
 use Rattle.format.specs.declared.Form.TheVariants.{One, Two}
@@ -28,7 +28,7 @@ late_sound : SoundTrace late Two 0 1
 unfolding label_block arrivals_block record_bytes records_bytes header filled checked bytes words ones_add ones_sum word block_of right_check contents_of label_body label_byte every arrivals_body count_ok good_records cut blocks_of zeroth_of later_of fault_of
 late_sound = record { label = refl; own = (refl, tt) }
 
-late_refused : (walked ecnforms (blocks_of late)).ended ≡ some (record { refusal = FormTwo; block = 1 })
+late_refused : (walked ecnforms (blocks_of late)).ended ≡ Some (record { refusal = FormTwo; block = 1 })
 unfolding label_block arrivals_block record_bytes records_bytes header filled checked bytes words ones_add ones_sum word block_of right_check contents_of label_body label_byte every arrivals_body count_ok good_records records_in record_at list_of cut blocks_of zeroth_of later_of walked walk onward timed next_of
 late_refused = refl
 

@@ -1,6 +1,5 @@
 -- Traces whose blocks are all sound, with which the hypotheses of the theorems are met.
-use Rattle.std.specs.Prelude.{◌≡◌, List, [], ◌∷◌, ◌++◌, ℕ}
-use Rattle.std.proofs.Math.Option.{none, some}
+use Rattle.std.specs.Prelude.{◌≡◌, List, [], ◌∷◌, ◌++◌, ℕ, Some, None}
 use Rattle.answers.specs.declared.Refusal.TheVariants.{FormTwo}
 use Rattle.format.specs.Forms.{shape_of}
 use Rattle.format.specs.declared.Form.TheVariants.{One, Two}
@@ -31,7 +30,7 @@ pub record Met : Type 0 where
   -- CopyIsCut, TableAccepts
   pub sound : SoundTrace whole One 4 1
   -- AcceptedIsSound
-  pub accepted : (walked ecntable (blocks_of whole)).ended ≡ none
+  pub accepted : (walked ecntable (blocks_of whole)).ended ≡ None
   -- FormsRefuseTimes
   pub late_sound : SoundTrace late Two 0 1
-  pub late_refused : (walked ecnforms (blocks_of late)).ended ≡ some (record { refusal = FormTwo; block = 1 })
+  pub late_refused : (walked ecnforms (blocks_of late)).ended ≡ Some (record { refusal = FormTwo; block = 1 })

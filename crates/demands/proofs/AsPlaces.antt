@@ -1,8 +1,8 @@
 -- Lines as places of a table, and a block's arrivals counted for either. Assumes nothing.
+use Rattle.std.specs.Prelude.{Option, Some, None, Ok}
 use mathlib.Core.Path.{◌≡◌, refl, sym, ap, ◌∙◌}
 use mathlib.Core.Bool.{Bool, true, false, cond}
 use mathlib.Core.List.{List, [], ◌∷◌, map}
-use mathlib.Core.Option.{Option, none, some}
 use Prim.Native.Nat.{ℕ, ◌+◌, ◌*◌, ◌/◌, ◌%◌, ◌≤◌}
 use native.Mathlib.Omega.{arith}
 use borrow.Author.Tests.{eqb-true, ltb-true, ltb-false, le-leb, eq-eqb}
@@ -44,8 +44,8 @@ abbrev pub ssrc_of : Line → ℕ
 ssrc_of l = l.ssrc
 
 abbrev pub source_in : Option Line → Option Source
-source_in none = none
-source_in (some l) = some l.totals.source
+source_in None = None
+source_in (Some l) = Some l.totals.source
 
 pub found_as_lem : (ssrc : ℕ) (ls : List Line) → found ssrc (map place_of ls) ≡ source_in (found_by ssrc_of ssrc ls)
 unfolding found found_by
@@ -53,25 +53,25 @@ found_as_lem ssrc [] = refl
 found_as_lem ssrc (l ∷ ls) = go (eqb l.ssrc ssrc) (found_as_lem ssrc ls)
   where
     go : (t : Bool) → found ssrc (map place_of ls) ≡ source_in (found_by ssrc_of ssrc ls)
-        → cond t (some l.totals.source) (found ssrc (map place_of ls)) ≡ source_in (cond t (some l) (found_by ssrc_of ssrc ls))
+        → cond t (Some l.totals.source) (found ssrc (map place_of ls)) ≡ source_in (cond t (Some l) (found_by ssrc_of ssrc ls))
     go true e = refl
     go false e = e
 
 -- a new SSRC is put where the line is added
-pub put_added : (new : Line) (ls : List Line) → found_by ssrc_of new.ssrc ls ≡ none → put (place_of new) (map place_of ls) ≡ map place_of (added_by ssrc_of new ls)
+pub put_added : (new : Line) (ls : List Line) → found_by ssrc_of new.ssrc ls ≡ None → put (place_of new) (map place_of ls) ≡ map place_of (added_by ssrc_of new ls)
 unfolding put added_by found_by
 put_added new [] e = refl
 put_added new (l ∷ ls) e = go (ltb l.ssrc new.ssrc) (eqb l.ssrc new.ssrc) (put_added new ls) e
   where
-    go : (a b : Bool) → (found_by ssrc_of new.ssrc ls ≡ none → put (place_of new) (map place_of ls) ≡ map place_of (added_by ssrc_of new ls))
-        → cond b (some l) (found_by ssrc_of new.ssrc ls) ≡ none
+    go : (a b : Bool) → (found_by ssrc_of new.ssrc ls ≡ None → put (place_of new) (map place_of ls) ≡ map place_of (added_by ssrc_of new ls))
+        → cond b (Some l) (found_by ssrc_of new.ssrc ls) ≡ None
         → cond a (place_of l ∷ put (place_of new) (map place_of ls)) (place_of new ∷ cond b (map place_of ls) (place_of l ∷ map place_of ls)) ≡ map place_of (cond a (l ∷ added_by ssrc_of new ls) (new ∷ l ∷ ls))
     go a true more e = let z : ◌≡◌ {A = ℕ} 0 1 = cc in absurd (omega arith)
     go true false more e = ap (λ (ps : List Place). place_of l ∷ ps) (more e)
     go false false more e = refl
 
 -- and one that is held where the line is renewed
-pub put_renewed : (new : Line) (ls : List Line) (least : ℕ) {l : Line} → rising least (map place_of ls) ≡ true → found_by ssrc_of new.ssrc ls ≡ some l
+pub put_renewed : (new : Line) (ls : List Line) (least : ℕ) {l : Line} → rising least (map place_of ls) ≡ true → found_by ssrc_of new.ssrc ls ≡ Some l
     → put (place_of new) (map place_of ls) ≡ map place_of (renewed_by ssrc_of new ls)
 unfolding put renewed_by found_by
 put_renewed new [] least r e = let z : ◌≡◌ {A = ℕ} 0 1 = cc in absurd (omega arith)
@@ -80,15 +80,15 @@ put_renewed new (m ∷ ls) least {l} r e =
     go (eqb m.ssrc new.ssrc) refl (ltb m.ssrc new.ssrc) refl (put_renewed new ls (m.ssrc + 1) rest) rest e
   where
     go : (a : Bool) → eqb m.ssrc new.ssrc ≡ a → (b : Bool) → ltb m.ssrc new.ssrc ≡ b
-        → (found_by ssrc_of new.ssrc ls ≡ some l → put (place_of new) (map place_of ls) ≡ map place_of (renewed_by ssrc_of new ls))
-        → rising (m.ssrc + 1) (map place_of ls) ≡ true → cond a (some m) (found_by ssrc_of new.ssrc ls) ≡ some l
+        → (found_by ssrc_of new.ssrc ls ≡ Some l → put (place_of new) (map place_of ls) ≡ map place_of (renewed_by ssrc_of new ls))
+        → rising (m.ssrc + 1) (map place_of ls) ≡ true → cond a (Some m) (found_by ssrc_of new.ssrc ls) ≡ Some l
         → cond b (place_of m ∷ put (place_of new) (map place_of ls)) (place_of new ∷ cond a (map place_of ls) (place_of m ∷ map place_of ls)) ≡ map place_of (cond a (new ∷ ls) (m ∷ renewed_by ssrc_of new ls))
     go true ha true hb more r e = absurd (let x = eqb-true m.ssrc new.ssrc ha in let y = ltb-true m.ssrc new.ssrc hb in omega arith)
     go true ha false hb more r e = refl
     go false ha true hb more r e = ap (λ (ps : List Place). place_of m ∷ ps) (more e)
     go false ha false hb more r e =
         let above = ltb-false m.ssrc new.ssrc hb in
-        let gone : source_in (some l) ≡ none = ap source_in (sym e) ∙ sym (found_as_lem new.ssrc ls) ∙ below_none new.ssrc (m.ssrc + 1) (map place_of ls) (omega arith) r in
+        let gone : source_in (Some l) ≡ None = ap source_in (sym e) ∙ sym (found_as_lem new.ssrc ls) ∙ below_none new.ssrc (m.ssrc + 1) (map place_of ls) (omega arith) r in
         let z : ◌≡◌ {A = ℕ} 0 1 = cc in
         absurd (omega arith)
 
@@ -97,7 +97,7 @@ put_renewed new (m ∷ ls) least {l} r e =
 in_limits_lem : (w : ℕ) (s : List ℕ) → Limits w s → all (in_limits w s) ≡ true
 in_limits_lem w s l = rw (le-leb 4 w l.wide, eq-eqb (length s % w) 0 l.whole, le-leb 1 (length s / w) l.some, le-leb (length s / w) 62 l.few, l.fit)
 
-module _ (b : List ℕ) (form : Form) (n ssrc : ℕ) (is : block_of b ≡ read.Arrivals form n ssrc) where
+module _ (b : List ℕ) (form : Form) (n ssrc : ℕ) (is : block_of b ≡ Ok (read.Arrivals form n ssrc)) where
   abbrev pub w : ℕ
   w = width (shape_of form)
 

@@ -1,4 +1,5 @@
 -- Both forms give the same final row. Assumes nothing.
+use Rattle.std.specs.Prelude.{Ok}
 use mathlib.Core.Path.{◌≡◌, refl, sym, ap, ap₂, ◌∙◌, subst}
 use mathlib.Core.List.{List, [], ◌∷◌, ◌++◌}
 use Prim.Native.Nat.{ℕ, ◌≤◌}
@@ -43,7 +44,7 @@ module _ (form : Form) (ssrc : ℕ) where
       ∙ ap (λ (n : Next (List Record)). taken_from n (records_taken form ssrc bs)) (sym g.0.goes_on_lem)
 
 -- a trace that no block is refused of
-module _ (trace : List ℕ) (form : Form) (n ssrc : ℕ) (o : Octets (drop block_bytes trace)) (label : block_of (blocks_of trace).zeroth ≡ Label form n ssrc) (none_told : (converted trace).err ≡ []) where
+module _ (trace : List ℕ) (form : Form) (n ssrc : ℕ) (o : Octets (drop block_bytes trace)) (label : block_of (blocks_of trace).zeroth ≡ Ok (Label form n ssrc)) (none_told : (converted trace).err ≡ []) where
   going : Each (Goes form ssrc) (blocks_of trace).others
   going = going_on 1 (blocks_of trace).others (record { form = form; ssrc = ssrc; held = [] }) (sym (ap (λ (p : Printed). p.err) (converted_started trace label)) ∙ none_told)
 

@@ -1,8 +1,9 @@
 -- What is read in a compound of an RR and feedback packets. Assumes nothing.
+use Rattle.std.specs.Prelude.{Option, Some, None}
+use Rattle.rtcp.specs.declared.Feedback.{Feedback}
 use mathlib.Core.Path.{◌≡◌, refl, sym, ap, ap₂, ◌∙◌}
 use mathlib.Core.Bool.{Bool, true, false, cond}
 use mathlib.Core.List.{List, [], ◌∷◌, ◌++◌, map, flat_map, append_assoc}
-use mathlib.Core.Option.{Option, none, some}
 use Prim.Native.Nat.{ℕ, ◌+◌, ◌-◌, ◌*◌, ◌/◌, ◌%◌, ◌^◌, ◌≤◌, ◌<◌}
 use native.Mathlib.Nat.{add-zero}
 use native.Mathlib.Omega.{arith}
@@ -18,8 +19,6 @@ use Rattle.source.specs.declared.Source.{Source}
 use Rattle.format.specs.declared.Counts.{Counts}
 use Rattle.report.specs.Carried.{highest_of, counts_of}
 use Rattle.report.specs.Reports.{counts_bytes, feedback_of, feedback_bytes}
-use Rattle.rtcp.specs.declared.MaybeReport.{MaybeReport}
-use Rattle.rtcp.specs.declared.MaybeFeedback.{MaybeFeedback}
 use Rattle.rtcp.specs.declared.Profile.{Profile}
 use Rattle.rtcp.specs.Header.{header_at, padding}
 use Rattle.rtcp.specs.Packets.{Check, first_fault, is_report, is_feedback, blocks_from, padding_right, body_right, may_stand, packet_checks}
@@ -77,9 +76,9 @@ module _ (pre rest : List ℕ) (sender media highest : ℕ) (c : Counts) where
 -- ---- what the reader finds in a place's packet, which begins at `at`
 
 -- the feedback about a source, if a place has it
-abbrev pub feedback_about : ℕ → Option Source → MaybeFeedback
-feedback_about sender none = MaybeFeedback.Absent
-feedback_about sender (some s) = MaybeFeedback.Present (feedback_from sender s)
+abbrev pub feedback_about : ℕ → Option Source → Option Feedback
+feedback_about sender None = None
+feedback_about sender (Some s) = Some (feedback_from sender s)
 
 module _ (sender : ℕ) (hs : sender < 2 ^ 32) (q : Place) (hq : q.ssrc < 2 ^ 32) (pre rest b : List ℕ) (at : ℕ)
     (is : b ≡ pre ++ (feedback_bytes sender q.ssrc q.source ++ rest)) (behind : at ≡ length pre) (later : 1 ≤ at) where
@@ -110,7 +109,7 @@ module _ (sender : ℕ) (hs : sender < 2 ^ 32) (q : Place) (hq : q.ssrc < 2 ^ 32
   unfolding blocks
   no_blocks = rw its_kind
 
-  -- none of its checks fails
+  -- None of its checks fails
   passes : (profile : Profile) (more : List Check) → first_fault (packet_checks profile (header_at head 0) b at ++ more) ≡ first_fault more
   unfolding header_at padding padding_right may_stand body_right is_report is_feedback word
   passes Profile.Compound more =
@@ -121,11 +120,11 @@ module _ (sender : ℕ) (hs : sender < 2 ^ 32) (q : Place) (hq : q.ssrc < 2 ^ 32
   checks_pass profile more = rw (no_blocks, its_header) (passes profile more)
 
   module _ (media : ℕ) where
-    no_report : report_in (header_at b at) b at media ≡ MaybeReport.Absent
+    no_report : report_in (header_at b at) b at media ≡ None
     unfolding report_in is_report header_at
     no_report = ap (λ h. report_in h b at media) its_header
 
-    its_feedback : feedback_in (header_at b at) b at media ≡ cond (eqb q.ssrc media) (MaybeFeedback.Present (feedback_from sender q.source)) MaybeFeedback.Absent
+    its_feedback : feedback_in (header_at b at) b at media ≡ cond (eqb q.ssrc media) (Some (feedback_from sender q.source)) None
     unfolding feedback_in is_feedback header_at
     its_feedback =
         let high : highest_of q.source < 2 ^ 32 = modulo_lt (2 ^ 32) (omega arith) q.source.highest.0 in
@@ -138,7 +137,7 @@ module _ (sender : ℕ) (hs : sender < 2 ^ 32) (q : Place) (hq : q.ssrc < 2 ^ 32
 module _ (sender : ℕ) (hs : sender < 2 ^ 32) (b : List ℕ) (media : ℕ) (profile : Profile) where
   record Scanned (at : ℕ) (qs : List Place) : Type 0 where
     sound : first_fault (flat_map (checks_of b profile) (begins b at (length b))) ≡ first_fault []
-    report : first_report (map (λ at. report_in (header_at b at) b at media) (begins b at (length b))) ≡ MaybeReport.Absent
+    report : first_report (map (λ at. report_in (header_at b at) b at media) (begins b at (length b))) ≡ None
     feedback : first_feedback (map (λ at. feedback_in (header_at b at) b at media) (begins b at (length b))) ≡ feedback_about sender (found media qs)
     summary : flat_map (blocks b) (begins b at (length b)) ≡ []
 
@@ -161,8 +160,8 @@ module _ (sender : ℕ) (hs : sender < 2 ^ 32) (b : List ℕ) (media : ℕ) (pro
         summary = rw (next, no_blocks sender hs q hq pre rest b at is behind later) more.summary;
       }
     where
-      go : (l : List MaybeFeedback) (t : Bool) → first_feedback l ≡ feedback_about sender (found media qs)
-          → first_feedback (cond t (MaybeFeedback.Present (feedback_from sender q.source)) MaybeFeedback.Absent ∷ l) ≡ feedback_about sender (cond t (some q.source) (found media qs))
+      go : (l : List (Option Feedback)) (t : Bool) → first_feedback l ≡ feedback_about sender (found media qs)
+          → first_feedback (cond t (Some (feedback_from sender q.source)) None ∷ l) ≡ feedback_about sender (cond t (Some q.source) (found media qs))
       go l true e = refl
       go l false e = e
 

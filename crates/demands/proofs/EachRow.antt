@@ -1,8 +1,9 @@
 -- Each row of ecnstreams is ecntable's last row for that source alone. Assumes nothing.
+use Rattle.std.specs.Prelude.{Option, Some, None, Result, Ok, Err}
+use Rattle.answers.specs.declared.Refusal.{Refusal}
 use mathlib.Core.Path.{◌≡◌, refl, sym, ap, ap₂, subst, ◌∙◌}
 use mathlib.Core.Bool.{Bool, true, false, cond}
 use mathlib.Core.List.{List, [], ◌∷◌, ◌++◌, map, append-nil, append_assoc}
-use mathlib.Core.Option.{Option, none, some}
 use Prim.Native.Nat.{ℕ, suc, ◌^◌, ◌≤◌, ◌<◌}
 use native.Mathlib.Omega.{arith}
 use borrow.Author.Tests.{eq-eqb, eqb-true, ne_eqb}
@@ -58,24 +59,24 @@ module _ (new : Line) where
   own : eqb new.ssrc new.ssrc ≡ true
   own = eq-eqb new.ssrc new.ssrc refl
 
-  added_own : (ls : List Line) → found_by ssrc_of new.ssrc ls ≡ none → found_by ssrc_of new.ssrc (added_by ssrc_of new ls) ≡ some new
+  added_own : (ls : List Line) → found_by ssrc_of new.ssrc ls ≡ None → found_by ssrc_of new.ssrc (added_by ssrc_of new ls) ≡ Some new
   unfolding found_by added_by
   added_own [] e = rw own
   added_own (l ∷ ls) e = go (added_own ls) (eqb l.ssrc new.ssrc) refl (ltb l.ssrc new.ssrc) e
     where
-      go : (found_by ssrc_of new.ssrc ls ≡ none → found_by ssrc_of new.ssrc (added_by ssrc_of new ls) ≡ some new) → (a : Bool) → eqb l.ssrc new.ssrc ≡ a → (t : Bool)
-          → cond a (some l) (found_by ssrc_of new.ssrc ls) ≡ none → found_by ssrc_of new.ssrc (cond t (l ∷ added_by ssrc_of new ls) (new ∷ l ∷ ls)) ≡ some new
+      go : (found_by ssrc_of new.ssrc ls ≡ None → found_by ssrc_of new.ssrc (added_by ssrc_of new ls) ≡ Some new) → (a : Bool) → eqb l.ssrc new.ssrc ≡ a → (t : Bool)
+          → cond a (Some l) (found_by ssrc_of new.ssrc ls) ≡ None → found_by ssrc_of new.ssrc (cond t (l ∷ added_by ssrc_of new ls) (new ∷ l ∷ ls)) ≡ Some new
       go more true ha t e = let z : ◌≡◌ {A = ℕ} 0 1 = cc in absurd (omega arith)
       go more false ha true e = rw ha (more e)
       go more false ha false e = rw own
 
-  renewed_own : (ls : List Line) (l : Line) → found_by ssrc_of new.ssrc ls ≡ some l → found_by ssrc_of new.ssrc (renewed_by ssrc_of new ls) ≡ some new
+  renewed_own : (ls : List Line) (l : Line) → found_by ssrc_of new.ssrc ls ≡ Some l → found_by ssrc_of new.ssrc (renewed_by ssrc_of new ls) ≡ Some new
   unfolding found_by renewed_by
   renewed_own [] l e = let z : ◌≡◌ {A = ℕ} 0 1 = cc in absurd (omega arith)
   renewed_own (m ∷ ls) l e = go (eqb m.ssrc new.ssrc) refl (renewed_own ls l) e
     where
-      go : (a : Bool) → eqb m.ssrc new.ssrc ≡ a → (found_by ssrc_of new.ssrc ls ≡ some l → found_by ssrc_of new.ssrc (renewed_by ssrc_of new ls) ≡ some new)
-          → cond a (some m) (found_by ssrc_of new.ssrc ls) ≡ some l → found_by ssrc_of new.ssrc (cond a (new ∷ ls) (m ∷ renewed_by ssrc_of new ls)) ≡ some new
+      go : (a : Bool) → eqb m.ssrc new.ssrc ≡ a → (found_by ssrc_of new.ssrc ls ≡ Some l → found_by ssrc_of new.ssrc (renewed_by ssrc_of new ls) ≡ Some new)
+          → cond a (Some m) (found_by ssrc_of new.ssrc ls) ≡ Some l → found_by ssrc_of new.ssrc (cond a (new ∷ ls) (m ∷ renewed_by ssrc_of new ls)) ≡ Some new
       go true ha more e = rw own
       go false ha more e = rw ha (more e)
 
@@ -86,7 +87,7 @@ module _ (new : Line) where
     added_other (l ∷ ls) = go (ltb l.ssrc new.ssrc) (added_other ls)
       where
         go : (t : Bool) → found_by ssrc_of ssrc (added_by ssrc_of new ls) ≡ found_by ssrc_of ssrc ls → found_by ssrc_of ssrc (cond t (l ∷ added_by ssrc_of new ls) (new ∷ l ∷ ls)) ≡ found_by ssrc_of ssrc (l ∷ ls)
-        go true more = ap (λ (f : Option Line). cond (eqb l.ssrc ssrc) (some l) f) more
+        go true more = ap (λ (f : Option Line). cond (eqb l.ssrc ssrc) (Some l) f) more
         go false more = rw other
 
     renewed_other : (ls : List Line) → found_by ssrc_of ssrc (renewed_by ssrc_of new ls) ≡ found_by ssrc_of ssrc ls
@@ -97,7 +98,7 @@ module _ (new : Line) where
         go : (a : Bool) → eqb m.ssrc new.ssrc ≡ a → found_by ssrc_of ssrc (renewed_by ssrc_of new ls) ≡ found_by ssrc_of ssrc ls
             → found_by ssrc_of ssrc (cond a (new ∷ ls) (m ∷ renewed_by ssrc_of new ls)) ≡ found_by ssrc_of ssrc (m ∷ ls)
         go true ha more = let same : eqb m.ssrc ssrc ≡ false = ap (λ (k : ℕ). eqb k ssrc) (eqb-true m.ssrc new.ssrc ha) ∙ other in rw (other, same)
-        go false ha more = ap (λ (f : Option Line). cond (eqb m.ssrc ssrc) (some m) f) more
+        go false ha more = ap (λ (f : Option Line). cond (eqb m.ssrc ssrc) (Some m) f) more
 
 -- ---- blocks one behind the other
 
@@ -122,14 +123,14 @@ arrivals_long : (form : Form) (ssrc : ℕ) (cs : List (List ℕ)) → AllArrival
 arrivals_long form ssrc [] h = tt
 arrivals_long form ssrc (b ∷ cs) h = ((accepted b h.1).block.whole, arrivals_long form ssrc cs h.2)
 
-named_first : (ssrc : ℕ) (b : List ℕ) (r : Block) (bs : List (List ℕ)) → named_by ssrc b r bs ≡ named_by ssrc b r [] ++ bs
-named_first ssrc b (read.Arrivals form n s) bs = go (eqb s ssrc)
+named_first : (ssrc : ℕ) (b : List ℕ) (r : Result Block Refusal) (bs : List (List ℕ)) → named_by ssrc b r bs ≡ named_by ssrc b r [] ++ bs
+named_first ssrc b (Ok (read.Arrivals form n s)) bs = go (eqb s ssrc)
   where
     go : (t : Bool) → cond t (b ∷ bs) bs ≡ cond t (b ∷ []) [] ++ bs
     go true = refl
     go false = refl
-named_first ssrc b (read.Label form n s) bs = refl
-named_first ssrc b (read.Refused refusal) bs = refl
+named_first ssrc b (Ok (read.Label form n s)) bs = refl
+named_first ssrc b (Err refusal) bs = refl
 
 -- ---- the line of a source has the totals over its blocks
 
@@ -143,18 +144,18 @@ module _ (form : Form) (ssrc : ℕ) where
     octets : Each Octets cs
 
   abbrev Has : List (List ℕ) → Option Line → Type 0
-  Has cs none = cs ≡ []
-  Has cs (some l) = CountedOf cs l
+  Has cs None = cs ≡ []
+  Has cs (Some l) = CountedOf cs l
 
   abbrev Keeps : List (List ℕ) → Next (List Line) → Type 0
   Keeps cs (goes ls) = Has cs (found_by ssrc_of ssrc ls)
   Keeps cs (refuses refusal) = Unit {0}
 
-  module _ (b : List ℕ) (o : Octets b) (n : ℕ) (is : block_of b ≡ read.Arrivals form n ssrc) where
+  module _ (b : List ℕ) (o : Octets b) (n : ℕ) (is : block_of b ≡ Ok (read.Arrivals form n ssrc)) where
     counted_in_lem : (cs : List (List ℕ)) (t : Totals) → t ≡ records_totals (together cs) → Good (records_totals (together cs)) → AllArrivals form ssrc cs → Each Octets cs
         → CountedOf (cs ++ (b ∷ [])) (record { ssrc = ssrc; totals = counted form n b t })
     counted_in_lem cs t e g a oc =
-        let records : together (cs ++ (b ∷ [])) ≡ together cs ++ records_by b (read.Arrivals form n ssrc) =
+        let records : together (cs ++ (b ∷ [])) ≡ together cs ++ records_by b (Ok (read.Arrivals form n ssrc)) =
         together_app cs (b ∷ []) ∙ ap (λ (rs : List Record). together cs ++ rs) (append-nil (records_by b (block_of b)) ∙ ap (records_by b) is) in
         let counts : counted form n b t ≡ records_totals (together (cs ++ (b ∷ []))) =
         ap (counted form n b) e ∙ counts_own form ssrc b n is (together cs) g ∙ ap records_totals (sym records) in
@@ -171,7 +172,7 @@ module _ (form : Form) (ssrc : ℕ) where
     unfolding settled
     own_settled ls cs h = go (found_by ssrc_of ssrc ls) refl h
       where
-        with_room : (t : Bool) → found_by ssrc_of ssrc ls ≡ none → cs ≡ []
+        with_room : (t : Bool) → found_by ssrc_of ssrc ls ≡ None → cs ≡ []
             → Keeps (cs ++ (b ∷ [])) (cond t (goes (added_by ssrc_of (record { ssrc = ssrc; totals = counted form n b fresh_totals }) ls)) (refuses Places))
         with_room true e z =
             subst (Has (cs ++ (b ∷ []))) (sym (added_own (record { ssrc = ssrc; totals = counted form n b fresh_totals }) ls e))
@@ -180,8 +181,8 @@ module _ (form : Form) (ssrc : ℕ) where
         with_room false e z = tt
 
         go : (l : Option Line) → found_by ssrc_of ssrc ls ≡ l → Has cs l → Keeps (cs ++ (b ∷ [])) (settled_by by_value (counted form n b) ssrc ls l)
-        go none e h = with_room (ltb (length ls) 16) e h
-        go (some l) e h =
+        go None e h = with_room (ltb (length ls) 16) e h
+        go (Some l) e h =
             subst (Has (cs ++ (b ∷ []))) (sym (renewed_own (record { ssrc = ssrc; totals = counted form n b l.totals }) ls l e))
             (counted_in_lem cs l.totals (ap (λ (m : Line). m.totals) h.is) h.good h.arrive h.octets)
 
@@ -194,32 +195,32 @@ module _ (form : Form) (ssrc : ℕ) where
       with_room false = tt
 
       go : (l : Option Line) → Keeps cs (settled_by by_value count s ls l)
-      go none = with_room (ltb (length ls) 16)
-      go (some l) = subst (Has cs) (sym (renewed_other (record { ssrc = s; totals = count l.totals }) ssrc other ls)) h
+      go None = with_room (ltb (length ls) 16)
+      go (Some l) = subst (Has cs) (sym (renewed_other (record { ssrc = s; totals = count l.totals }) ssrc other ls)) h
 
   next_keeps : (b : List ℕ) → Octets b → (ls : List Line) (cs : List (List ℕ)) → Has cs (found_by ssrc_of ssrc ls) → Keeps (cs ++ named_by ssrc b (block_of b) []) (next_of by_value form b ls)
   unfolding next_of
   next_keeps b o ls cs h = go (block_of b) refl
     where
-      named : (t : Bool) (n s : ℕ) → eqb s ssrc ≡ t → block_of b ≡ read.Arrivals form n s → Keeps (cs ++ cond t (b ∷ []) []) (settled by_value (counted form n b) s ls)
+      named : (t : Bool) (n s : ℕ) → eqb s ssrc ≡ t → block_of b ≡ Ok (read.Arrivals form n s) → Keeps (cs ++ cond t (b ∷ []) []) (settled by_value (counted form n b) s ls)
       named true n s e is =
           let same = eqb-true s ssrc e in
           subst (λ (k : ℕ). Keeps (cs ++ (b ∷ [])) (settled by_value (counted form n b) k ls)) (sym same)
-          (own_settled b o n (is ∙ ap (read.Arrivals form n) same) ls cs h)
+          (own_settled b o n (is ∙ ap ((λ x. Ok (read.Arrivals form n x))) same) ls cs h)
       named false n s e is = subst (λ (ds : List (List ℕ)). Keeps ds (settled by_value (counted form n b) s ls)) (sym (append-nil cs)) (other_settled (counted form n b) s e ls cs h)
 
-      chosen : (t : Bool) (f : Form) (n s : ℕ) → same_form f form ≡ t → block_of b ≡ read.Arrivals f n s
+      chosen : (t : Bool) (f : Form) (n s : ℕ) → same_form f form ≡ t → block_of b ≡ Ok (read.Arrivals f n s)
           → Keeps (cs ++ cond (eqb s ssrc) (b ∷ []) []) (cond t (settled by_value (counted form n b) s ls) (refuses Contents))
-      chosen true f n s q is = named (eqb s ssrc) n s refl (is ∙ ap (λ (g : Form). read.Arrivals g n s) (same_form_lem f form q))
+      chosen true f n s q is = named (eqb s ssrc) n s refl (is ∙ ap (λ (g : Form). Ok (read.Arrivals g n s)) (same_form_lem f form q))
       chosen false f n s q is = tt
 
-      go : (r : Block) → block_of b ≡ r → Keeps (cs ++ named_by ssrc b r []) (next_by by_value form b ls r)
-      go (read.Arrivals f n s) is = chosen (same_form f form) f n s refl is
-      go (read.Label f n s) is = tt
-      go (read.Refused refusal) is = tt
+      go : (r : Result Block Refusal) → block_of b ≡ r → Keeps (cs ++ named_by ssrc b r []) (next_by by_value form b ls r)
+      go (Ok (read.Arrivals f n s)) is = chosen (same_form f form) f n s refl is
+      go (Ok (read.Label f n s)) is = tt
+      go (Err refusal) is = tt
 
   walk_keeps : (i : ℕ) (bs : List (List ℕ)) (label : List ℕ) (ls : List Line) (cs : List (List ℕ)) → Each Octets bs → Has cs (found_by ssrc_of ssrc ls)
-      → (walk ecnstreams i bs (record { form = form; label = label; lines = ls })).ended ≡ none
+      → (walk ecnstreams i bs (record { form = form; label = label; lines = ls })).ended ≡ None
       → Has (cs ++ naming ssrc bs) (found_by ssrc_of ssrc (walk ecnstreams i bs (record { form = form; label = label; lines = ls })).state.lines)
   unfolding walk onward naming
   walk_keeps i [] label ls cs o h e = subst (λ (ds : List (List ℕ)). Has ds (found_by ssrc_of ssrc ls)) (sym (append-nil cs)) h
@@ -237,9 +238,9 @@ module _ (form : Form) (ssrc : ℕ) where
       split = ap (λ (ds : List (List ℕ)). cs ++ ds) (named_first ssrc b (block_of b) (naming ssrc bs)) ∙ sym (append_assoc cs first (naming ssrc bs))
 
       go : (next : Next (List Line)) → Keeps (cs ++ first) next
-          → ((ms : List Line) → Has (cs ++ first) (found_by ssrc_of ssrc ms) → (walk ecnstreams (suc i) bs (record { form = form; label = label; lines = ms })).ended ≡ none
+          → ((ms : List Line) → Has (cs ++ first) (found_by ssrc_of ssrc ms) → (walk ecnstreams (suc i) bs (record { form = form; label = label; lines = ms })).ended ≡ None
           → Has ((cs ++ first) ++ naming ssrc bs) (found_by ssrc_of ssrc (walk ecnstreams (suc i) bs (record { form = form; label = label; lines = ms })).state.lines))
-          → (onward (turned i (taken k next)) (walk ecnstreams (suc i) bs)).ended ≡ none
+          → (onward (turned i (taken k next)) (walk ecnstreams (suc i) bs)).ended ≡ None
           → Has ((cs ++ first) ++ naming ssrc bs) (found_by ssrc_of ssrc (onward (turned i (taken k next)) (walk ecnstreams (suc i) bs)).state.lines)
       go (goes ms) s later e = later ms s e
       go (refuses refusal) s later e = let z : ◌≡◌ {A = ℕ} 0 1 = cc in absurd (omega arith)
@@ -279,16 +280,16 @@ each_both : (P Q : Line → Type 0) (ls : List Line) → EachLine P ls → EachL
 each_both P Q [] h k = tt
 each_both P Q (l ∷ ls) h k = ((h.0, k.0), each_both P Q ls h.1 k.1)
 
-each_found : (ls : List Line) → Rising (map ssrc_of ls) → EachLine (λ l. found_by ssrc_of l.ssrc ls ≡ some l) ls
+each_found : (ls : List Line) → Rising (map ssrc_of ls) → EachLine (λ l. found_by ssrc_of l.ssrc ls ≡ Some l) ls
 unfolding found_by
 each_found [] r = tt
 each_found (l ∷ ls) r =
     let there = each_found ls (rest_rises l.ssrc (map ssrc_of ls) r) in
     let above = all_above l.ssrc ls r in (
-      ap (λ (t : Bool). cond t (some l) (found_by ssrc_of l.ssrc ls)) (eq-eqb l.ssrc l.ssrc refl),
-      each_map (λ m. (found_by ssrc_of m.ssrc ls ≡ some m) × (l.ssrc < m.ssrc)) (λ m. found_by ssrc_of m.ssrc (l ∷ ls) ≡ some m)
-          (λ m q. let a = q.1 in ap (λ (t : Bool). cond t (some l) (found_by ssrc_of m.ssrc ls)) (ne_eqb l.ssrc m.ssrc (λ z. omega arith)) ∙ q.0) ls
-          (each_both (λ m. found_by ssrc_of m.ssrc ls ≡ some m) (λ m. l.ssrc < m.ssrc) ls there above),
+      ap (λ (t : Bool). cond t (Some l) (found_by ssrc_of l.ssrc ls)) (eq-eqb l.ssrc l.ssrc refl),
+      each_map (λ m. (found_by ssrc_of m.ssrc ls ≡ Some m) × (l.ssrc < m.ssrc)) (λ m. found_by ssrc_of m.ssrc (l ∷ ls) ≡ Some m)
+          (λ m q. let a = q.1 in ap (λ (t : Bool). cond t (Some l) (found_by ssrc_of m.ssrc ls)) (ne_eqb l.ssrc m.ssrc (λ z. omega arith)) ∙ q.0) ls
+          (each_both (λ m. found_by ssrc_of m.ssrc ls ≡ Some m) (λ m. l.ssrc < m.ssrc) ls there above),
     )
 
 -- ---- a source's own trace
@@ -310,7 +311,7 @@ module _ (form : Form) (label : List ℕ) (ssrc : ℕ) (cs : List (List ℕ)) (f
         others = (ap (cut (length all)) (drop_at zeroth (joined cs) block_bytes long) ∙ cut_joined (length all) cs each few) i;
       }
 
-  own_row : (l : Line) → CountedOf form ssrc cs l → (block_of zeroth ≡ read.Label form (length label) ssrc) × (take (length label) (body_of zeroth) ≡ label)
+  own_row : (l : Line) → CountedOf form ssrc cs l → (block_of zeroth ≡ Ok (read.Label form (length label) ssrc)) × (take (length label) (body_of zeroth) ≡ label)
       → EndsIn (zeroth ++ joined cs) label ssrc (row_bytes label ssrc l.totals)
   own_row l c reads =
       let blocks = own_blocks (arrivals_long form ssrc cs c.arrive) in
@@ -337,14 +338,14 @@ each_row trace o e = go (block_of (blocks_of trace).zeroth) refl e (lines_rise (
     rest : Kept → Run Kept
     rest = walk ecnstreams 1 others
 
-    behind : Block → Kept
+    behind : Result Block Refusal → Kept
     behind r = (onward (turned 0 (begun_by (blocks_of trace).zeroth r)) rest).state
 
-    go : (r : Block) → block_of (blocks_of trace).zeroth ≡ r → (onward (turned 0 (begun_by (blocks_of trace).zeroth r)) rest).ended ≡ none → Rising (map ssrc_of (behind r).lines)
+    go : (r : Result Block Refusal) → block_of (blocks_of trace).zeroth ≡ r → (onward (turned 0 (begun_by (blocks_of trace).zeroth r)) rest).ended ≡ None → Rising (map ssrc_of (behind r).lines)
         → EachLine (λ l. EndsIn (label_block (shape_of (behind r).form) (behind r).label l.ssrc ++ joined (naming l.ssrc others)) (behind r).label l.ssrc (row_bytes (behind r).label l.ssrc l.totals)) (behind r).lines
-    go (read.Label form n first) is e rises =
-        each_map (λ l. found_by ssrc_of l.ssrc lines ≡ some l)
-        (λ l. EndsIn (label_block (shape_of (behind (read.Label form n first)).form) (behind (read.Label form n first)).label l.ssrc ++ joined (naming l.ssrc others)) (behind (read.Label form n first)).label l.ssrc (row_bytes (behind (read.Label form n first)).label l.ssrc l.totals))
+    go (Ok (read.Label form n first)) is e rises =
+        each_map (λ l. found_by ssrc_of l.ssrc lines ≡ Some l)
+        (λ l. EndsIn (label_block (shape_of (behind (Ok (read.Label form n first))).form) (behind (Ok (read.Label form n first))).label l.ssrc ++ joined (naming l.ssrc others)) (behind (Ok (read.Label form n first))).label l.ssrc (row_bytes (behind (Ok (read.Label form n first))).label l.ssrc l.totals))
         row lines (each_found lines rises)
       where
         zero : List ℕ
@@ -354,9 +355,9 @@ each_row trace o e = go (block_of (blocks_of trace).zeroth) refl e (lines_rise (
         text = take n (drop body_at zero)
 
         lines : List Line
-        lines = (behind (read.Label form n first)).lines
+        lines = (behind (Ok (read.Label form n first))).lines
 
-        same : SameLabel form text (behind (read.Label form n first))
+        same : SameLabel form text (behind (Ok (read.Label form n first)))
         same = walk_label 1 others form text []
 
         place : take n (body_of zero) ≡ text
@@ -368,20 +369,20 @@ each_row trace o e = go (block_of (blocks_of trace).zeroth) refl e (lines_rise (
         fits : length text ≤ 502
         fits = omega (arith, ap length place, (label_is_written form zero n first (octets_zeroth trace o) is).1, (accepted zero is).block.room)
 
-        counted_so : (l : Line) → found_by ssrc_of l.ssrc lines ≡ some l → CountedOf form l.ssrc (naming l.ssrc others) l
+        counted_so : (l : Line) → found_by ssrc_of l.ssrc lines ≡ Some l → CountedOf form l.ssrc (naming l.ssrc others) l
         counted_so l found =
             subst (Has form l.ssrc (naming l.ssrc others)) found
             (walk_keeps form l.ssrc 1 others text [] [] (octets_blocks trace (octets_drop block_bytes trace o)) refl e)
 
-        row : (l : Line) → found_by ssrc_of l.ssrc lines ≡ some l
-            → EndsIn (label_block (shape_of (behind (read.Label form n first)).form) (behind (read.Label form n first)).label l.ssrc ++ joined (naming l.ssrc others)) (behind (read.Label form n first)).label l.ssrc (row_bytes (behind (read.Label form n first)).label l.ssrc l.totals)
+        row : (l : Line) → found_by ssrc_of l.ssrc lines ≡ Some l
+            → EndsIn (label_block (shape_of (behind (Ok (read.Label form n first))).form) (behind (Ok (read.Label form n first))).label l.ssrc ++ joined (naming l.ssrc others)) (behind (Ok (read.Label form n first))).label l.ssrc (row_bytes (behind (Ok (read.Label form n first))).label l.ssrc l.totals)
         row l found =
             let c = counted_so l found in
-            subst (λ (t : List ℕ). EndsIn (label_block (shape_of (behind (read.Label form n first)).form) t l.ssrc ++ joined (naming l.ssrc others)) t l.ssrc (row_bytes t l.ssrc l.totals)) (sym same.labels)
+            subst (λ (t : List ℕ). EndsIn (label_block (shape_of (behind (Ok (read.Label form n first))).form) t l.ssrc ++ joined (naming l.ssrc others)) t l.ssrc (row_bytes t l.ssrc l.totals)) (sym same.labels)
             (subst (λ (f : Form). EndsIn (label_block (shape_of f) text l.ssrc ++ joined (naming l.ssrc others)) text l.ssrc (row_bytes text l.ssrc l.totals)) (sym same.forms)
             (own_row form text l.ssrc (naming l.ssrc others) fits l c (label_reads_back form text l.ssrc written_so c.wide)))
-    go (read.Arrivals form n s) is e rises = let z : ◌≡◌ {A = ℕ} 0 1 = cc in absurd (omega arith)
-    go (read.Refused refusal) is e rises = let z : ◌≡◌ {A = ℕ} 0 1 = cc in absurd (omega arith)
+    go (Ok (read.Arrivals form n s)) is e rises = let z : ◌≡◌ {A = ℕ} 0 1 = cc in absurd (omega arith)
+    go (Err refusal) is e rises = let z : ◌≡◌ {A = ℕ} 0 1 = cc in absurd (omega arith)
 
 -- the hypotheses are met
 used : Unit {0}

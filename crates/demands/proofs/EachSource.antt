@@ -1,8 +1,8 @@
 -- Demand 3 for each source of a table. Assumes nothing.
+use Rattle.std.specs.Prelude.{Option, Some, None}
 use mathlib.Core.Path.{◌≡◌, refl, sym, ap, ap₂, ◌∙◌, subst}
 use mathlib.Core.Bool.{Bool, true, false, cond, false≢true}
 use mathlib.Core.List.{List, [], ◌∷◌, ◌++◌, map}
-use mathlib.Core.Option.{Option, none, some}
 use Prim.Native.Nat.{ℕ, ◌^◌, ◌≤◌}
 use native.Mathlib.Omega.{arith}
 use borrow.Author.Tests.{eqb-true}
@@ -16,7 +16,6 @@ use Rattle.source.specs.declared.Source.{Source}
 use Rattle.source.specs.Record as Record
 use Rattle.source.specs.Record.{fresh_record, sound}
 use Rattle.source.proofs.Facts.{fresh_sound}
-use Rattle.rtcp.specs.declared.MaybeFeedback.{MaybeFeedback}
 use Rattle.sources.specs.declared.Place.{Place}
 use Rattle.sources.specs.Places.{held_of}
 use Rattle.sources.specs.Rules.{fault}
@@ -35,8 +34,8 @@ use Rattle.demands.proofs.OneCall.{good_behind, ssrcs_behind, others_stay, own_c
 
 -- ---- the calls one after the other
 
--- the first call, which brings the packets `front` to the source if it names it, and else none
-module _ (ps : List Place) (good : fault ps ≡ none) (c : Call) (h : Fits c) (ssrc : ℕ) (seat : cond (eqb (named c) ssrc) (seated_call ps c) true ≡ true) where
+-- the first call, which brings the packets `front` to the source if it names it, and else None
+module _ (ps : List Place) (good : fault ps ≡ None) (c : Call) (h : Fits c) (ssrc : ℕ) (seat : cond (eqb (named c) ssrc) (seated_call ps c) true ≡ true) where
   record First (front : List TruePacket) : Type 0 where
     state : record_of ssrc (behind_call ps c) ≡ run_from (record_of ssrc ps) front
     answer : eqb (named c) ssrc ≡ true → Answered ps c
@@ -52,12 +51,12 @@ module _ (ps : List Place) (good : fault ps ≡ none) (c : Call) (h : Fits c) (s
 
 -- what comes of calls whose packets for the source are accepted
 record Behind (ps : List Place) (calls : List Call) (ssrc : ℕ) (vs : List TruePacket) : Type 0 where
-  good : fault (behind_all ps calls) ≡ none
+  good : fault (behind_all ps calls) ≡ None
   ssrcs : ssrcs_fit (held_of (behind_all ps calls)) ≡ true
   state : record_of ssrc (behind_all ps calls) ≡ run_from (record_of ssrc ps) vs
   answers : AllAnswered ssrc ps calls
 
-behind_all_lem : (ps : List Place) (calls : List Call) (ssrc : ℕ) (vs : List TruePacket) → fault ps ≡ none → ssrcs_fit (held_of ps) ≡ true → AllFit calls
+behind_all_lem : (ps : List Place) (calls : List Call) (ssrc : ℕ) (vs : List TruePacket) → fault ps ≡ None → ssrcs_fit (held_of ps) ≡ true → AllFit calls
     → places_suffice ssrc ps calls ≡ true → seen ssrc calls ≡ map of_arrival vs → AnsweredFrom (record_of ssrc ps) vs → Behind ps calls ssrc vs
 behind_all_lem ps [] ssrc [] good fit h suffice same a = record { good = good; ssrcs = fit; state = refl; answers = tt }
 behind_all_lem ps [] ssrc (v ∷ vs) good fit h suffice same a = let z : ◌≡◌ {A = ℕ} 0 1 = cc in absurd (omega arith)
@@ -79,13 +78,13 @@ behind_all_lem ps (c ∷ calls) ssrc vs good fit h suffice same a =
 -- ---- the source's record at the end
 
 -- one that has counted is held
-held_place : (f : Option Source) (s : Source) → record_in f ≡ s → 1 ≤ Record.arrivals s → f ≡ some s
-held_place (some t) s e h = ap some e
-held_place none s e h = absurd (omega (arith, ap Record.arrivals e))
+held_place : (f : Option Source) (s : Source) → record_in f ≡ s → 1 ≤ Record.arrivals s → f ≡ Some s
+held_place (Some t) s e h = ap Some e
+held_place None s e h = absurd (omega (arith, ap Record.arrivals e))
 
 fresh_of : (f : Option Source) → is_new f ≡ true → record_in f ≡ fresh_record
-fresh_of none e = refl
-fresh_of (some s) e = absurd (false≢true e)
+fresh_of None e = refl
+fresh_of (Some s) e = absurd (false≢true e)
 
 module _ (ps : List Place) (calls : List Call) (ssrc : ℕ) (tps : List TruePacket) (h : Brings ps calls ssrc tps) where
   begins : record_of ssrc ps ≡ fresh_record
@@ -102,7 +101,7 @@ module _ (ps : List Place) (calls : List Call) (ssrc : ℕ) (tps : List TruePack
   counted : record_of ssrc (behind_all ps calls) ≡ count (arrivals tps)
   counted = ends ∙ (demand3 tps h.described).state
 
-  placed : 1 ≤ length (arrivals tps) → found ssrc (held_of (behind_all ps calls)) ≡ some (count (arrivals tps))
+  placed : 1 ≤ length (arrivals tps) → found ssrc (held_of (behind_all ps calls)) ≡ Some (count (arrivals tps))
   placed some_arrive =
       held_place (found ssrc (held_of (behind_all ps calls))) (count (arrivals tps)) counted
       (omega (arith, count_arrivals (base_of (arrivals tps)) (arrivals tps) (arrivals_marks tps)))
@@ -124,9 +123,9 @@ each_source ps calls ssrc tps h =
     good : sound (count (arrivals tps)) ≡ true
     good = ap sound (sym (demand3 tps h.described).state) ∙ run_sound fresh_record tps fresh_sound
 
-    carried : (sender : ℕ) → only_feedback (feedback_about sender (some (count (arrivals tps))))
-        ≡ only_feedback (MaybeFeedback.Present (record { sender = sender; highest = modulo (2 ^ 32) (greatest_in (arrivals tps)); counts = counts_in (arrivals tps) }))
+    carried : (sender : ℕ) → only_feedback (feedback_about sender (Some (count (arrivals tps))))
+        ≡ only_feedback (Some (record { sender = sender; highest = modulo (2 ^ 32) (greatest_in (arrivals tps)); counts = counts_in (arrivals tps) }))
     carried sender =
-        ap₂ (λ (z : ℤ) (c : Counts). only_feedback (MaybeFeedback.Present (record { sender = sender; highest = modulo (2 ^ 32) z; counts = c })))
+        ap₂ (λ (z : ℤ) (c : Counts). only_feedback (Some (record { sender = sender; highest = modulo (2 ^ 32) z; counts = c })))
         (count_highest (base_of (arrivals tps)) (arrivals tps))
         (count_counts (arrivals tps) (count_lost (arrivals tps) (arrivals_marks tps) good))

@@ -1,7 +1,8 @@
 -- Demand 3 over a trace that arrives bit by bit. Assumes nothing.
+use Rattle.std.specs.Prelude.{None, Result}
+use Rattle.answers.specs.declared.Refusal.{Refusal}
 use mathlib.Core.Path.{◌≡◌, refl, sym, ap, ap₂, ◌∙◌}
 use mathlib.Core.List.{List, [], ◌∷◌, ◌++◌, append-nil}
-use mathlib.Core.Option.{none}
 use Prim.Native.Nat.{ℕ, suc}
 use Rattle.format.specs.declared.Form.{Form}
 use Rattle.table.specs.Lines.{head_bytes}
@@ -11,7 +12,6 @@ use Rattle.walk.specs.Blocks.{blocks_of, joined}
 use Rattle.walk.specs.Programs.{to_output, turned, onward, walk, walked}
 use Rattle.walk.specs.Steps.{Next, goes}
 use Rattle.convert.specs.declared.Run.{Run}
-use Rattle.convert.specs.declared.Begin.{Begin}
 use Rattle.convert.specs.declared.feeds.FeedAnswer.{FeedAnswer}
 use Rattle.convert.specs.Runs.{arrived, next_of}
 use Rattle.convert.specs.Tables.{Kept, begun, taken, closing, ecntable, printed}
@@ -24,7 +24,7 @@ use Rattle.demands.proofs.OneRow.{after_head}
 use Rattle.demands.proofs.PrintedTable.{table_holds_count}
 
 -- no block of such a trace is refused
-walk_none : (form : Form) (ssrc i : ℕ) (bs : List (List ℕ)) (k : Kept) → k.run.form ≡ form → k.run.ssrc ≡ ssrc → AllArrivals form ssrc bs → (walk ecntable i bs k).ended ≡ none
+walk_none : (form : Form) (ssrc i : ℕ) (bs : List (List ℕ)) (k : Kept) → k.run.form ≡ form → k.run.ssrc ≡ ssrc → AllArrivals form ssrc bs → (walk ecntable i bs k).ended ≡ None
 unfolding walk onward arrived
 walk_none form ssrc i [] k f s a = refl
 walk_none form ssrc i (b ∷ bs) k f s a =
@@ -32,11 +32,11 @@ walk_none form ssrc i (b ∷ bs) k f s a =
     ap (λ (n : Next Run). (onward (turned i (taken k n)) (walk ecntable (suc i) bs)).ended) next
     ∙ walk_none form ssrc (suc i) bs (record { run = arrived k.run a.0 b; zeroth = k.zeroth }) f s a.2
 
-walked_none : (trace label : List ℕ) (ssrc : ℕ) → {ps : _} → Holds trace label ssrc ps → (walked ecntable (blocks_of trace)).ended ≡ none
+walked_none : (trace label : List ℕ) (ssrc : ℕ) → {ps : _} → Holds trace label ssrc ps → (walked ecntable (blocks_of trace)).ended ≡ None
 unfolding walked onward
 walked_none trace label ssrc h =
     let bs = blocks_of trace in
-    ap (λ (r : Begin). (onward (turned 0 (begun bs.zeroth r)) (walk ecntable 1 bs.others)).ended) (start_label bs.zeroth h.zeroth)
+    ap (λ (r : Result Run Refusal). (onward (turned 0 (begun bs.zeroth r)) (walk ecntable 1 bs.others)).ended) (start_label bs.zeroth h.zeroth)
     ∙ walk_none h.form ssrc 1 bs.others (record { run = _; zeroth = bs.zeroth }) refl refl h.others
 
 pub fed_holds_count : FedHoldsCount

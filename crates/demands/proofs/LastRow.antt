@@ -1,4 +1,6 @@
 -- The last row of a trace is that of the totals over all its records, however they are cut into blocks. Assumes nothing.
+use Rattle.std.specs.Prelude.{Result, Ok}
+use Rattle.answers.specs.declared.Refusal.{Refusal}
 use mathlib.Core.Path.{◌≡◌, refl, sym, ap, ap₂, ◌∙◌}
 use mathlib.Core.List.{List, [], ◌∷◌, ◌++◌, map, append-nil, append_assoc}
 use Prim.Native.Nat.{ℕ, suc, ◌+◌, ◌≤◌, min}
@@ -29,7 +31,6 @@ use Rattle.walk.specs.Programs.{both, to_output, walk, closed}
 use Rattle.walk.specs.Steps.{goes}
 use Rattle.walk.proofs.Cuts.{Each}
 use Rattle.convert.specs.declared.Run.{Run}
-use Rattle.convert.specs.declared.Begin.TheVariants as begin
 use Rattle.convert.specs.Runs.{start_of, row_of, arrived, next_of}
 use Rattle.convert.proofs.Kept.{Good, next_good, start_good}
 use Rattle.convert.proofs.Steps.{start_label, next_by_lem}
@@ -98,12 +99,12 @@ module _ (form : Form) (zeroth : List ℕ) (n ssrc : ℕ) where
   with us = record { form = form; length = n; ssrc = ssrc; totals = records_totals us }
 
   -- a block leads from `us` to `us` and its records
-  next_is : (us : List Record) (b : List ℕ) (k : ℕ) → block_of b ≡ Arrivals form k ssrc → Good (with us) zeroth → next_of (with us) b ≡ goes (with (us ++ records_by b (Arrivals form k ssrc)))
+  next_is : (us : List Record) (b : List ℕ) (k : ℕ) → block_of b ≡ Ok (Arrivals form k ssrc) → Good (with us) zeroth → next_of (with us) b ≡ goes (with (us ++ records_by b (Ok (Arrivals form k ssrc))))
   unfolding arrived
   next_is us b k is g =
       let counted = records_counted b form k ssrc is (records_totals us).source g.totals.good in
       next_by_lem (with us) b (own_later form ssrc b is)
-      ∙ ap (λ (t : Totals). goes (record { form = form; length = n; ssrc = ssrc; totals = t })) (ap (with_block (records_totals us)) counted ∙ sym (totals_parts us (records_by b (Arrivals form k ssrc))))
+      ∙ ap (λ (t : Totals). goes (record { form = form; length = n; ssrc = ssrc; totals = t })) (ap (with_block (records_totals us)) counted ∙ sym (totals_parts us (records_by b (Ok (Arrivals form k ssrc)))))
 
   label : List ℕ
   label = take n (drop body_at zeroth)
@@ -115,16 +116,16 @@ module _ (form : Form) (zeroth : List ℕ) (n ssrc : ℕ) where
   rest_rows : (i : ℕ) (b : List ℕ) (bs : List (List ℕ)) (us : List Record) → AllArrivals form ssrc (b ∷ bs) → Each Octets (b ∷ bs) → Good (with us) zeroth → Rows i (b ∷ bs) us
   unfolding walk closed Rows row_of label
   rest_rows i b [] us a o g =
-      let more = records_by b (Arrivals form a.0 ssrc) in
+      let more = records_by b (Ok (Arrivals form a.0 ssrc)) in
       let next = next_is us b a.0 a.1 g in
       let all : us ++ (records_by b (block_of b) ++ []) ≡ us ++ more = ap (λ (l : List Record). us ++ l) (append-nil (records_by b (block_of b)) ∙ ap (records_by b) a.1) in
       ([], rest_goes zeroth i b [] (with us) next ∙ rw all (ap to_output (append-nil (row_of (with (us ++ more)) zeroth))))
   rest_rows i b (c ∷ cs) us a o g =
-      let more = records_by b (Arrivals form a.0 ssrc) in
+      let more = records_by b (Ok (Arrivals form a.0 ssrc)) in
       let next = next_is us b a.0 a.1 g in
       let later = rest_rows (suc i) c cs (us ++ more) a.2 o.1 (next_good (with us) zeroth b (with (us ++ more)) o.0 g next) in
       let row = row_of (with (us ++ more)) zeroth in
-      let all : us ++ together (b ∷ c ∷ cs) ≡ (us ++ more) ++ together (c ∷ cs) = ap (λ (r : Block). us ++ (records_by b r ++ together (c ∷ cs))) a.1 ∙ sym (append_assoc us more (together (c ∷ cs))) in (
+      let all : us ++ together (b ∷ c ∷ cs) ≡ (us ++ more) ++ together (c ∷ cs) = ap (λ (r : Result Block Refusal). us ++ (records_by b r ++ together (c ∷ cs))) a.1 ∙ sym (append_assoc us more (together (c ∷ cs))) in (
         records_totals (us ++ more) ∷ later.0,
         rest_goes zeroth i b (c ∷ cs) (with us) next ∙ ap (both (to_output row)) later.1
             ∙ rw all (ap to_output (sym (append_assoc row (joined (map (row_bytes label ssrc) later.0)) (row_of (with ((us ++ more) ++ together (c ∷ cs))) zeroth)))),
@@ -132,8 +133,8 @@ module _ (form : Form) (zeroth : List ℕ) (n ssrc : ℕ) where
 
 -- ---- the last line
 
-module _ (trace : List ℕ) (form : Form) (n ssrc : ℕ) (o : Octets (drop block_bytes trace)) (isLabel : block_of (blocks_of trace).zeroth ≡ Label form n ssrc) where
-  begun : start_of (blocks_of trace).zeroth ≡ begin.Started (with form (blocks_of trace).zeroth n ssrc [])
+module _ (trace : List ℕ) (form : Form) (n ssrc : ℕ) (o : Octets (drop block_bytes trace)) (isLabel : block_of (blocks_of trace).zeroth ≡ Ok (Label form n ssrc)) where
+  begun : start_of (blocks_of trace).zeroth ≡ Ok (with form (blocks_of trace).zeroth n ssrc [])
   unfolding records_totals count_all
   begun = start_label (blocks_of trace).zeroth isLabel
 

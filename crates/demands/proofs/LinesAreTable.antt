@@ -1,8 +1,9 @@
 -- The lines of ecnstreams are the held places of a table. Assumes nothing.
+use Rattle.std.specs.Prelude.{Option, Some, None, Result, Ok, Err}
+use Rattle.answers.specs.declared.Refusal.{Refusal}
 use mathlib.Core.Path.{◌≡◌, refl, sym, ap, ◌∙◌, subst}
 use mathlib.Core.Bool.{Bool, true, false, cond, ◌&&◌}
 use mathlib.Core.List.{List, [], ◌∷◌, map}
-use mathlib.Core.Option.{Option, none, some}
 use Prim.Native.Nat.{ℕ, suc, ◌*◌}
 use native.Mathlib.Omega.{arith}
 use borrow.Author.Tests.{ltb-true, ne_eqb}
@@ -52,8 +53,8 @@ record Same (ps : List Place) (ls : List Line) : Type 0 where
   long : length ps ≡ 16
   are : held_of ps ≡ map place_of ls
 
-module _ (ps : List Place) (ls : List Line) (s : Same ps ls) (b : List ℕ) (form : Form) (n ssrc : ℕ) (is : block_of b ≡ read.Arrivals form n ssrc) (o : Octets b) where
-  no_fault : fault ps ≡ none
+module _ (ps : List Place) (ls : List Line) (s : Same ps ls) (b : List ℕ) (form : Form) (n ssrc : ℕ) (is : block_of b ≡ Ok (read.Arrivals form n ssrc)) (o : Octets b) where
+  no_fault : fault ps ≡ None
   no_fault = fault_none ps s.good.ruled s.good.sounds
 
   found_here : {l : Option Line} → found_by ssrc_of ssrc ls ≡ l → found ssrc (held_of ps) ≡ source_in l
@@ -88,7 +89,7 @@ Follows ps (goes ls) = Same ps ls
 Follows ps (refuses refusal) = Unit {0}
 
 module _ (ps : List Place) (ls : List Line) (s : Same ps ls) (b : List ℕ) (o : Octets b) where
-  settled_follows : (form : Form) (n ssrc : ℕ) → block_of b ≡ read.Arrivals form n ssrc
+  settled_follows : (form : Form) (n ssrc : ℕ) → block_of b ≡ Ok (read.Arrivals form n ssrc)
       → Follows (count_places ps ssrc (width (shape_of form)) (take (n * width (shape_of form)) (drop body_at b))) (settled by_value (counted form n b) ssrc ls)
   unfolding settled new
   settled_follows form n ssrc is = go (found_by ssrc_of ssrc ls) refl
@@ -96,7 +97,7 @@ module _ (ps : List Place) (ls : List Line) (s : Same ps ls) (b : List ℕ) (o :
       after_block : List Place
       after_block = count_places ps ssrc (width (shape_of form)) (take (n * width (shape_of form)) (drop body_at b))
 
-      with_room : (t : Bool) → ltb (length ls) 16 ≡ t → found_by ssrc_of ssrc ls ≡ none
+      with_room : (t : Bool) → ltb (length ls) 16 ≡ t → found_by ssrc_of ssrc ls ≡ None
           → Follows after_block (cond t (goes (added_by ssrc_of (record { ssrc = ssrc; totals = counted form n b fresh_totals }) ls)) (refuses Places))
       with_room true q e =
           let less = ltb-true (length ls) 16 q in
@@ -108,8 +109,8 @@ module _ (ps : List Place) (ls : List Line) (s : Same ps ls) (b : List ℕ) (o :
       with_room false q e = tt
 
       go : (l : Option Line) → found_by ssrc_of ssrc ls ≡ l → Follows after_block (settled_by by_value (counted form n b) ssrc ls l)
-      go none e = with_room (ltb (length ls) 16) refl e
-      go (some l) e =
+      go None e = with_room (ltb (length ls) 16) refl e
+      go (Some l) e =
           let here = found_here ps ls s b form n ssrc is o e in
           let rises = subst (λ (qs : List Place). rising 0 qs ≡ true) s.are (kept_rises ps s.good.ruled) in
           let renewed : Line = record { ssrc = ssrc; totals = counted form n b l.totals } in
@@ -119,20 +120,20 @@ module _ (ps : List Place) (ls : List Line) (s : Same ps ls) (b : List ℕ) (o :
   unfolding next_of
   next_follows own = go (block_of b) refl
     where
-      chosen : (t : Bool) (form : Form) (n ssrc : ℕ) → same_form form own ≡ t → block_of b ≡ read.Arrivals form n ssrc
-          → Follows (table_by ps b (read.Arrivals form n ssrc)) (cond t (settled by_value (counted own n b) ssrc ls) (refuses Contents))
+      chosen : (t : Bool) (form : Form) (n ssrc : ℕ) → same_form form own ≡ t → block_of b ≡ Ok (read.Arrivals form n ssrc)
+          → Follows (table_by ps b (Ok (read.Arrivals form n ssrc))) (cond t (settled by_value (counted own n b) ssrc ls) (refuses Contents))
       chosen true form n ssrc q is =
-          subst (λ (f : Form). Follows (table_by ps b (read.Arrivals form n ssrc)) (settled by_value (counted f n b) ssrc ls)) (same_form_lem form own q) (settled_follows form n ssrc is)
+          subst (λ (f : Form). Follows (table_by ps b (Ok (read.Arrivals form n ssrc))) (settled by_value (counted f n b) ssrc ls)) (same_form_lem form own q) (settled_follows form n ssrc is)
       chosen false form n ssrc q is = tt
 
-      go : (r : Block) → block_of b ≡ r → Follows (table_by ps b r) (next_by by_value own b ls r)
-      go (read.Arrivals form n ssrc) is = chosen (same_form form own) form n ssrc refl is
-      go (read.Label form n ssrc) is = tt
-      go (read.Refused refusal) is = tt
+      go : (r : Result Block Refusal) → block_of b ≡ r → Follows (table_by ps b r) (next_by by_value own b ls r)
+      go (Ok (read.Arrivals form n ssrc)) is = chosen (same_form form own) form n ssrc refl is
+      go (Ok (read.Label form n ssrc)) is = tt
+      go (Err refusal) is = tt
 
 -- ---- over all blocks
 
-walk_follows : (i : ℕ) (bs : List (List ℕ)) (k : State) (ps : List Place) → Each Octets bs → Same ps k.lines → (walk ecnstreams i bs k).ended ≡ none
+walk_follows : (i : ℕ) (bs : List (List ℕ)) (k : State) (ps : List Place) → Each Octets bs → Same ps k.lines → (walk ecnstreams i bs k).ended ≡ None
     → map place_of (walk ecnstreams i bs k).state.lines ≡ held_of (table_behind ps bs)
 unfolding walk onward
 walk_follows i [] k ps o s e = sym s.are
@@ -140,9 +141,9 @@ walk_follows i (b ∷ bs) k ps o s e =
     go (next_of by_value k.form b k.lines) (next_follows ps k.lines s b o.0 k.form) (λ k. walk_follows (suc i) bs k (table_by ps b (block_of b)) o.1) e
   where
     go : (next : Next (List Line)) → Follows (table_by ps b (block_of b)) next
-        → ((k : State) → Same (table_by ps b (block_of b)) k.lines → (walk ecnstreams (suc i) bs k).ended ≡ none
+        → ((k : State) → Same (table_by ps b (block_of b)) k.lines → (walk ecnstreams (suc i) bs k).ended ≡ None
         → map place_of (walk ecnstreams (suc i) bs k).state.lines ≡ held_of (table_behind (table_by ps b (block_of b)) bs))
-        → (onward (turned i (taken k next)) (walk ecnstreams (suc i) bs)).ended ≡ none
+        → (onward (turned i (taken k next)) (walk ecnstreams (suc i) bs)).ended ≡ None
         → map place_of (onward (turned i (taken k next)) (walk ecnstreams (suc i) bs)).state.lines ≡ held_of (table_behind (table_by ps b (block_of b)) bs)
     go (goes ls) s later e = later (record { form = k.form; label = k.label; lines = ls }) s e
     go (refuses refusal) s later e = let z : ◌≡◌ {A = ℕ} 0 1 = cc in absurd (omega arith)
@@ -158,11 +159,11 @@ lines_are_table trace o e = go (block_of (blocks_of trace).zeroth) e
     rest : State → Run State
     rest = walk ecnstreams 1 (blocks_of trace).others
 
-    go : (r : Block) → (onward (turned 0 (begun_by (blocks_of trace).zeroth r)) rest).ended ≡ none
+    go : (r : Result Block Refusal) → (onward (turned 0 (begun_by (blocks_of trace).zeroth r)) rest).ended ≡ None
         → map place_of (onward (turned 0 (begun_by (blocks_of trace).zeroth r)) rest).state.lines ≡ held_of (table_behind (replicate 16 empty_place) (blocks_of trace).others)
-    go (read.Label form n ssrc) e = walk_follows 1 (blocks_of trace).others _ (replicate 16 empty_place) (octets_blocks trace o) none_held e
-    go (read.Arrivals form n ssrc) e = let z : ◌≡◌ {A = ℕ} 0 1 = cc in absurd (omega arith)
-    go (read.Refused refusal) e = let z : ◌≡◌ {A = ℕ} 0 1 = cc in absurd (omega arith)
+    go (Ok (read.Label form n ssrc)) e = walk_follows 1 (blocks_of trace).others _ (replicate 16 empty_place) (octets_blocks trace o) none_held e
+    go (Ok (read.Arrivals form n ssrc)) e = let z : ◌≡◌ {A = ℕ} 0 1 = cc in absurd (omega arith)
+    go (Err refusal) e = let z : ◌≡◌ {A = ℕ} 0 1 = cc in absurd (omega arith)
 
 -- the hypotheses are met
 used : Unit {0}

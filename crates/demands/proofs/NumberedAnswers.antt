@@ -1,7 +1,8 @@
 -- Number and values tell an answer: each is won back from them. Assumes nothing.
+use Rattle.std.specs.Prelude.{Option, Some, None, Result, Ok, Err}
+use Rattle.answers.specs.declared.Unwritten.{Unwritten}
 use mathlib.Core.Path.{◌≡◌, refl, sym, ap, ◌∙◌}
 use mathlib.Core.Bool.{Bool, false, cond}
-use mathlib.Core.Option.{Option, none, some}
 use Prim.Native.Nat.{ℕ}
 use lib.Dec.{eqb}
 use lib.IntN.{ℤ, pos}
@@ -9,19 +10,14 @@ use Rattle.answers.specs.Numbered.{written_as}
 use Rattle.answers.specs.Refusals.{number_of}
 use Rattle.answers.specs.declared.Refusal.{Refusal}
 use Rattle.answers.specs.declared.Refusal.TheVariants.{Incomplete, Version, FirstPacket, PacketSize, Padding, BlockSize, Jump, Full, Malformed, Limits, Time, Checksum, Contents, Places, Rules, FormTwo, Attribute, Retired}
-use Rattle.answers.specs.declared.Written.{Written}
-use Rattle.answers.specs.declared.Written.TheVariants as written
 use Rattle.source.specs.declared.Source.{Source}
 use Rattle.source.specs.declared.Arrival.{Arrival}
 use Rattle.source.specs.declared.Arrival.TheVariants as arrival
 use Rattle.source.specs.declared.BlockCount.{BlockCount}
 use Rattle.source.specs.declared.BlockCount.TheVariants as count
-use Rattle.source.specs.declared.Lost.{Lost}
-use Rattle.source.specs.declared.Lost.TheVariants as lost
 use Rattle.source.specs.Record.{fresh_record}
 use Rattle.source.specs.Numbered.{arrival_as, count_as, lost_as}
 use Rattle.rtcp.specs.declared.Compound.{Compound}
-use Rattle.rtcp.specs.declared.Reading.{Reading}
 use Rattle.rtcp.specs.Numbered.{reading_as}
 use Rattle.breaker.specs.declared.Breaker.{Breaker}
 use Rattle.breaker.specs.declared.EcnCounts.{EcnCounts}
@@ -32,7 +28,6 @@ use Rattle.breaker.specs.declared.Step.{Step}
 use Rattle.breaker.specs.Answers.{answers}
 use Rattle.breaker.specs.Calls.{unstarted}
 use Rattle.breaker.specs.Numbered.{Verdict, answer_as, step_as}
-use Rattle.between.specs.declared.Between.{Between}
 use Rattle.between.specs.Differences.{between_as}
 use Rattle.demands.specs.Numbered.{AnswersTell, RefusalsNumbered}
 
@@ -44,27 +39,27 @@ tells f g back x y e = sym (back x) ∙ ap g e ∙ back y
 
 unfoldable pub refusal_of : ℕ → Option Refusal
 refusal_of n =
-    cond (eqb n 1) (some Incomplete)
-    (cond (eqb n 2) (some Version)
-    (cond (eqb n 3) (some FirstPacket)
-    (cond (eqb n 4) (some PacketSize)
-    (cond (eqb n 5) (some Padding)
-    (cond (eqb n 6) (some BlockSize)
-    (cond (eqb n 7) (some Jump)
-    (cond (eqb n 8) (some Full)
-    (cond (eqb n 9) (some Malformed)
-    (cond (eqb n 10) (some Limits)
-    (cond (eqb n 11) (some Time)
-    (cond (eqb n 13) (some Checksum)
-    (cond (eqb n 14) (some Contents)
-    (cond (eqb n 15) (some Places)
-    (cond (eqb n 16) (some Rules)
-    (cond (eqb n 17) (some FormTwo)
-    (cond (eqb n 18) (some Attribute)
-    (cond (eqb n 19) (some Retired)
-    none)))))))))))))))))
+    cond (eqb n 1) (Some Incomplete)
+    (cond (eqb n 2) (Some Version)
+    (cond (eqb n 3) (Some FirstPacket)
+    (cond (eqb n 4) (Some PacketSize)
+    (cond (eqb n 5) (Some Padding)
+    (cond (eqb n 6) (Some BlockSize)
+    (cond (eqb n 7) (Some Jump)
+    (cond (eqb n 8) (Some Full)
+    (cond (eqb n 9) (Some Malformed)
+    (cond (eqb n 10) (Some Limits)
+    (cond (eqb n 11) (Some Time)
+    (cond (eqb n 13) (Some Checksum)
+    (cond (eqb n 14) (Some Contents)
+    (cond (eqb n 15) (Some Places)
+    (cond (eqb n 16) (Some Rules)
+    (cond (eqb n 17) (Some FormTwo)
+    (cond (eqb n 18) (Some Attribute)
+    (cond (eqb n 19) (Some Retired)
+    None)))))))))))))))))
 
-pub refusal_back : (r : Refusal) → refusal_of (number_of r) ≡ some r
+pub refusal_back : (r : Refusal) → refusal_of (number_of r) ≡ Some r
 unfolding refusal_of
 refusal_back Incomplete = refl
 refusal_back Version = refl
@@ -87,20 +82,20 @@ refusal_back Retired = refl
 
 -- ---- each answer
 
-written_by : ℕ → Option Refusal → Option ℕ → Written
-written_by number (some r) v = written.Refused r
-written_by number none (some n) = cond (eqb number 12) (written.Room n) (written.Length n)
-written_by number none none = written.Length 0
+written_by : ℕ → Option Refusal → Option ℕ → Result ℕ Unwritten
+written_by number (Some r) v = Err (Unwritten.Refused r)
+written_by number None (Some n) = cond (eqb number 12) (Err (Unwritten.Room n)) (Ok n)
+written_by number None None = Ok 0
 
-written_back : (x : Written) → written_by (written_as x).number (refusal_of (written_as x).number) (written_as x).values ≡ x
+written_back : (x : Result ℕ Unwritten) → written_by (written_as x).number (refusal_of (written_as x).number) (written_as x).values ≡ x
 unfolding refusal_of written_by
-written_back (written.Length n) = refl
-written_back (written.Room n) = refl
-written_back (written.Refused r) = ap (λ (o : Option Refusal). written_by (number_of r) o none) (refusal_back r)
+written_back (Ok n) = refl
+written_back (Err (Unwritten.Room n)) = refl
+written_back (Err (Unwritten.Refused r)) = ap (λ (o : Option Refusal). written_by (number_of r) o None) (refusal_back r)
 
 arrival_by : Option Refusal → Source × Bool → Arrival
-arrival_by none v = cond v.1 (arrival.Restarted v.0) (arrival.Accepted v.0)
-arrival_by (some r) v = arrival.Refused r v.0
+arrival_by None v = cond v.1 (arrival.Restarted v.0) (arrival.Accepted v.0)
+arrival_by (Some r) v = arrival.Refused r v.0
 
 arrival_back : (x : Arrival) → arrival_by (refusal_of (arrival_as x).number) (arrival_as x).values ≡ x
 unfolding refusal_of arrival_by
@@ -109,44 +104,44 @@ arrival_back (arrival.Restarted s) = refl
 arrival_back (arrival.Refused r s) = ap (λ (o : Option Refusal). arrival_by o (s, false)) (refusal_back r)
 
 count_by : Option Refusal → Source → Option (ℕ × ℕ) → BlockCount
-count_by none s (some v) = count.Counted s v.0 v.1
-count_by none s none = count.Counted s 0 0
-count_by (some r) s v = count.Refused r s
+count_by None s (Some v) = count.Counted s v.0 v.1
+count_by None s None = count.Counted s 0 0
+count_by (Some r) s v = count.Refused r s
 
 count_back : (x : BlockCount) → count_by (refusal_of (count_as x).number) (count_as x).values.0 (count_as x).values.1 ≡ x
 unfolding refusal_of count_by
 count_back (count.Counted s jumps restarts) = refl
-count_back (count.Refused r s) = ap (λ (o : Option Refusal). count_by o s none) (refusal_back r)
+count_back (count.Refused r s) = ap (λ (o : Option Refusal). count_by o s None) (refusal_back r)
 
-lost_by : Option Refusal → Option ℤ → Lost
-lost_by none (some z) = lost.Packets z
-lost_by none none = lost.Packets (pos 0)
-lost_by (some r) v = lost.Refused r
+lost_by : Option Refusal → Option ℤ → Result ℤ Refusal
+lost_by None (Some z) = Ok z
+lost_by None None = Ok (pos 0)
+lost_by (Some r) v = Err r
 
-lost_back : (x : Lost) → lost_by (refusal_of (lost_as x).number) (lost_as x).values ≡ x
+lost_back : (x : Result ℤ Refusal) → lost_by (refusal_of (lost_as x).number) (lost_as x).values ≡ x
 unfolding refusal_of lost_by
-lost_back (lost.Packets z) = refl
-lost_back (lost.Refused r) = ap (λ (o : Option Refusal). lost_by o none) (refusal_back r)
+lost_back (Ok z) = refl
+lost_back (Err r) = ap (λ (o : Option Refusal). lost_by o None) (refusal_back r)
 
-reading_by : Option Refusal → Option Compound → Reading
-reading_by none (some c) = Reading.Read c
-reading_by none none = Reading.Refused Incomplete
-reading_by (some r) v = Reading.Refused r
+reading_by : Option Refusal → Option Compound → Result Compound Refusal
+reading_by None (Some c) = Ok c
+reading_by None None = Err Incomplete
+reading_by (Some r) v = Err r
 
-reading_back : (x : Reading) → reading_by (refusal_of (reading_as x).number) (reading_as x).values ≡ x
+reading_back : (x : Result Compound Refusal) → reading_by (refusal_of (reading_as x).number) (reading_as x).values ≡ x
 unfolding refusal_of reading_by
-reading_back (Reading.Read c) = refl
-reading_back (Reading.Refused r) = ap (λ (o : Option Refusal). reading_by o none) (refusal_back r)
+reading_back (Ok c) = refl
+reading_back (Err r) = ap (λ (o : Option Refusal). reading_by o None) (refusal_back r)
 
-between_by : Option Refusal → Option EcnCounts → Between
-between_by none (some c) = Between.Counts c
-between_by none none = Between.Refused Incomplete
-between_by (some r) v = Between.Refused r
+between_by : Option Refusal → Option EcnCounts → Result EcnCounts Refusal
+between_by None (Some c) = Ok c
+between_by None None = Err Incomplete
+between_by (Some r) v = Err r
 
-between_back : (x : Between) → between_by (refusal_of (between_as x).number) (between_as x).values ≡ x
+between_back : (x : Result EcnCounts Refusal) → between_by (refusal_of (between_as x).number) (between_as x).values ≡ x
 unfolding refusal_of between_by
-between_back (Between.Counts c) = refl
-between_back (Between.Refused r) = ap (λ (o : Option Refusal). between_by o none) (refusal_back r)
+between_back (Ok c) = refl
+between_back (Err r) = ap (λ (o : Option Refusal). between_by o None) (refusal_back r)
 
 verdict_by : Verdict → Answer
 verdict_by v =
@@ -157,9 +152,9 @@ verdict_by v =
     answer.Go)))
 
 answer_by : Option Refusal → Option Verdict → Answer
-answer_by none (some v) = verdict_by v
-answer_by none none = answer.Go
-answer_by (some r) v = answer.Refused r
+answer_by None (Some v) = verdict_by v
+answer_by None None = answer.Go
+answer_by (Some r) v = answer.Refused r
 
 answer_back : (b : Breaker) (x : Answer) → answer_by (refusal_of (answer_as b x).number) (answer_as b x).values.1 ≡ x
 unfolding refusal_of answer_by verdict_by
@@ -168,7 +163,7 @@ answer_back b answer.Reduce = refl
 answer_back b (answer.Stop Timeout) = refl
 answer_back b (answer.Stop Media) = refl
 answer_back b (answer.Stop Congestion) = refl
-answer_back b (answer.Refused r) = ap (λ (o : Option Refusal). answer_by o none) (refusal_back r)
+answer_back b (answer.Refused r) = ap (λ (o : Option Refusal). answer_by o None) (refusal_back r)
 
 -- the breaker beside an answer
 breaker_back : (b : Breaker) (x : Answer) → (answer_as b x).values.0 ≡ b
@@ -199,11 +194,11 @@ refusals_numbered refusal n s b = (refl, refl, refl, refl, refl, refl, refl, ref
 -- each at an answer of its kind
 used : Unit {0}
 used =
-    let written = answers_tell.0 (written.Room 3) (written.Room 3) refl in
+    let written = answers_tell.0 (Err (Unwritten.Room 3)) (Err (Unwritten.Room 3)) refl in
     let arrived = answers_tell.1 (arrival.Restarted fresh_record) (arrival.Restarted fresh_record) refl in
     let counted = answers_tell.2 (count.Counted fresh_record 1 2) (count.Counted fresh_record 1 2) refl in
-    let lost = answers_tell.3 (lost.Packets (pos 2)) (lost.Packets (pos 2)) refl in
-    let read = answers_tell.4 (Reading.Refused Version) (Reading.Refused Version) refl in
+    let lost = answers_tell.3 (Ok (pos 2)) (Ok (pos 2)) refl in
+    let read = answers_tell.4 (Err Version) (Err Version) refl in
     let step = answers_tell.5 unstarted unstarted refl in
-    let between = answers_tell.6 (Between.Refused Limits) (Between.Refused Limits) refl in
+    let between = answers_tell.6 (Err Limits) (Err Limits) refl in
     tt

@@ -1,8 +1,8 @@
 -- One call on a table: the record of the source that it names, those of the others, and its answer. Assumes nothing.
+use Rattle.std.specs.Prelude.{Option, Some, None}
 use mathlib.Core.Path.{◌≡◌, refl, sym, ap, ◌∙◌, subst}
 use mathlib.Core.Bool.{Bool, true, false, cond, ◌&&◌, false≢true}
 use mathlib.Core.List.{List, [], ◌∷◌, map}
-use mathlib.Core.Option.{Option, none, some}
 use Prim.Native.Nat.{ℕ, ◌/◌, ◌^◌, ◌≤◌, ◌<◌}
 use native.Mathlib.Omega.{arith}
 use borrow.Author.Tests.{le-leb, lt-leb, leb-true, lt-ltb, ltb-true, ltb-false, eq-eqb}
@@ -39,11 +39,11 @@ use Rattle.demands.proofs.Traces.{count_accepted}
 -- ---- which of 10 and 15 refuses, where neither 16 nor 9 does
 
 data Way (o : Bool) (ssrc : ℕ) (ps : List Place) : Type 0 where
-  limits : o ≡ true → refusal o ssrc ps ≡ some Limits → Way o ssrc ps
-  places : refusal o ssrc ps ≡ some Places → Way o ssrc ps
-  goes : o ≡ false → refusal o ssrc ps ≡ none → Way o ssrc ps
+  limits : o ≡ true → refusal o ssrc ps ≡ Some Limits → Way o ssrc ps
+  places : refusal o ssrc ps ≡ Some Places → Way o ssrc ps
+  goes : o ≡ false → refusal o ssrc ps ≡ None → Way o ssrc ps
 
-way : (o : Bool) (ssrc : ℕ) (ps : List Place) → fault ps ≡ none → Way o ssrc ps
+way : (o : Bool) (ssrc : ℕ) (ps : List Place) → fault ps ≡ None → Way o ssrc ps
 unfolding refusal
 way o ssrc ps good = go o refl (new_to ssrc ps && full ps) refl
   where
@@ -54,7 +54,7 @@ way o ssrc ps good = go o refl (new_to ssrc ps && full ps) refl
 
 -- ---- an arrival
 
-module _ (ps : List Place) (a : Arrival) (good : fault ps ≡ none) (seat : seated (answer ps a) ≡ true) where
+module _ (ps : List Place) (a : Arrival) (good : fault ps ≡ None) (seat : seated (answer ps a) ≡ true) where
   abbrev own : answers.Arrival
   own = arrival (record_of a.ssrc ps) a.wire a.mark
 
@@ -84,12 +84,12 @@ module _ (ps : List Place) (ssrc width : ℕ) (bytes : List ℕ) (octets : (i : 
   next = behind (block_count start width bytes)
 
   -- a block that 10 refuses
-  block_kept : {r : Refusal} → refusal (outside width bytes) ssrc ps ≡ some r → count_places ps ssrc width bytes ≡ ps
+  block_kept : {r : Refusal} → refusal (outside width bytes) ssrc ps ≡ Some r → count_places ps ssrc width bytes ≡ ps
   unfolding count_places
   block_kept r = rw r
 
   -- one that is counted
-  module _ (r : refusal (outside width bytes) ssrc ps ≡ none) where
+  module _ (r : refusal (outside width bytes) ssrc ps ≡ None) where
     its : Free (outside width bytes) ssrc ps
     its = free (outside width bytes) ssrc ps r
 
@@ -106,7 +106,7 @@ module _ (ps : List Place) (ssrc width : ℕ) (bytes : List ℕ) (octets : (i : 
     unfolding count_places
     block_held = rw r (held_behind ssrc ps next its.good counts_some its.room)
 
-    block_found : (other : ℕ) → found other (held_of (count_places ps ssrc width bytes)) ≡ cond (eqb ssrc other) (some next) (found other (held_of ps))
+    block_found : (other : ℕ) → found other (held_of (count_places ps ssrc width bytes)) ≡ cond (eqb ssrc other) (Some next) (found other (held_of ps))
     block_found other = ap (found other) block_held ∙ found_put other (record { ssrc = ssrc; source = next }) (held_of ps)
 
     -- where its packets are accepted
@@ -115,17 +115,17 @@ module _ (ps : List Place) (ssrc width : ℕ) (bytes : List ℕ) (octets : (i : 
         let fit : marks_fit (map of_arrival front) ≡ true = ap marks_fit (sym same) ∙ (within width bytes (in_limits_lem ps ssrc width bytes octets its)).fit in
         counted_is ps ssrc width bytes octets its ∙ ap (λ (l : List Packet). count_all l start 0 0) same ∙ count_accepted front start 0 0 (marks_fit_lem front fit) a
 
-  module _ (good : fault ps ≡ none) where
+  module _ (good : fault ps ≡ None) where
     block_other : (other : ℕ) → eqb ssrc other ≡ false → record_of other (count_places ps ssrc width bytes) ≡ record_of other ps
     block_other other e = go (way (outside width bytes) ssrc ps good)
       where
         go : Way (outside width bytes) ssrc ps → record_of other (count_places ps ssrc width bytes) ≡ record_of other ps
         go (limits o r) = ap (record_of other) (block_kept r)
         go (places r) = ap (record_of other) (block_kept r)
-        go (goes o r) = ap record_in (block_found r other ∙ ap (λ (t : Bool). cond t (some next) (found other (held_of ps))) e)
+        go (goes o r) = ap record_in (block_found r other ∙ ap (λ (t : Bool). cond t (Some next) (found other (held_of ps))) e)
 
-  module _ (good : fault ps ≡ none) (seat : seated_block (count_answer ps ssrc width bytes) ≡ true) where
-    seatless : refusal (outside width bytes) ssrc ps ≡ some Places → ⊥
+  module _ (good : fault ps ≡ None) (seat : seated_block (count_answer ps ssrc width bytes) ≡ true) where
+    seatless : refusal (outside width bytes) ssrc ps ≡ Some Places → ⊥
     unfolding count_answer
     seatless r = false≢true (sym (ap (λ (f : Option Refusal). seated_block (block_unless f (told_block (stands_at ssrc (held_of ps)) (new_to ssrc ps) (block_count start width bytes)))) r) ∙ seat)
 
@@ -148,7 +148,7 @@ module _ (ps : List Place) (ssrc width : ℕ) (bytes : List ℕ) (octets : (i : 
           go (limits o r) = ap (record_of ssrc) (block_kept r) ∙ same_record front (none_brought o)
           go (places r) = absurd (seatless r)
           go (goes o r) =
-              ap record_in (block_found r ssrc ∙ ap (λ (t : Bool). cond t (some next) (found ssrc (held_of ps))) (eq-eqb ssrc ssrc refl))
+              ap record_in (block_found r ssrc ∙ ap (λ (t : Bool). cond t (Some next) (found ssrc (held_of ps))) (eq-eqb ssrc ssrc refl))
               ∙ ap behind (block_counted r front (all_brought o) a)
 
       block_answer_lem : Answered ps (counts ssrc width bytes)
@@ -162,7 +162,7 @@ module _ (ps : List Place) (ssrc width : ℕ) (bytes : List ℕ) (octets : (i : 
 
 -- ---- either call
 
-pub good_behind : (ps : List Place) (c : Call) → Fits c → fault ps ≡ none → fault (behind_call ps c) ≡ none
+pub good_behind : (ps : List Place) (c : Call) → Fits c → fault ps ≡ None → fault (behind_call ps c) ≡ None
 good_behind ps (arrives a) h good = arrival_keeps_rules ps a.ssrc a.wire a.mark h.1 good
 good_behind ps (counts ssrc width bytes) h good = block_keeps_rules ps ssrc width bytes h.1 good
 
@@ -171,28 +171,28 @@ unfolding arrive_places
 ssrcs_behind ps (arrives a) h fit = go (refusal (ltb 3 a.mark) a.ssrc ps) refl
   where
     go : (f : Option Refusal) → refusal (ltb 3 a.mark) a.ssrc ps ≡ f → ssrcs_fit (held_of (behind_one ps a)) ≡ true
-    go (some r) e = rw e fit
-    go none e =
+    go (Some r) e = rw e fit
+    go None e =
         let p : Place = record { ssrc = a.ssrc; source = after (arrival (record_of a.ssrc ps) a.wire a.mark) } in
         ap ssrcs_fit (arrive_held ps a.ssrc a.wire a.mark h.1 e) ∙ all_put (λ p. ltb p.ssrc (2 ^ 32)) p (held_of ps) (lt-ltb a.ssrc (2 ^ 32) h.0) fit
 ssrcs_behind ps (counts ssrc width bytes) h fit = go (refusal (outside width bytes) ssrc ps) refl
   where
     go : (f : Option Refusal) → refusal (outside width bytes) ssrc ps ≡ f → ssrcs_fit (held_of (count_places ps ssrc width bytes)) ≡ true
-    go (some r) e = ap (λ (l : List Place). ssrcs_fit (held_of l)) (block_kept ps ssrc width bytes h.1 e) ∙ fit
-    go none e =
+    go (Some r) e = ap (λ (l : List Place). ssrcs_fit (held_of l)) (block_kept ps ssrc width bytes h.1 e) ∙ fit
+    go None e =
         let p : Place = record { ssrc = ssrc; source = behind (block_count (record_of ssrc ps) width bytes) } in
         ap ssrcs_fit (block_held ps ssrc width bytes h.1 e) ∙ all_put (λ p. ltb p.ssrc (2 ^ 32)) p (held_of ps) (lt-ltb ssrc (2 ^ 32) h.0) fit
 
-module _ (ps : List Place) (good : fault ps ≡ none) where
+module _ (ps : List Place) (good : fault ps ≡ None) where
   pub others_stay : (c : Call) → Fits c → (other : ℕ) → eqb (named c) other ≡ false → record_of other (behind_call ps c) ≡ record_of other ps
   unfolding arrive_places
   others_stay (arrives a) h other e = go (refusal (ltb 3 a.mark) a.ssrc ps) refl
     where
       go : (f : Option Refusal) → refusal (ltb 3 a.mark) a.ssrc ps ≡ f → record_of other (behind_one ps a) ≡ record_of other ps
-      go (some r) q = rw q
-      go none q =
+      go (Some r) q = rw q
+      go None q =
           ap record_in (others_keep ps a.ssrc a.wire a.mark h.1 q other
-          ∙ ap (λ (t : Bool). cond t (some (after (arrival (record_of a.ssrc ps) a.wire a.mark))) (found other (held_of ps))) e)
+          ∙ ap (λ (t : Bool). cond t (Some (after (arrival (record_of a.ssrc ps) a.wire a.mark))) (found other (held_of ps))) e)
   others_stay (counts ssrc width bytes) h other e = block_other ps ssrc width bytes h.1 good other e
 
   -- the record that the call names has counted the packets that it brings, where they are accepted

@@ -1,8 +1,8 @@
 -- A table has one last row. Assumes nothing.
+use Rattle.std.specs.Prelude.{Option, Some, None}
 use mathlib.Core.Path.{◌≡◌, sym, ap, ◌∙◌}
 use mathlib.Core.Bool.{true}
 use mathlib.Core.List.{List, [], ◌∷◌, ◌++◌, map, append-nil, append_assoc}
-use mathlib.Core.Option.{Option, none, some}
 use Prim.Native.Nat.{ℕ, ◌≤◌}
 use native.Mathlib.Omega.{arith}
 use lib.ListN.{length, drop, length-append}
@@ -28,8 +28,8 @@ line_least field [] = omega (arith, length-append field (13 ∷ 10 ∷ []))
 line_least field (t ∷ ts) = omega (arith, length-append field (44 ∷ line t ts), line_least t ts)
 
 rest_in : Option Split → List ℕ
-rest_in none = []
-rest_in (some s) = s.rest
+rest_in None = []
+rest_in (Some s) = s.rest
 
 module _ (label : List ℕ) (ssrc : ℕ) (ok : label_ok label ≡ true) where
   abbrev row : Totals → List ℕ

@@ -1,4 +1,6 @@
 -- For a trace of one source, ecnstreams prints ecntable's last row. Assumes nothing.
+use Rattle.std.specs.Prelude.{Result, Ok}
+use Rattle.answers.specs.declared.Refusal.{Refusal}
 use mathlib.Core.Path.{◌≡◌, refl, sym, ap, ap₂, ◌∙◌}
 use mathlib.Core.List.{List, [], ◌∷◌, ◌++◌, append-nil, append_assoc}
 use Prim.Native.Nat.{ℕ, suc, ◌≤◌}
@@ -52,9 +54,9 @@ module _ (form : Form) (ssrc : ℕ) where
   abbrev line_with : List Record → Line
   line_with us = record { ssrc = ssrc; totals = records_totals us }
 
-  module _ (b : List ℕ) (n : ℕ) (is : block_of b ≡ Arrivals form n ssrc) where
+  module _ (b : List ℕ) (n : ℕ) (is : block_of b ≡ Ok (Arrivals form n ssrc)) where
     abbrev own : List Record
-    own = records_by b (Arrivals form n ssrc)
+    own = records_by b (Ok (Arrivals form n ssrc))
 
     pub counts_own : (us : List Record) → Good (records_totals us) → counted form n b (records_totals us) ≡ records_totals (us ++ own)
     unfolding counted
@@ -86,7 +88,7 @@ module _ (form : Form) (ssrc : ℕ) where
       ap to_output (append-nil (row_bytes label ssrc (records_totals us))) ∙ ap (λ (rs : List Record). to_output (row_bytes label ssrc (records_totals rs))) (sym (append-nil us))
   row_alone label i (b ∷ bs) us a o g =
       let more = own b a.0 a.1 in
-      let all : us ++ together (b ∷ bs) ≡ (us ++ more) ++ together bs = ap (λ (r : Block). us ++ (records_by b r ++ together bs)) a.1 ∙ sym (append_assoc us more (together bs)) in
+      let all : us ++ together (b ∷ bs) ≡ (us ++ more) ++ together bs = ap (λ (r : Result Block Refusal). us ++ (records_by b r ++ together bs)) a.1 ∙ sym (append_assoc us more (together bs)) in
       rest_goes i b bs (record { form = form; label = label; lines = line_with us ∷ [] }) (later_goes b a.0 a.1 us g)
       ∙ row_alone label (suc i) bs (us ++ more) a.2 o.1 (still_good b a.0 a.1 us o.0 g)
       ∙ ap (λ (rs : List Record). to_output (row_bytes label ssrc (records_totals rs))) (sym all)
@@ -105,11 +107,11 @@ one_stream trace form n ssrc o label a some =
     by_blocks : (b : List ℕ) (bs : List (List ℕ)) → Each Octets (b ∷ bs) → AllArrivals form ssrc (b ∷ bs)
         → rest 1 (b ∷ bs) (begun zeroth form n) ≡ to_output (row_bytes (take n (body_of zeroth)) ssrc (records_totals (together (b ∷ bs))))
     by_blocks b bs o a =
-        let first = records_by b (Arrivals form a.0 ssrc) in
+        let first = records_by b (Ok (Arrivals form a.0 ssrc)) in
         let good = still_good form ssrc b a.0 a.1 [] o.0 (rw none_counted fresh_good) in
         rest_goes 1 b bs (begun zeroth form n) (first_goes form ssrc b a.0 a.1)
         ∙ row_alone form ssrc (begun zeroth form n).label 2 bs first a.2 o.1 good
-        ∙ ap₂ (λ (l : List ℕ) (r : Block). to_output (row_bytes l ssrc (records_totals (records_by b r ++ together bs)))) text (sym a.1)
+        ∙ ap₂ (λ (l : List ℕ) (r : Result Block Refusal). to_output (row_bytes l ssrc (records_totals (records_by b r ++ together bs)))) text (sym a.1)
 
     go : (bs : List (List ℕ)) → (blocks_of trace).others ≡ bs → 1 ≤ length bs → Each Octets bs → AllArrivals form ssrc bs
         → printed trace ≡ to_output (head_bytes ++ row_bytes (take n (body_of zeroth)) ssrc (records_totals (together bs)))

@@ -1,4 +1,5 @@
 -- Lists with the same arrivals have the same count but for the base. Assumes nothing.
+use Rattle.std.specs.Prelude.{None}
 use mathlib.Core.Path.{◌≡◌, refl, sym, ap, ap₂, ◌∙◌, subst}
 use mathlib.Core.Bool.{Bool, true, false, not, ◌&&◌, ◌||◌}
 use mathlib.Core.List.Permᴰ
@@ -11,7 +12,6 @@ use lib.ListN.{length}
 use Rattle.numbers.specs.Integers.{eq_z}
 use Rattle.answers.proofs.Conditions.{is_true, is_false, true_is, false_not, both}
 use Rattle.numbers.proofs.Integers.{eq_z_refl, eq_z_eq, eq_eq_z, le_z_antisym}
-use Rattle.source.specs.declared.Remembered.TheVariants.{Nothing}
 use Rattle.source.specs.Places.{bit}
 use Rattle.source.specs.Arrivals.{extended}
 use Rattle.source.proofs.Rows.{history_ext}
@@ -158,7 +158,7 @@ perm_count base {ps} {qs} r = λ i. record {
   ce = perm_tally 3 r i;
   duplicates = ap₂ ◌-◌ (perm_length r) (perm_distinct r) i;
   history = history_ext (recent ps) (recent qs) row i;
-  remembered = Nothing;
+  remembered = None;
 }
   where
     row : (k : ℕ) → k < 100 → recent ps k ≡ recent qs k

@@ -1,4 +1,6 @@
 -- Demand 3 in what ecntable prints. Assumes nothing.
+use Rattle.std.specs.Prelude.{Result, Ok}
+use Rattle.answers.specs.declared.Refusal.{Refusal}
 use mathlib.Core.Path.{◌≡◌, refl, sym, ap, ap₂, ◌∙◌, subst}
 use mathlib.Core.Bool.{true}
 use mathlib.Core.List.{List, [], ◌∷◌, ◌++◌, map, append-nil, append_assoc, map-append}
@@ -54,7 +56,7 @@ trace_marks form ssrc (b ∷ bs) vs a e =
     let s = split_records (records_by b (block_of b)) (together bs) vs e in
     subst Marks (sym s.is)
     (marks_parts s.front s.back
-    (block_marks b form a.0 ssrc is s.front (ap (λ (r : Block). map in_record (records_by b r)) (sym is) ∙ s.first))
+    (block_marks b form a.0 ssrc is s.front (ap (λ (r : Result Block Refusal). map in_record (records_by b r)) (sym is) ∙ s.first))
     (trace_marks form ssrc bs s.back a.2 s.more))
 
 -- ---- the rows
@@ -84,8 +86,8 @@ module _ (form : Form) (zeroth label : List ℕ) (ssrc : ℕ) (Label-is : take (
   row_is us vs e mu = ap (λ (l : List ℕ). row_bytes l ssrc (with us).totals) Label-is ∙ row_counts us vs e mu
 
   -- a block of `vs` leads from `us` to `us ++ vs`
-  next_is : (us vs ws : List TruePacket) → us ++ (vs ++ ws) ≡ ps → (b : List ℕ) (n : ℕ) → block_of b ≡ Arrivals form n ssrc
-      → map in_record (records_by b (Arrivals form n ssrc)) ≡ map of_arrival vs → next_of (with us) b ≡ goes (with (us ++ vs))
+  next_is : (us vs ws : List TruePacket) → us ++ (vs ++ ws) ≡ ps → (b : List ℕ) (n : ℕ) → block_of b ≡ Ok (Arrivals form n ssrc)
+      → map in_record (records_by b (Ok (Arrivals form n ssrc))) ≡ map of_arrival vs → next_of (with us) b ≡ goes (with (us ++ vs))
   unfolding arrived
   next_is us vs ws e b n is same =
       let good : sound (run us) ≡ true = run_sound fresh_record us fresh_sound in
@@ -120,7 +122,7 @@ module _ (form : Form) (zeroth label : List ℕ) (ssrc : ℕ) (Label-is : take (
       let n = a.0 in
       let is = a.1 in
       let s = split_records (records_by b (block_of b)) (together bs) vs same in
-      let first : map in_record (records_by b (Arrivals form n ssrc)) ≡ map of_arrival s.front = ap (λ (r : Block). map in_record (records_by b r)) (sym is) ∙ s.first in
+      let first : map in_record (records_by b (Ok (Arrivals form n ssrc))) ≡ map of_arrival s.front = ap (λ (r : Result Block Refusal). map in_record (records_by b r)) (sym is) ∙ s.first in
       let next : List TruePacket = us ++ s.front in
       let parts : us ++ (s.front ++ s.back) ≡ ps = ap (λ (l : List TruePacket). us ++ l) (sym s.is) ∙ e in
       let whole : next ++ s.back ≡ ps = append_assoc us s.front s.back ∙ parts in

@@ -1,8 +1,8 @@
 -- Written reports read back. Assumes nothing.
+use Rattle.std.specs.Prelude.{Option, Some, None, Ok}
 use mathlib.Core.Path.{◌≡◌, refl, sym, ap, ◌∙◌}
 use mathlib.Core.Bool.{Bool, true, false, cond, false≢true}
 use mathlib.Core.List.{List, [], ◌∷◌, ◌++◌, flat_map, append-nil}
-use mathlib.Core.Option.{Option, none, some}
 use Prim.Native.Nat.{ℕ, zero, suc, ◌+◌, ◌^◌, ◌≤◌, ◌<◌}
 use native.Mathlib.Omega.{arith}
 use borrow.Author.Tests.{eq-eqb, eqb-true, lt-ltb, leb-true}
@@ -14,11 +14,7 @@ use Rattle.source.specs.declared.Source.{Source}
 use Rattle.format.specs.declared.Counts.{Counts}
 use Rattle.report.specs.Carried.{counts_of}
 use Rattle.report.specs.Reports.{counts_bytes, feedback_bytes, summary_of}
-use Rattle.rtcp.specs.declared.MaybeReport.{MaybeReport}
-use Rattle.rtcp.specs.declared.MaybeFeedback.{MaybeFeedback}
-use Rattle.rtcp.specs.declared.MaybeSummary.{MaybeSummary}
 use Rattle.rtcp.specs.declared.Profile.{Profile}
-use Rattle.rtcp.specs.declared.Reading.{Reading}
 use Rattle.rtcp.specs.Header.{header_at, padding}
 use Rattle.rtcp.specs.Packets.{is_report, is_feedback, blocks_from, padding_right, body_right, may_stand}
 use Rattle.rtcp.specs.Entries.{entry_for}
@@ -42,22 +38,22 @@ use Rattle.demands.proofs.Compounds.{feedback_about, compound_read}
 
 -- the place of an SSRC is the one that is found
 found_index : (least : ℕ) (ps : List Place) (i : ℕ) → rising least ps ≡ true → i < length ps
-    → found (get_or ps i empty_place).ssrc ps ≡ some (get_or ps i empty_place).source
+    → found (get_or ps i empty_place).ssrc ps ≡ Some (get_or ps i empty_place).source
 unfolding found
 found_index least [] i r h = absurd (omega arith)
 found_index least (p ∷ ps) zero r h = rw (eq-eqb p.ssrc p.ssrc refl)
 found_index least (p ∷ ps) (suc i) r h = go (eqb p.ssrc (get_or ps i empty_place).ssrc) refl (found_index (p.ssrc + 1) ps i (rising_rest least p ps r) (omega arith))
   where
-    go : (t : Bool) → eqb p.ssrc (get_or ps i empty_place).ssrc ≡ t → found (get_or ps i empty_place).ssrc ps ≡ some (get_or ps i empty_place).source
-        → cond t (some p.source) (found (get_or ps i empty_place).ssrc ps) ≡ some (get_or ps i empty_place).source
+    go : (t : Bool) → eqb p.ssrc (get_or ps i empty_place).ssrc ≡ t → found (get_or ps i empty_place).ssrc ps ≡ Some (get_or ps i empty_place).source
+        → cond t (Some p.source) (found (get_or ps i empty_place).ssrc ps) ≡ Some (get_or ps i empty_place).source
     go false e more = more
     go true e more =
         let same = eqb-true p.ssrc (get_or ps i empty_place).ssrc e in
-        let gone : found (get_or ps i empty_place).ssrc ps ≡ none = below_none (get_or ps i empty_place).ssrc (p.ssrc + 1) ps (omega arith) (rising_rest least p ps r) in
+        let gone : found (get_or ps i empty_place).ssrc ps ≡ None = below_none (get_or ps i empty_place).ssrc (p.ssrc + 1) ps (omega arith) (rising_rest least p ps r) in
         absurd (let z : ◌≡◌ {A = ℕ} 0 1 = cc in omega arith)
 
 -- what is read of the compound about any SSRC
-pub table_read : (ps : List Place) (sender : ℕ) (profile : Profile) → fault ps ≡ none → ssrcs_fit (held_of ps) ≡ true → sender < 2 ^ 32 → (ssrc : ℕ)
+pub table_read : (ps : List Place) (sender : ℕ) (profile : Profile) → fault ps ≡ None → ssrcs_fit (held_of ps) ≡ true → sender < 2 ^ 32 → (ssrc : ℕ)
     → reading (compound_bytes sender ps) ssrc profile ≡ only_feedback (feedback_about sender (found ssrc (held_of ps)))
 unfolding compound_bytes
 table_read ps sender profile good fit hs ssrc =
@@ -74,9 +70,9 @@ compound_reads_back ps sender profile good fit hs =
       others = λ ssrc new. read ssrc ∙ ap (λ (f : Option Source). only_feedback (feedback_about sender f)) (nothing (found ssrc (held_of ps)) new);
     }
   where
-    nothing : (f : Option Source) → is_new f ≡ true → f ≡ none
-    nothing none e = refl
-    nothing (some s) e = absurd (false≢true e)
+    nothing : (f : Option Source) → is_new f ≡ true → f ≡ None
+    nothing None e = refl
+    nothing (Some s) e = absurd (false≢true e)
 
 -- ---- one report
 
@@ -90,16 +86,16 @@ feedback_reads_back s from sender media profile hs hm =
     ∙ rw (eq-eqb media media refl)
 
 -- the block in the second packet
-abbrev summary_behind : ℕ → ℕ → Counts → MaybeSummary
+abbrev summary_behind : ℕ → ℕ → Counts → Option Counts
 summary_behind from media c =
     let b : List ℕ = receiver_report from ++ xr_packet from (summary_of media c) in
     summary_in (block_at b 16) b 16 media
 
 summary_scan : (from media : ℕ) (c : Counts) (profile : Profile)
     → reading (receiver_report from ++ xr_packet from (summary_of media c)) media profile
-    ≡ Reading.Read (record {
-      report = MaybeReport.Absent;
-      feedback = MaybeFeedback.Absent;
+    ≡ Ok (record {
+      report = None;
+      feedback = None;
       summary = first_summary (summary_behind from media c ∷ []);
       reporting = true;
     })
@@ -107,18 +103,18 @@ unfolding reading flat_map begins_in blocks header_at padding padding_right may_
 summary_scan from media c Profile.Compound = refl
 summary_scan from media c Profile.ReducedSize = refl
 
-summary_found : (from media : ℕ) (c : Counts) → Fits c → media < 2 ^ 32 → summary_behind from media c ≡ MaybeSummary.Present c
+summary_found : (from media : ℕ) (c : Counts) → Fits c → media < 2 ^ 32 → summary_behind from media c ≡ Some c
 unfolding block_at summary_in is_summary entry_for receiver_report xr_packet summary_of counts_bytes word bytes
 summary_found from media c f m =
     let head : List ℕ = receiver_report from ++ bytes 4 0x80CF0007 ++ bytes 4 from ++ bytes 4 0x0D000005 in
     let b : List ℕ = receiver_report from ++ xr_packet from (summary_of media c) in
     let about : word 4 b 20 ≡ media = field 4 media head (counts_bytes c) m in
-    rw (eq-eqb (word 4 b 20) media about) (ap MaybeSummary.Present (counts_back c f [] (head ++ bytes 4 media)))
+    rw (eq-eqb (word 4 b 20) media about) (ap Some (counts_back c f [] (head ++ bytes 4 media)))
 
 pub summary_reads_back : SummaryReadsBack
 summary_reads_back s from media profile hm =
     summary_scan from media (counts_of s) profile
-    ∙ ap (λ (f : MaybeSummary). Reading.Read (record { report = MaybeReport.Absent; feedback = MaybeFeedback.Absent; summary = first_summary (f ∷ []); reporting = true }))
+    ∙ ap (λ (f : Option Counts). Ok (record { report = None; feedback = None; summary = first_summary (f ∷ []); reporting = true }))
     (summary_found from media (counts_of s) (counts_fit_lem s) hm)
 
 pub nothing_made_up : NothingMadeUp

@@ -1,8 +1,8 @@
 -- The run of ecnstreams over a table prints what the one over lines prints. Assumes nothing.
+use Rattle.std.specs.Prelude.{Option, Some, None, Result, Ok, Err}
 use mathlib.Core.Path.{◌≡◌, refl, sym, ap, ap₂, ◌∙◌}
 use mathlib.Core.Bool.{Bool, true, false, cond, ◌&&◌}
 use mathlib.Core.List.{List, [], ◌∷◌, ◌++◌, map}
-use mathlib.Core.Option.{Option, none, some}
 use Prim.Native.Nat.{ℕ, zero, suc, ◌+◌, ◌-◌, ◌≤◌, ◌<◌}
 use native.Mathlib.Omega.{arith}
 use borrow.Author.Tests.{eqb-true, eqb-false, ltb-true, ltb-false, eq-eqb, ne_eqb}
@@ -102,31 +102,31 @@ lines_take (suc m) (p ∷ ps) (t ∷ ts) h = ap (λ (ls : List Line). as_line p 
 -- ---- one that has a place
 
 record Known (ssrc : ℕ) (ps : List Place) (ts : List Tally) (s : Source) : Type 0 where
-  is : found_by ssrc_of ssrc (lines_of ps ts) ≡ some (as_line (record { ssrc = ssrc; source = s }) (get_or ts (stands_at ssrc ps) no_tally))
+  is : found_by ssrc_of ssrc (lines_of ps ts) ≡ Some (as_line (record { ssrc = ssrc; source = s }) (get_or ts (stands_at ssrc ps) no_tally))
   renews : (u : Source) (t : Tally) → lines_of (set ps (stands_at ssrc ps) (record { ssrc = ssrc; source = u })) (set ts (stands_at ssrc ps) t)
       ≡ renewed_by ssrc_of (as_line (record { ssrc = ssrc; source = u }) t) (lines_of ps ts)
 
-same_source : {a b : Source} → ◌≡◌ {A = Option Source} (some a) (some b) → a ≡ b
+same_source : {a b : Source} → ◌≡◌ {A = Option Source} (Some a) (Some b) → a ≡ b
 same_source e = cc
 
-nothing : {A : Type 0} {a : Source} → ◌≡◌ {A = Option Source} none (some a) → A
+nothing : {A : Type 0} {a : Source} → ◌≡◌ {A = Option Source} None (Some a) → A
 nothing e = let z : ◌≡◌ {A = ℕ} 0 1 = cc in absurd (omega arith)
 
-known : (ssrc least : ℕ) (ps : List Place) (ts : List Tally) (s : Source) → rising least ps ≡ true → length ps ≤ length ts → found ssrc ps ≡ some s → Known ssrc ps ts s
+known : (ssrc least : ℕ) (ps : List Place) (ts : List Tally) (s : Source) → rising least ps ≡ true → length ps ≤ length ts → found ssrc ps ≡ Some s → Known ssrc ps ts s
 unfolding lines_of found found_by renewed_by stands_at
 known ssrc least [] ts s r h f = nothing f
 known ssrc least (p ∷ ps) [] s r h f = absurd (omega arith)
 known ssrc least (p ∷ ps) (v ∷ ts) s r h f =
     go (λ g. known ssrc (p.ssrc + 1) ps ts s (rising_rest least p ps r) (omega arith) g) (eqb p.ssrc ssrc) refl (ltb p.ssrc ssrc) refl f
   where
-    go : (found ssrc ps ≡ some s → Known ssrc ps ts s) → (e : Bool) → eqb p.ssrc ssrc ≡ e → (l : Bool) → ltb p.ssrc ssrc ≡ l
-        → cond e (some p.source) (found ssrc ps) ≡ some s → Known ssrc (p ∷ ps) (v ∷ ts) s
+    go : (found ssrc ps ≡ Some s → Known ssrc ps ts s) → (e : Bool) → eqb p.ssrc ssrc ≡ e → (l : Bool) → ltb p.ssrc ssrc ≡ l
+        → cond e (Some p.source) (found ssrc ps) ≡ Some s → Known ssrc (p ∷ ps) (v ∷ ts) s
     go more true he true hl f = absurd (let x = eqb-true p.ssrc ssrc he in let y = ltb-true p.ssrc ssrc hl in omega arith)
     go more true he false hl f =
         let x = eqb-true p.ssrc ssrc he in
         let y = same_source f in
         record {
-          is = rw (he, hl) (λ i. some (as_line (record { ssrc = x i; source = y i }) v));
+          is = rw (he, hl) (λ i. Some (as_line (record { ssrc = x i; source = y i }) v));
           renews = λ u t. rw (he, hl);
         }
     go more false he true hl f =
@@ -150,22 +150,22 @@ known ssrc least (p ∷ ps) (v ∷ ts) s r h f =
 -- ---- a new one
 
 record New (ssrc : ℕ) (ps : List Place) (ts : List Tally) : Type 0 where
-  is : found_by ssrc_of ssrc (lines_of ps ts) ≡ none
+  is : found_by ssrc_of ssrc (lines_of ps ts) ≡ None
   adds : (u : Source) (t : Tally) → let at = stands_at ssrc ps in
       lines_of (take at ps ++ record { ssrc = ssrc; source = u } ∷ drop at ps) (take at ts ++ t ∷ drop at ts) ≡ added_by ssrc_of (as_line (record { ssrc = ssrc; source = u }) t) (lines_of ps ts)
   within : stands_at ssrc ps ≤ length ps
 
-nobody : {A : Type 0} {a : Source} → ◌≡◌ {A = Option Source} (some a) none → A
+nobody : {A : Type 0} {a : Source} → ◌≡◌ {A = Option Source} (Some a) None → A
 nobody e = let z : ◌≡◌ {A = ℕ} 0 1 = cc in absurd (omega arith)
 
-new : (ssrc : ℕ) (ps : List Place) (ts : List Tally) → length ps ≤ length ts → found ssrc ps ≡ none → New ssrc ps ts
+new : (ssrc : ℕ) (ps : List Place) (ts : List Tally) → length ps ≤ length ts → found ssrc ps ≡ None → New ssrc ps ts
 unfolding lines_of found found_by added_by stands_at
 new ssrc [] ts h f = record { is = refl; adds = λ u t. refl; within = omega arith }
 new ssrc (p ∷ ps) [] h f = absurd (omega arith)
 new ssrc (p ∷ ps) (v ∷ ts) h f = go (λ g. new ssrc ps ts (omega arith) g) (eqb p.ssrc ssrc) refl (ltb p.ssrc ssrc) refl f
   where
-    go : (found ssrc ps ≡ none → New ssrc ps ts) → (e : Bool) → eqb p.ssrc ssrc ≡ e → (l : Bool) → ltb p.ssrc ssrc ≡ l
-        → cond e (some p.source) (found ssrc ps) ≡ none → New ssrc (p ∷ ps) (v ∷ ts)
+    go : (found ssrc ps ≡ None → New ssrc ps ts) → (e : Bool) → eqb p.ssrc ssrc ≡ e → (l : Bool) → ltb p.ssrc ssrc ≡ l
+        → cond e (Some p.source) (found ssrc ps) ≡ None → New ssrc (p ∷ ps) (v ∷ ts)
     go more true he l hl f = nobody f
     go more false he true hl f =
         let m = more f in
@@ -208,7 +208,7 @@ Alike (refuses r) (refuses q) = r ≡ q
 Alike (goes next) (refuses q) = ⊥
 Alike (refuses r) (goes ls) = ⊥
 
-module _ (run : Run) (w : Whole run) (tall : length run.tallies ≡ 16) (b : List ℕ) (n ssrc : ℕ) (is : block_of b ≡ read.Arrivals run.form n ssrc) where
+module _ (run : Run) (w : Whole run) (tall : length run.tallies ≡ 16) (b : List ℕ) (n ssrc : ℕ) (is : block_of b ≡ Ok (read.Arrivals run.form n ssrc)) where
   abbrev t : Table
   t = run.table
 
@@ -260,11 +260,11 @@ module _ (run : Run) (w : Whole run) (tall : length run.tallies ≡ 16) (b : Lis
       tallies = tallied (record { at = stands_at ssrc hs; new = new_to ssrc ps }) j q ts;
     }
 
-    no_refusal : (new_to ssrc ps && full ps) ≡ false → refusal (outside wide bytes) ssrc ps ≡ none
+    no_refusal : (new_to ssrc ps && full ps) ≡ false → refusal (outside wide bytes) ssrc ps ≡ None
     unfolding refusal
     no_refusal r = rw (table_good run w.good w.long, c.inside, r)
 
-    all_held : (new_to ssrc ps && full ps) ≡ true → refusal (outside wide bytes) ssrc ps ≡ some Places
+    all_held : (new_to ssrc ps && full ps) ≡ true → refusal (outside wide bytes) ssrc ps ≡ Some Places
     unfolding refusal
     all_held r = rw (table_good run w.good w.long, c.inside, r)
 
@@ -291,7 +291,7 @@ module _ (run : Run) (w : Whole run) (tall : length run.tallies ≡ 16) (b : Lis
     count = mixed.counted run.form n b
 
     -- its line, if it has one
-    alike_known : (s : Source) → found ssrc hs ≡ some s → Alike (counted_run run n ssrc b) (mixed.settled by_value count ssrc (lines_of hs ts))
+    alike_known : (s : Source) → found ssrc hs ≡ Some s → Alike (counted_run run n ssrc b) (mixed.settled by_value count ssrc (lines_of hs ts))
     unfolding mixed.settled mixed.counted tallied
     alike_known s f =
         let k = known ssrc 0 hs ts s rises (omega (arith, few, tall)) f in
@@ -307,7 +307,7 @@ module _ (run : Run) (w : Whole run) (tall : length run.tallies ≡ 16) (b : Lis
           tall_next,
         )
 
-    alike_new : found ssrc hs ≡ none → Alike (counted_run run n ssrc b) (mixed.settled by_value count ssrc (lines_of hs ts))
+    alike_new : found ssrc hs ≡ None → Alike (counted_run run n ssrc b) (mixed.settled by_value count ssrc (lines_of hs ts))
     unfolding mixed.settled mixed.counted tallied
     alike_new f = go (ltb (length hs) 16) refl
       where
@@ -345,8 +345,8 @@ module _ (run : Run) (w : Whole run) (tall : length run.tallies ≡ 16) (b : Lis
     where
       by_found : (u : Source) (j q : ℕ) → block_count (record_of ssrc ps) wide bytes ≡ block.Counted u j q → (f : Option Source) → found ssrc hs ≡ f
           → Alike (counted_run run n ssrc b) (mixed.settled by_value (mixed.counted run.form n b) ssrc (lines_of hs ts))
-      by_found u j q c none e = alike_new u j q c e
-      by_found u j q c (some s) e = alike_known u j q c s e
+      by_found u j q c None e = alike_new u j q c e
+      by_found u j q c (Some s) e = alike_known u j q c s e
 
       by_count : (r : BlockCount) → block_count (record_of ssrc ps) wide bytes ≡ r → Alike (counted_run run n ssrc b) (mixed.settled by_value (mixed.counted run.form n b) ssrc (lines_of hs ts))
       by_count (block.Counted u j q) e = by_found u j q e (found ssrc hs) refl
@@ -358,15 +358,15 @@ next_alike : (run : Run) → Whole run → length run.tallies ≡ 16 → (b : Li
 unfolding next_of mixed.next_of
 next_alike run w tall b = go (block_of b) refl
   where
-    chosen : (c : Bool) (form : Form) (n ssrc : ℕ) → same_form form run.form ≡ c → block_of b ≡ read.Arrivals form n ssrc
+    chosen : (c : Bool) (form : Form) (n ssrc : ℕ) → same_form form run.form ≡ c → block_of b ≡ Ok (read.Arrivals form n ssrc)
         → Alike (cond c (counted_run run n ssrc b) (refuses Contents)) (cond c (mixed.settled by_value (mixed.counted run.form n b) ssrc (lines_of (held_of (lent run.table)) run.tallies)) (refuses Contents))
-    chosen true form n ssrc q is = settled_alike run w tall b n ssrc (is ∙ ap (λ (f : Form). read.Arrivals f n ssrc) (same_form_lem form run.form q))
+    chosen true form n ssrc q is = settled_alike run w tall b n ssrc (is ∙ ap (λ (f : Form). Ok (read.Arrivals f n ssrc)) (same_form_lem form run.form q))
     chosen false form n ssrc q is = refl
 
-    go : (r : Block) → block_of b ≡ r → Alike (next_by run b r) (mixed.next_by by_value run.form b (lines_of (held_of (lent run.table)) run.tallies) r)
-    go (read.Arrivals form n ssrc) is = chosen (same_form form run.form) form n ssrc refl is
-    go (read.Label form n ssrc) is = refl
-    go (read.Refused refusal) is = refl
+    go : (r : Result Block Refusal) → block_of b ≡ r → Alike (next_by run b r) (mixed.next_by by_value run.form b (lines_of (held_of (lent run.table)) run.tallies) r)
+    go (Ok (read.Arrivals form n ssrc)) is = chosen (same_form form run.form) form n ssrc refl is
+    go (Ok (read.Label form n ssrc)) is = refl
+    go (Err refusal) is = refl
 
 -- ---- over all blocks
 
@@ -413,16 +413,16 @@ pub same_run : SameRun
 unfolding table.printed lines.printed printed_by walked start_of closed onward
 same_run trace o = go (block_of (blocks_of trace).zeroth) refl
   where
-    go : (r : Block) → block_of (blocks_of trace).zeroth ≡ r
+    go : (r : Result Block Refusal) → block_of (blocks_of trace).zeroth ≡ r
         → closed table.ecnstreams (onward (turned 0 (table.begun (blocks_of trace).zeroth (start_by r))) (walk table.ecnstreams 1 (blocks_of trace).others)) ≡ closed lines.ecnstreams (onward (turned 0 (lines.begun_by (blocks_of trace).zeroth r)) (walk lines.ecnstreams 1 (blocks_of trace).others))
-    go (read.Label form n ssrc) e =
+    go (Ok (read.Label form n ssrc)) e =
         let k : table.Kept = record { run = empty_run form n; zeroth = (blocks_of trace).zeroth } in
         let m : lines.Kept = record { form = form; label = take n (drop body_at (blocks_of trace).zeroth); lines = [] } in
-        closed_goes table.ecnstreams (turned 0 (table.begun (blocks_of trace).zeroth (start_by (read.Label form n ssrc)))) (walk table.ecnstreams 1 (blocks_of trace).others) refl
+        closed_goes table.ecnstreams (turned 0 (table.begun (blocks_of trace).zeroth (start_by (Ok (read.Label form n ssrc))))) (walk table.ecnstreams 1 (blocks_of trace).others) refl
         ∙ ap (both (to_output head_bytes)) (walk_same 1 (blocks_of trace).others k m (octets_blocks trace (octets_drop block_bytes trace o)) (empty_holds (blocks_of trace).zeroth form n (start_whole (blocks_of trace).zeroth e)))
-        ∙ sym (closed_goes lines.ecnstreams (turned 0 (lines.begun_by (blocks_of trace).zeroth (read.Label form n ssrc))) (walk lines.ecnstreams 1 (blocks_of trace).others) refl)
-    go (read.Arrivals form n ssrc) e = refl
-    go (read.Refused refusal) e = refl
+        ∙ sym (closed_goes lines.ecnstreams (turned 0 (lines.begun_by (blocks_of trace).zeroth (Ok (read.Label form n ssrc)))) (walk lines.ecnstreams 1 (blocks_of trace).others) refl)
+    go (Ok (read.Arrivals form n ssrc)) e = refl
+    go (Err refusal) e = refl
 
 -- the hypotheses are met
 used : Unit {0}

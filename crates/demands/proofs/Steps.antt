@@ -1,4 +1,5 @@
 -- One arrival more: the call brings the count to the count of the longer list. Lists are newest first. Assumes nothing.
+use Rattle.std.specs.Prelude.{None}
 use mathlib.Core.Path.{◌≡◌, refl, sym, ap, ap₂, ◌∙◌}
 use mathlib.Core.Bool.{Bool, true, false, not, ◌&&◌, ◌||◌, or-false}
 use mathlib.Core.List.{List, [], ◌∷◌}
@@ -14,7 +15,6 @@ use lib.Signed.{◌≤ℤ◌}
 use Rattle.numbers.specs.Integers.{eq_z}
 use Rattle.numbers.proofs.Integers.{eq_z_minus, minus_zero, minus_pos, minus_shift}
 use Rattle.source.specs.declared.Source.{Source}
-use Rattle.source.specs.declared.Remembered.TheVariants.{Nothing}
 use Rattle.source.specs.Distances.{reach_of}
 use Rattle.source.specs.declared.Arrival.{Arrival}
 use Rattle.source.specs.declared.Arrival.TheVariants.{Accepted}
@@ -52,7 +52,7 @@ next_is old base h p ps n row eh en er = λ i. record {
   ce = tally 3 (p ∷ ps);
   duplicates = en i;
   history = history_ext row (recent (p ∷ ps)) er i;
-  remembered = Nothing;
+  remembered = None;
 }
 
 -- ---- the first arrival

@@ -1,4 +1,5 @@
 -- Lists of calls in two parts, and the records of a trace's blocks as calls. Assumes nothing.
+use Rattle.std.specs.Prelude.{Ok}
 use mathlib.Core.Path.{◌≡◌, refl, sym, ap, ap₂, ◌∙◌, subst}
 use mathlib.Core.Bool.{Bool, true, cond, ◌&&◌}
 use mathlib.Core.List.{List, [], ◌∷◌, ◌++◌, map}
@@ -131,7 +132,7 @@ count_accepted (v ∷ vs) s jumps restarts m a =
     ∙ count_accepted vs (after (call s v)) jumps restarts m.1 a.1
 
 -- a block counts its records one by one
-module _ (b : List ℕ) (form : Form) (n ssrc : ℕ) (e : block_of b ≡ Arrivals form n ssrc) where
+module _ (b : List ℕ) (form : Form) (n ssrc : ℕ) (e : block_of b ≡ Ok (Arrivals form n ssrc)) where
   in_block : List ℕ
   in_block = take (n * width (shape_of form)) (drop body_at b)
 

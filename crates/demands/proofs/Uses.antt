@@ -1,7 +1,7 @@
 -- Each theorem that has hypotheses, at the values that meet them: what `Met` says is what the theorems ask. Assumes nothing.
+use Rattle.std.specs.Prelude.{None}
 use mathlib.Core.Path.{◌≡◌, refl}
 use mathlib.Core.List.{[], ◌∷◌}
-use mathlib.Core.Option.{none}
 use Prim.Native.Nat.{ℕ}
 use native.Mathlib.Omega.{arith}
 use lib.IntN.{pos}
@@ -68,7 +68,7 @@ used =
     let fits = row_fits text 1 (record { source = run c1_packets; jumped = 3; restarts = 2 }) met.ssrcs.1 met.row_accepted in
     let number = number_fits_lem 3 (omega arith) in
     let refused-line = refused_fits 14 3 (omega arith) (omega arith) in
-    let room = room_is_exact none (feedback_bytes 9 1 (run c1_packets)) (replicate 31 0) 32 met.room in
+    let room = room_is_exact None (feedback_bytes 9 1 (run c1_packets)) (replicate 31 0) 32 met.room in
     let room-given = room.given (replicate 32 0) refl in
     let room-changed = room.changed (replicate 32 0) refl in
     let room-fewer = room.fewer (replicate 31 0) (omega arith) in

@@ -1,8 +1,9 @@
 -- The hypotheses are met. Assumes nothing.
+use Rattle.std.specs.Prelude.{None, Ok, Err}
+use Rattle.answers.specs.declared.Unwritten.{Unwritten}
 use mathlib.Core.Path.{◌≡◌, refl}
 use mathlib.Core.Bool.{true}
 use mathlib.Core.List.{[], ◌∷◌, flat_map}
-use mathlib.Core.Option.{none}
 use Prim.Native.Nat.{◌^◌, ◌≤◌}
 use lib.ListN.{length, take, replicate}
 use native.Mathlib.Omega.{arith}
@@ -11,7 +12,6 @@ use lib.Dec.{leb→le}
 use lib.Signed.{le_z_yes, lt_z_yes}
 use Rattle.answers.specs.Writers.{written}
 use Rattle.answers.specs.declared.Refusal.TheVariants.{PacketSize}
-use Rattle.answers.specs.declared.Written.TheVariants.{Room}
 use Rattle.numbers.specs.BigEndian.{word, bytes}
 use Rattle.format.specs.declared.Form.TheVariants.{One}
 use Rattle.source.specs.Arrivals.{arrival, first, counted, distance, ahead, behind}
@@ -21,7 +21,6 @@ use Rattle.source.specs.Places.{pack, marks, place, places, moved, added}
 use Rattle.source.specs.Record.{sound, fresh, has_counted, lost}
 use Rattle.report.specs.Reports.{counts_bytes, feedback_of, feedback_bytes}
 use Rattle.rtcp.specs.declared.Profile.{Profile}
-use Rattle.rtcp.specs.declared.Reading.{Reading}
 use Rattle.rtcp.specs.Header.{header_at, padding}
 use Rattle.rtcp.specs.Packets.{padding_right, may_stand}
 use Rattle.rtcp.specs.Compound.{begins_in, blocks, reading}
@@ -58,7 +57,7 @@ use Rattle.demands.proofs.ReadBack.{nothing_made_up}
 -- ---- blocks, computed
 
 -- what a block's bytes unfold to
-label_reads : block_of label ≡ Label One (length text) 1
+label_reads : block_of label ≡ Ok (Label One (length text) 1)
 unfolding label_block header filled checked bytes words ones_add ones_sum word block_of right_check contents_of label_body label_byte every
 label_reads = refl
 
@@ -74,11 +73,11 @@ some_blocks : 1 ≤ length (blocks_of whole).others
 unfolding label_block arrivals_block records_of record_bytes records_bytes header filled checked bytes words ones_add ones_sum word Blocks.cut blocks_of
 some_blocks = leb→le 1 _ tt
 
-none_refused : (walked ecnstreams (blocks_of sources)).ended ≡ none
+none_refused : (walked ecnstreams (blocks_of sources)).ended ≡ None
 unfolding label_block arrivals_block records_of record_bytes records_bytes header filled checked bytes words ones_add ones_sum word block_of right_check contents_of label_body label_byte every arrivals_body count_ok good_records Blocks.cut blocks_of walk walked onward lines.next_of settled found_by renewed_by added_by
 none_refused = refl
 
-row_room : written (fault_in (call_next begun label c1_block)) (row_in label (call_next begun label c1_block)) (replicate 40 0) ≡ Room 41
+row_room : written (fault_in (call_next begun label c1_block)) (row_in label (call_next begun label c1_block)) (replicate 40 0) ≡ Err (Unwritten.Room 41)
 unfolding label_block arrivals_block records_of record_bytes records_bytes header filled checked bytes words ones_add ones_sum word block_of right_check contents_of label_body label_byte every arrivals_body count_ok good_records call_next sound_run label_ok later_of next_of arrived block_count sound fresh has_counted packets count_all arrival first counted distance reach_of ahead behind pack marks place moved added row_of row_bytes as_field any_special special doubled doubled_byte decimal digits_of signed line lost places ones ones_in written
 row_room = refl
 
@@ -88,15 +87,15 @@ c1_sound : sound (run c1_packets) ≡ true
 unfolding arrival first counted distance reach_of ahead behind pack marks place moved added sound fresh has_counted places ones ones_in
 c1_sound = refl
 
-room : written none (feedback_bytes 9 1 (run c1_packets)) (replicate 31 0) ≡ Room 32
+room : written None (feedback_bytes 9 1 (run c1_packets)) (replicate 31 0) ≡ Err (Unwritten.Room 32)
 unfolding written feedback_of counts_bytes bytes
 room = refl
 
-row_accepted : row_fault text (record { source = run c1_packets; jumped = 3; restarts = 2 }) ≡ none
+row_accepted : row_fault text (record { source = run c1_packets; jumped = 3; restarts = 2 }) ≡ None
 unfolding row_fault label_ok label_byte every
 row_accepted = rw c1_sound
 
-rr_cut : reading (take 6 (receiver_report 5)) 1 Profile.Compound ≡ Reading.Refused PacketSize
+rr_cut : reading (take 6 (receiver_report 5)) 1 Profile.Compound ≡ Err PacketSize
 unfolding reading flat_map begins_in blocks header_at padding padding_right may_stand word bytes receiver_report
 rr_cut = refl
 

@@ -1,7 +1,7 @@
 -- The hypotheses of the theorems on pieces of a trace are met, and each theorem at these values. Assumes nothing.
+use Rattle.std.specs.Prelude.{None}
 use mathlib.Core.Path.{◌≡◌, refl}
 use mathlib.Core.List.{[], ◌++◌}
-use mathlib.Core.Option.{none}
 use native.Mathlib.Omega.{arith}
 use lib.Count.{ones, ones_in}
 use Rattle.answers.specs.Writers.{written}
@@ -52,7 +52,7 @@ single_session : Session (singly block_calls) whole single_given
 unfolding label_block arrivals_block records_of record_bytes records_bytes header filled checked bytes words ones_add ones_sum word block_of right_check contents_of label_body label_byte every arrivals_body count_ok good_records zeroth_of later_of start_of sound_run label_ok next_of arrived call_next written wholes whole_in Blocks.cut block_count sound fresh has_counted packets count_all arrival first counted distance reach_of ahead behind pack marks place moved added row_of row_bytes as_field any_special special doubled doubled_byte decimal digits_of signed line lost places ones ones_in
 single_session = began _ (more _ c1_block [] row_most _ (done _ [] (omega arith)))
 
-row_taken : (took_of started label c1_block row_most).refusal ≡ none
+row_taken : (took_of started label c1_block row_most).refusal ≡ None
 unfolding label_block arrivals_block records_of record_bytes records_bytes header filled checked bytes words ones_add ones_sum word block_of right_check contents_of every arrivals_body count_ok good_records later_of next_of arrived took_of fitting wholes whole_in Blocks.cut block_count sound fresh has_counted packets count_all arrival first counted distance reach_of ahead behind pack marks place moved added row_of row_bytes as_field any_special special doubled doubled_byte decimal digits_of signed line lost places ones ones_in
 row_taken = refl
 

@@ -1,16 +1,16 @@
 -- Document 02, request L2, over calls: what two of our own reports tell of the arrival calls that were made between them. (Document 01, "Counting arrivals":
 -- each difference is the true one where that is in the range of its width; 02, L5: where no restart lies between.)
-use Rattle.std.specs.Prelude.{◌≡◌, List, ℕ, ◌^◌, ◌≤◌, ◌<◌, pos, neg_ℤ, ◌-ℤ◌, ◌≤ℤ◌, ◌<ℤ◌}
+use Rattle.rtcp.specs.declared.Compound.{Compound}
+use Rattle.answers.specs.declared.Refusal.{Refusal}
+use Rattle.rtcp.specs.declared.Feedback.{Feedback}
+use Rattle.std.specs.Prelude.{◌≡◌, List, ℕ, ◌^◌, ◌≤◌, ◌<◌, pos, neg_ℤ, ◌-ℤ◌, ◌≤ℤ◌, ◌<ℤ◌, Option, Some, None, Result, Ok, Err}
 use Rattle.source.specs.declared.Source.{Source}
 use Rattle.source.specs.Record.{arrivals}
 use Rattle.source.specs.Blocks.{Packet}
 use Rattle.source.specs.Between.{Leads, came, with_mark, is_new, expected}
 use Rattle.rtcp.specs.declared.Profile.{Profile}
-use Rattle.rtcp.specs.declared.Reading.{Reading}
-use Rattle.rtcp.specs.declared.MaybeFeedback.{MaybeFeedback}
 use Rattle.rtcp.specs.Compound.{reading}
 use Rattle.breaker.specs.declared.EcnCounts.{EcnCounts}
-use Rattle.between.specs.declared.Between.{Between}
 use Rattle.between.specs.Differences.{between_of}
 use Rattle.demands.specs.Between.{lost_between}
 use Rattle.demands.specs.BetweenReports.{feedback_from}
@@ -25,22 +25,22 @@ pub record Tellable (s : Source) (ps : List Packet) (t : Source) : Type 0 where
   pub few_lost : lost_between s ps t <ℤ pos (2 ^ 15)
 
 -- C is the number of calls accepted with CE, E the numbers expected since, and L those of E for which no call brought a new number
-pub record OfCalls (s : Source) (ps : List Packet) (t : Source) (b : Between) : Type 0 where
+pub record OfCalls (s : Source) (ps : List Packet) (t : Source) (b : Result EcnCounts Refusal) : Type 0 where
   pub counts : EcnCounts
-  pub given : b ≡ Between.Counts counts
+  pub given : b ≡ Ok counts
   pub marked : counts.marked ≡ came (with_mark 3) s ps
   pub expected_is : pos counts.expected ≡ expected t -ℤ expected s
   pub lost_is : counts.lost ≡ pos counts.expected -ℤ pos (came is_new s ps)
 
 -- the feedback in a compound that was read
-abbrev pub feedback_in : Reading → MaybeFeedback
-feedback_in (Reading.Read c) = c.feedback
-feedback_in (Reading.Refused refusal) = MaybeFeedback.Absent
+abbrev pub feedback_in : Result Compound Refusal → Option Feedback
+feedback_in (Ok c) = c.feedback
+feedback_in (Err refusal) = None
 
 -- both compounds are read to a feedback, and what is given between the two is so
 pub record Reported (s : Source) (ps : List Packet) (t : Source) (sender media : ℕ) (profile : Profile) : Type 0 where
-  pub earlier : feedback_in (reading (own_compound sender media s) media profile) ≡ MaybeFeedback.Present (feedback_from sender s)
-  pub later : feedback_in (reading (own_compound sender media t) media profile) ≡ MaybeFeedback.Present (feedback_from sender t)
+  pub earlier : feedback_in (reading (own_compound sender media s) media profile) ≡ Some (feedback_from sender s)
+  pub later : feedback_in (reading (own_compound sender media t) media profile) ≡ Some (feedback_from sender t)
   pub between : OfCalls s ps t (between_of (feedback_from sender t) (feedback_from sender s))
 
 -- of any list of calls from a record that has counted to another, refused calls included, with no restart among them

@@ -1,5 +1,5 @@
 -- Document 02, request L2: what came between two of our own reports. (With a restart in between, L5, the later record has counted from then on alone.)
-use Rattle.std.specs.Prelude.{◌≡◌, false, [], ◌∷◌, ℕ, pos, ◌+ℤ◌, ◌-ℤ◌}
+use Rattle.std.specs.Prelude.{◌≡◌, false, [], ◌∷◌, ℕ, pos, ◌+ℤ◌, ◌-ℤ◌, Ok}
 use Rattle.source.specs.declared.Source.{Source}
 use Rattle.source.specs.declared.Arrival.TheVariants.{Accepted}
 use Rattle.source.specs.Record.{distinct, fresh_record, fresh, lost}
@@ -7,7 +7,6 @@ use Rattle.source.specs.Arrivals.{after}
 use Rattle.source.specs.Between.{expected}
 use Rattle.report.specs.Carried.{highest_of, counts_of}
 use Rattle.rtcp.specs.declared.Feedback.{Feedback}
-use Rattle.between.specs.declared.Between.{Between}
 use Rattle.between.specs.Differences.{between_of}
 use Rattle.between.specs.Theorems.{Truth, Told, Ahead, TrueCounts}
 use Rattle.demands.specs.Examples.{answer_to, c1}
@@ -47,4 +46,4 @@ pub record BetweenC1 : Type 0 where
   pub counted : (fresh last ≡ false) × (fresh second ≡ false) × (last.base ≡ second.base)
   pub told : Told (truth_of last) (truth_of second)
   pub ahead : Ahead (truth_of last) (truth_of second)
-  pub counts : between_of (feedback_from 9 last) (feedback_from 9 second) ≡ Between.Counts (record { lost = pos 2; marked = 2; expected = 4 })
+  pub counts : between_of (feedback_from 9 last) (feedback_from 9 second) ≡ Ok (record { lost = pos 2; marked = 2; expected = 4 })

@@ -1,5 +1,5 @@
 -- Request L10: both forms give the same final row.
-use Rattle.std.specs.Prelude.{◌≡◌, List, [], map, ℕ, ◌≤◌, length, take}
+use Rattle.std.specs.Prelude.{◌≡◌, List, [], map, ℕ, ◌≤◌, length, take, Ok}
 use Rattle.format.specs.declared.Form.{Form}
 use Rattle.source.specs.declared.Totals.{Totals}
 use Rattle.source.specs.Record.{fresh_record}
@@ -31,6 +31,6 @@ last_row trace form n ssrc = row_bytes (label_in trace n) ssrc (records_totals (
 -- where no block is refused and there is an arrivals block, what ecntable prints ends in that row, for the trace and for what ecnforms makes of it
 abbrev pub BothForms : Type 0
 BothForms =
-    (trace : List ℕ) (form : Form) (n ssrc : ℕ) → Below 256 trace → block_of (blocks_of trace).zeroth ≡ Label form n ssrc → (converted trace).err ≡ []
+    (trace : List ℕ) (form : Form) (n ssrc : ℕ) → Below 256 trace → block_of (blocks_of trace).zeroth ≡ Ok (Label form n ssrc) → (converted trace).err ≡ []
     → 1 ≤ length (blocks_of trace).others
     → EndsIn trace (label_in trace n) ssrc (last_row trace form n ssrc) × EndsIn (converted trace).out (label_in trace n) ssrc (last_row trace form n ssrc)

@@ -1,8 +1,7 @@
 -- The count over a list of arrivals (document 01, "Counting arrivals"). It runs nothing: it names neither the calls nor what one of them does.
-use Rattle.std.specs.Prelude.{Bool, false, not, ◌&&◌, ◌||◌, List, [], ◌∷◌, ◌≡◌, ℕ, ◌+◌, ◌-◌, ◌%◌, ◌^◌, eqb, ℤ, pos, ◌+ℤ◌, ◌-ℤ◌, length}
+use Rattle.std.specs.Prelude.{Bool, false, not, ◌&&◌, ◌||◌, List, [], ◌∷◌, ◌≡◌, ℕ, ◌+◌, ◌-◌, ◌%◌, ◌^◌, eqb, ℤ, pos, ◌+ℤ◌, ◌-ℤ◌, length, None}
 use Rattle.numbers.specs.Integers.{modulo, eq_z}
 use Rattle.source.specs.declared.Source.{Source}
-use Rattle.source.specs.declared.Remembered.TheVariants.{Nothing}
 use Rattle.source.specs.Places.{bit, history}
 use Rattle.source.specs.Arrivals.{extended}
 use Rattle.format.specs.declared.Counts.{Counts}
@@ -62,7 +61,7 @@ count_from base ps = record {
   ce = tally 3 ps;
   duplicates = duplicates_of ps;
   history = history (recent ps);
-  remembered = Nothing;
+  remembered = None;
 }
 
 abbrev pub count : List TruePacket → Source

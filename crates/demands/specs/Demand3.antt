@@ -4,8 +4,7 @@
 -- 65,535, and each later one at most 99 below and at most 2,999 above the highest before it among them. Then all these arrivals are
 -- accepted. Every field of the state at the end is exactly what document 01's count over them gives, and every report written from it
 -- carries that count. Any two such lists with the same arrivals, in whatever order, whose first arrival is the same, end in the same state."
-use Rattle.std.specs.Prelude.{◌≡◌, List, true, ℕ, ◌^◌, ◌≤◌}
-use Rattle.std.proofs.Math.Option.{none}
+use Rattle.std.specs.Prelude.{◌≡◌, List, true, ℕ, ◌^◌, ◌≤◌, None}
 use Rattle.numbers.specs.Integers.{modulo}
 use Rattle.source.specs.Record.{fresh_record}
 use Rattle.report.specs.Reports.{fault, feedback_of, feedback_bytes, summary_of, summary_bytes}
@@ -21,7 +20,7 @@ pub record Outcome (ps : List TruePacket) : Type 0 where
   -- every field of the state at the end is what the count over the arrivals gives
   pub state : run ps ≡ count (arrivals ps)
   -- a report on it is not refused with 9, and carries the count: the feedback packet and the summary block, whatever the SSRCs
-  pub sound : fault (run ps) ≡ none
+  pub sound : fault (run ps) ≡ None
   pub feedback : (sender media : ℕ)
       → feedback_bytes sender media (run ps) ≡ feedback_of sender media (modulo (2 ^ 32) (greatest_in (arrivals ps))) (counts_in (arrivals ps))
   pub summary : (media : ℕ) → summary_bytes media (run ps) ≡ summary_of media (counts_in (arrivals ps))

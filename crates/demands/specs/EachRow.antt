@@ -1,12 +1,12 @@
 -- Request L1: each row that ecnstreams prints is the last row that ecntable prints for that source alone.
-use Rattle.std.specs.Prelude.{◌≡◌, cond, List, [], ◌∷◌, ◌++◌, ℕ, eqb}
-use Rattle.std.proofs.Math.Option.{none}
+use Rattle.answers.specs.declared.Refusal.{Refusal}
+use Rattle.std.specs.Prelude.{◌≡◌, cond, List, [], ◌∷◌, ◌++◌, ℕ, eqb, None, Result, Ok, Err}
 use Rattle.format.specs.Forms.{shape_of}
 use Rattle.trace.specs.Layout.{label_block}
 use Rattle.trace.specs.Reading.{block_of}
 use Rattle.trace.specs.Theorems.{Below}
 use Rattle.trace.specs.declared.Block.{Block}
-use Rattle.trace.specs.declared.Block.TheVariants.{Label, Arrivals, Refused}
+use Rattle.trace.specs.declared.Block.TheVariants.{Label, Arrivals}
 use Rattle.table.specs.Lines.{row_bytes}
 use Rattle.walk.specs.Blocks.{blocks_of, joined}
 use Rattle.walk.specs.Programs.{walked}
@@ -15,10 +15,10 @@ use Rattle.mixed.specs.Tables.{Kept, ecnstreams}
 use Rattle.demands.specs.PrintedTable.{EndsIn}
 
 -- the blocks that name a source
-abbrev pub named_by : ℕ → List ℕ → Block → List (List ℕ) → List (List ℕ)
-named_by ssrc b (Arrivals form n own) bs = cond (eqb own ssrc) (b ∷ bs) bs
-named_by ssrc b (Label form n own) bs = bs
-named_by ssrc b (Refused refusal) bs = bs
+abbrev pub named_by : ℕ → List ℕ → Result Block Refusal → List (List ℕ) → List (List ℕ)
+named_by ssrc b (Ok (Arrivals form n own)) bs = cond (eqb own ssrc) (b ∷ bs) bs
+named_by ssrc b (Ok (Label form n own)) bs = bs
+named_by ssrc b (Err refusal) bs = bs
 
 unfoldable pub naming : ℕ → List (List ℕ) → List (List ℕ)
 naming ssrc [] = []
@@ -41,5 +41,5 @@ EachLine P (l ∷ ls) = P l × EachLine P ls
 -- what ecnstreams prints behind the head line.)
 abbrev pub EachRow : Type 0
 EachRow =
-    (trace : List ℕ) → Below 256 trace → (walked ecnstreams (blocks_of trace)).ended ≡ none
+    (trace : List ℕ) → Below 256 trace → (walked ecnstreams (blocks_of trace)).ended ≡ None
     → EachLine (λ l. EndsIn (own_trace trace l.ssrc) (kept_behind trace).label l.ssrc (row_bytes (kept_behind trace).label l.ssrc l.totals)) (kept_behind trace).lines

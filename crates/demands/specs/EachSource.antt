@@ -1,17 +1,15 @@
 -- Document 02, request L1: the compound of a table reads back, and demand 3 holds for each source's record where places suffice, "over the calls that name the
 -- source, from a table without it that 16 and 9 don't refuse, whatever calls for other sources come between".
-use Rattle.std.specs.Prelude.{◌≡◌, Bool, true, cond, not, ◌&&◌, List, [], ◌∷◌, ◌++◌, map, ℕ, ◌/◌, ◌^◌, ◌≤◌, ◌<◌, eqb, leb, ltb, length, get_or}
-use Rattle.std.proofs.Math.Option.{none, some}
+use Rattle.rtcp.specs.declared.Feedback.{Feedback}
+use Rattle.rtcp.specs.declared.Compound.{Compound}
+use Rattle.answers.specs.declared.Refusal.{Refusal}
+use Rattle.std.specs.Prelude.{◌≡◌, Bool, true, cond, not, ◌&&◌, List, [], ◌∷◌, ◌++◌, map, ℕ, ◌/◌, ◌^◌, ◌≤◌, ◌<◌, eqb, leb, ltb, length, get_or, Option, Some, None, Result, Ok}
 use Rattle.answers.specs.Conditions.{all}
 use Rattle.answers.specs.Refusals.{number_of}
 use Rattle.answers.specs.declared.Refusal.TheVariants.{Limits}
 use Rattle.numbers.specs.Integers.{modulo}
 use Rattle.source.specs.Blocks.{Packet, packets}
-use Rattle.rtcp.specs.declared.MaybeReport.{MaybeReport}
-use Rattle.rtcp.specs.declared.MaybeFeedback.{MaybeFeedback}
-use Rattle.rtcp.specs.declared.MaybeSummary.{MaybeSummary}
 use Rattle.rtcp.specs.declared.Profile.{Profile}
-use Rattle.rtcp.specs.declared.Reading.{Reading}
 use Rattle.rtcp.specs.Compound.{reading}
 use Rattle.sources.specs.declared.Place.{Place}
 use Rattle.sources.specs.declared.Arrived.TheVariants.{Accepted, Refused}
@@ -36,20 +34,20 @@ abbrev pub ssrcs_fit : List Place → Bool
 ssrcs_fit ps = all (map (λ p. ltb p.ssrc (2 ^ 32)) ps)
 
 -- what is read where an SR or an RR is there, and about the source nothing but this
-abbrev pub only_feedback : MaybeFeedback → Reading
-only_feedback feedback = Reading.Read (record { report = MaybeReport.Absent; feedback = feedback; summary = MaybeSummary.Absent; reporting = true })
+abbrev pub only_feedback : Option Feedback → Result Compound Refusal
+only_feedback feedback = Ok (record { report = None; feedback = feedback; summary = None; reporting = true })
 
 pub record ReadsBack (ps : List Place) (sender : ℕ) (profile : Profile) : Type 0 where
   -- about the SSRC of a held place: that place's feedback
   pub held : (i : ℕ) → i < length (held_of ps)
       → reading (compound_bytes sender ps) (get_or (held_of ps) i empty_place).ssrc profile
-      ≡ only_feedback (MaybeFeedback.Present (feedback_from sender (get_or (held_of ps) i empty_place).source))
-  -- about any other: none
-  pub others : (ssrc : ℕ) → new_to ssrc ps ≡ true → reading (compound_bytes sender ps) ssrc profile ≡ only_feedback MaybeFeedback.Absent
+      ≡ only_feedback (Some (feedback_from sender (get_or (held_of ps) i empty_place).source))
+  -- about any other: None
+  pub others : (ssrc : ℕ) → new_to ssrc ps ≡ true → reading (compound_bytes sender ps) ssrc profile ≡ only_feedback None
 
 abbrev pub CompoundReadsBack : Type 0
 CompoundReadsBack =
-    (ps : List Place) (sender : ℕ) (profile : Profile) → fault ps ≡ none → ssrcs_fit (held_of ps) ≡ true → sender < 2 ^ 32 → ReadsBack ps sender profile
+    (ps : List Place) (sender : ℕ) (profile : Profile) → fault ps ≡ None → ssrcs_fit (held_of ps) ≡ true → sender < 2 ^ 32 → ReadsBack ps sender profile
 
 -- ---- calls on a table
 
@@ -95,7 +93,7 @@ abbrev pub places_suffice : ℕ → List Place → List Call → Bool
 places_suffice ssrc ps [] = true
 places_suffice ssrc ps (c ∷ calls) = cond (eqb (named c) ssrc) (seated_call ps c) true && places_suffice ssrc (behind_call ps c) calls
 
--- the packets that a call brings: an arrival its own; a block those of its records, and none where they are outside the limits, which is refused with 10
+-- the packets that a call brings: an arrival its own; a block those of its records, and None where they are outside the limits, which is refused with 10
 abbrev pub brought : Call → List Packet
 brought (arrives a) = record { wire = a.wire; mark = a.mark } ∷ []
 brought (counts ssrc width bytes) = cond (outside width bytes) [] (packets width (length bytes / width) bytes)
@@ -110,7 +108,7 @@ seen ssrc (c ∷ calls) = cond (eqb (named c) ssrc) (brought c) [] ++ seen ssrc 
 -- Calls on a table that neither 16 nor 9 refuses and in which the source is new, where places suffice for it. What those that name the source bring is what the
 -- program sees of the packets `tps`, a list as the user describes it; calls for other sources come between as they like.
 pub record Brings (ps : List Place) (calls : List Call) (ssrc : ℕ) (tps : List TruePacket) : Type 0 where
-  pub good : fault ps ≡ none
+  pub good : fault ps ≡ None
   pub new : new_to ssrc ps ≡ true
   pub ssrcs : ssrcs_fit (held_of ps) ≡ true
   pub fit : AllFit calls
@@ -132,14 +130,14 @@ AllAnswered ssrc ps (c ∷ calls) = (eqb (named c) ssrc ≡ true → Answered ps
 pub record SourceOutcome (ps : List Place) (calls : List Call) (ssrc : ℕ) (tps : List TruePacket) : Type 0 where
   pub answers : AllAnswered ssrc ps calls
   -- neither 16 nor 9 refuses the table at the end
-  pub good : fault (behind_all ps calls) ≡ none
-  -- the source's record there is what the count over its arrivals gives, and a place holds it where there are some
+  pub good : fault (behind_all ps calls) ≡ None
+  -- the source's record there is what the count over its arrivals gives, and a place holds it where there are Some
   pub state : record_of ssrc (behind_all ps calls) ≡ count (arrivals tps)
-  pub place : 1 ≤ length (arrivals tps) → found ssrc (held_of (behind_all ps calls)) ≡ some (count (arrivals tps))
+  pub place : 1 ≤ length (arrivals tps) → found ssrc (held_of (behind_all ps calls)) ≡ Some (count (arrivals tps))
   -- and the table's compound carries that count of it
   pub feedback : (sender : ℕ) (profile : Profile) → sender < 2 ^ 32 → 1 ≤ length (arrivals tps)
       → reading (compound_bytes sender (behind_all ps calls)) ssrc profile
-      ≡ only_feedback (MaybeFeedback.Present (record { sender = sender; highest = modulo (2 ^ 32) (greatest_in (arrivals tps)); counts = counts_in (arrivals tps) }))
+      ≡ only_feedback (Some (record { sender = sender; highest = modulo (2 ^ 32) (greatest_in (arrivals tps)); counts = counts_in (arrivals tps) }))
   -- any other such calls on any other such table, with the same arrivals of the source and the same first one, end in the same record of it
   pub order : (qs : List Place) (others : List Call) (tqs : List TruePacket) → Brings qs others ssrc tqs → SameArrivals (arrivals tps) (arrivals tqs)
       → base_of (arrivals tps) ≡ base_of (arrivals tqs) → record_of ssrc (behind_all ps calls) ≡ record_of ssrc (behind_all qs others)

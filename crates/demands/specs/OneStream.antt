@@ -1,5 +1,5 @@
 -- Request L1: for a trace of one source, ecnstreams prints the head line and the last row that ecntable prints.
-use Rattle.std.specs.Prelude.{◌≡◌, List, ◌++◌, ℕ, ◌≤◌, length}
+use Rattle.std.specs.Prelude.{◌≡◌, List, ◌++◌, ℕ, ◌≤◌, length, Ok}
 use Rattle.format.specs.declared.Form.{Form}
 use Rattle.trace.specs.Reading.{block_of}
 use Rattle.trace.specs.Theorems.{Below}
@@ -19,6 +19,6 @@ final_row trace n ssrc = row_bytes (label_in trace n) ssrc (records_totals (toge
 -- ecntable prints ends in it
 abbrev pub OneStream : Type 0
 OneStream =
-    (trace : List ℕ) (form : Form) (n ssrc : ℕ) → Below 256 trace → block_of (blocks_of trace).zeroth ≡ Label form n ssrc
+    (trace : List ℕ) (form : Form) (n ssrc : ℕ) → Below 256 trace → block_of (blocks_of trace).zeroth ≡ Ok (Label form n ssrc)
     → AllArrivals form ssrc (blocks_of trace).others → 1 ≤ length (blocks_of trace).others
     → (printed trace ≡ to_output (head_bytes ++ final_row trace n ssrc)) × EndsIn trace (label_in trace n) ssrc (final_row trace n ssrc)

@@ -1,5 +1,6 @@
 -- Demand 3 in what ecntable prints (document 01, "Trace file" and "Table").
-use Rattle.std.specs.Prelude.{◌≡◌, true, List, [], ◌∷◌, ◌++◌, map, ℕ, ◌+◌, ◌≤◌, length, take}
+use Rattle.answers.specs.declared.Refusal.{Refusal}
+use Rattle.std.specs.Prelude.{◌≡◌, true, List, [], ◌∷◌, ◌++◌, map, ℕ, ◌+◌, ◌≤◌, length, take, Result, Ok, Err}
 use Rattle.format.specs.Forms.{shape_of}
 use Rattle.format.specs.declared.Form.{Form}
 use Rattle.source.specs.Blocks.{Packet}
@@ -9,7 +10,7 @@ use Rattle.trace.specs.Layout.{body_of}
 use Rattle.trace.specs.Reading.{count_in, block_of}
 use Rattle.trace.specs.Theorems.{records_in}
 use Rattle.trace.specs.declared.Block.{Block}
-use Rattle.trace.specs.declared.Block.TheVariants.{Label, Arrivals, Refused}
+use Rattle.trace.specs.declared.Block.TheVariants.{Label, Arrivals}
 use Rattle.trace.specs.declared.Record.{Record}
 use Rattle.table.specs.Lines.{head_bytes, row_bytes}
 use Rattle.walk.specs.Blocks.{blocks_of, joined}
@@ -29,10 +30,10 @@ abbrev pub of_arrival : TruePacket → Packet
 of_arrival p = record { wire = wire_of p.number; mark = p.mark }
 
 -- the records of a block, and of blocks together, in order
-abbrev pub records_by : List ℕ → Block → List Record
-records_by b (Arrivals form n ssrc) = records_in (shape_of form) n (body_of b)
-records_by b (Label form n ssrc) = []
-records_by b (Refused refusal) = []
+abbrev pub records_by : List ℕ → Result Block Refusal → List Record
+records_by b (Ok (Arrivals form n ssrc)) = records_in (shape_of form) n (body_of b)
+records_by b (Ok (Label form n ssrc)) = []
+records_by b (Err refusal) = []
 
 abbrev pub together : List (List ℕ) → List Record
 together [] = []
@@ -41,12 +42,12 @@ together (b ∷ bs) = records_by b (block_of b) ++ together bs
 -- each block holds arrivals of this form and SSRC
 abbrev pub AllArrivals : Form → ℕ → List (List ℕ) → Type 0
 AllArrivals form ssrc [] = Unit {0}
-AllArrivals form ssrc (b ∷ bs) = (n : ℕ) × (block_of b ≡ Arrivals form n ssrc) × AllArrivals form ssrc bs
+AllArrivals form ssrc (b ∷ bs) = (n : ℕ) × (block_of b ≡ Ok (Arrivals form n ssrc)) × AllArrivals form ssrc bs
 
 -- a label block, then arrivals blocks of its form and SSRC whose records, taken together in order, are what the program sees of the arrivals `ps`
 pub record Holds (trace label : List ℕ) (ssrc : ℕ) (ps : List TruePacket) : Type 0 where
   pub form : Form
-  pub zeroth : block_of (blocks_of trace).zeroth ≡ Label form (length label) ssrc
+  pub zeroth : block_of (blocks_of trace).zeroth ≡ Ok (Label form (length label) ssrc)
   pub text : take (length label) (body_of (blocks_of trace).zeroth) ≡ label
   pub others : AllArrivals form ssrc (blocks_of trace).others
   pub records : map in_record (together (blocks_of trace).others) ≡ map of_arrival ps

@@ -1,15 +1,11 @@
 -- Demand 2, reports: what is written reads back to the same fields (document 01, "Packets": behind an 8-byte RR, the block in an XR packet). The RR is the one
 -- that begins the compound of a table.
-use Rattle.std.specs.Prelude.{◌≡◌, true, List, ◌++◌, ℕ, ◌+◌, ◌*◌, ◌/◌, ◌^◌, ◌<◌, length}
+use Rattle.std.specs.Prelude.{◌≡◌, true, List, ◌++◌, ℕ, ◌+◌, ◌*◌, ◌/◌, ◌^◌, ◌<◌, length, Some, None, Ok}
 use Rattle.numbers.specs.BigEndian.{bytes}
 use Rattle.source.specs.declared.Source.{Source}
 use Rattle.report.specs.Carried.{highest_of, counts_of}
 use Rattle.report.specs.Reports.{feedback_bytes, summary_bytes}
-use Rattle.rtcp.specs.declared.MaybeReport.{MaybeReport}
-use Rattle.rtcp.specs.declared.MaybeFeedback.{MaybeFeedback}
-use Rattle.rtcp.specs.declared.MaybeSummary.{MaybeSummary}
 use Rattle.rtcp.specs.declared.Profile.{Profile}
-use Rattle.rtcp.specs.declared.Reading.{Reading}
 use Rattle.rtcp.specs.Compound.{reading}
 use Rattle.sources.specs.Compounds.{receiver_report}
 
@@ -23,10 +19,10 @@ abbrev pub FeedbackReadsBack : Type 0
 FeedbackReadsBack =
     (s : Source) (from sender media : ℕ) (profile : Profile) → sender < 2 ^ 32 → media < 2 ^ 32
     → reading (receiver_report from ++ feedback_bytes sender media s) media profile
-    ≡ Reading.Read (record {
-      report = MaybeReport.Absent;
-      feedback = MaybeFeedback.Present (record { sender = sender; highest = highest_of s; counts = counts_of s });
-      summary = MaybeSummary.Absent;
+    ≡ Ok (record {
+      report = None;
+      feedback = Some (record { sender = sender; highest = highest_of s; counts = counts_of s });
+      summary = None;
       reporting = true;
     })
 
@@ -35,10 +31,10 @@ abbrev pub SummaryReadsBack : Type 0
 SummaryReadsBack =
     (s : Source) (from media : ℕ) (profile : Profile) → media < 2 ^ 32
     → reading (receiver_report from ++ xr_packet from (summary_bytes media s)) media profile
-    ≡ Reading.Read (record {
-      report = MaybeReport.Absent;
-      feedback = MaybeFeedback.Absent;
-      summary = MaybeSummary.Present (counts_of s);
+    ≡ Ok (record {
+      report = None;
+      feedback = None;
+      summary = Some (counts_of s);
       reporting = true;
     })
 
@@ -47,4 +43,4 @@ abbrev pub NothingMadeUp : Type 0
 NothingMadeUp =
     (from media : ℕ) (profile : Profile)
     → reading (receiver_report from) media profile
-    ≡ Reading.Read (record { report = MaybeReport.Absent; feedback = MaybeFeedback.Absent; summary = MaybeSummary.Absent; reporting = true })
+    ≡ Ok (record { report = None; feedback = None; summary = None; reporting = true })

@@ -1,6 +1,5 @@
 -- Demand 3 in the table: "every report written from it carries that count", and so does a row (document 01, "Table": the full values).
-use Rattle.std.specs.Prelude.{◌≡◌, List, [], ◌∷◌, ℕ}
-use Rattle.std.proofs.Math.Option.{none}
+use Rattle.std.specs.Prelude.{◌≡◌, List, [], ◌∷◌, ℕ, None}
 use Rattle.table.specs.Decimal.{decimal, signed}
 use Rattle.table.specs.Field.{as_field, line}
 use Rattle.table.specs.Lines.{row_fault, row_bytes}
@@ -28,5 +27,5 @@ count_row label ssrc ps jumped restarts = line (as_field label) (count_texts ssr
 
 -- the row of the state at the end of a list of calls: it is not refused, and has the count's values
 pub record Row (ps : List TruePacket) (label : List ℕ) (ssrc jumped restarts : ℕ) : Type 0 where
-  pub accepted : row_fault label (record { source = run ps; jumped = jumped; restarts = restarts }) ≡ none
+  pub accepted : row_fault label (record { source = run ps; jumped = jumped; restarts = restarts }) ≡ None
   pub bytes : row_bytes label ssrc (record { source = run ps; jumped = jumped; restarts = restarts }) ≡ count_row label ssrc (arrivals ps) jumped restarts

@@ -1,20 +1,15 @@
 -- The hypotheses of the theorems named below can be met: for each of them, values that meet them all.
-use Rattle.std.specs.Prelude.{◌≡◌, true, List, [], ◌∷◌, ◌++◌, map, ℕ, ◌^◌, ◌≤◌, ◌<◌, pos, neg_ℤ, ◌-ℤ◌, length, take, replicate, ◌≤ℤ◌, ◌<ℤ◌}
-use Rattle.std.proofs.Math.Option.{none, some}
+use Rattle.answers.specs.declared.Unwritten.{Unwritten}
+use Rattle.std.specs.Prelude.{◌≡◌, true, List, [], ◌∷◌, ◌++◌, map, ℕ, ◌^◌, ◌≤◌, ◌<◌, pos, neg_ℤ, ◌-ℤ◌, length, take, replicate, ◌≤ℤ◌, ◌<ℤ◌, Some, None, Ok, Err}
 use Rattle.answers.specs.Writers.{written}
 use Rattle.answers.specs.declared.Refusal.TheVariants.{Incomplete, PacketSize}
-use Rattle.answers.specs.declared.Written.TheVariants.{Room}
 use Rattle.format.specs.Blocks.{block_bytes}
 use Rattle.format.specs.Forms.{shape_of}
 use Rattle.format.specs.declared.Form.TheVariants.{One}
 use Rattle.source.specs.Record.{sound}
 use Rattle.source.specs.Totals.{fresh_totals, most_told}
 use Rattle.report.specs.Reports.{feedback_bytes}
-use Rattle.rtcp.specs.declared.MaybeReport.{MaybeReport}
-use Rattle.rtcp.specs.declared.MaybeFeedback.{MaybeFeedback}
-use Rattle.rtcp.specs.declared.MaybeSummary.{MaybeSummary}
 use Rattle.rtcp.specs.declared.Profile.{Profile}
-use Rattle.rtcp.specs.declared.Reading.{Reading}
 use Rattle.rtcp.specs.Compound.{reading}
 use Rattle.sources.specs.Compounds.{receiver_report}
 use Rattle.trace.specs.Contents.{label_ok}
@@ -99,24 +94,24 @@ pub record Met : Type 0 where
   pub whole_bytes : Below 256 whole
   pub some_blocks : 1 ≤ length (blocks_of whole).others
   -- LinesAreTable
-  pub none_refused : (walked ecnstreams (blocks_of sources)).ended ≡ none
+  pub none_refused : (walked ecnstreams (blocks_of sources)).ended ≡ None
   -- NothingFollows: an empty block is 1
   pub ends :
       (walk ecntable 1 ([] ∷ []) (record { run = begun; zeroth = label })).ended
-      ≡ some (record { refusal = Incomplete; block = 1 })
+      ≡ Some (record { refusal = Incomplete; block = 1 })
   -- LabelReadsBack, LabelIsWritten, SpacedReads, OneCheck, RowSplits, LineSplits
   pub label_new : retired_in (take (length text) (body_of label)) ≡ 0
   pub label_bytes : Below 256 label
-  pub label_reads : block_of label ≡ Label One (length text) 1
+  pub label_reads : block_of label ≡ Ok (Label One (length text) 1)
   pub label_right : right_check label ≡ true
   pub label_long : length label ≡ block_bytes
   pub label_ok_lem : label_ok text ≡ true
   pub plain : all_plain (text ∷ codes "a \"b\"" ∷ []) ≡ true
   -- ArrivalsReadBack, ArrivalsAreWritten
-  pub lists_fit : arrivals_fault (shape_of One) (0 ∷ 20 ∷ []) (65534 ∷ 65535 ∷ []) (2 ∷ 2 ∷ []) ≡ none
+  pub lists_fit : arrivals_fault (shape_of One) (0 ∷ 20 ∷ []) (65534 ∷ 65535 ∷ []) (2 ∷ 2 ∷ []) ≡ None
   pub numbers_fit_lem : Below (2 ^ 16) (65534 ∷ 65535 ∷ [])
   pub arrivals_bytes : Below 256 c1_block
-  pub arrivals_read : block_of c1_block ≡ Arrivals One 5 1
+  pub arrivals_read : block_of c1_block ≡ Ok (Arrivals One 5 1)
   -- SinceExact, SignedExact
   pub since : (pos 0 ≤ℤ (pos 65540 -ℤ pos 65530)) × ((pos 65540 -ℤ pos 65530) <ℤ pos (2 ^ 16))
   pub signed : (neg_ℤ (pos (2 ^ 15)) ≤ℤ (pos 2 -ℤ pos 7)) × ((pos 2 -ℤ pos 7) <ℤ pos (2 ^ 15))
@@ -126,10 +121,10 @@ pub record Met : Type 0 where
   pub ssrcs : (9 < 2 ^ 32) × (1 < 2 ^ 32)
   -- ProfilesAgree: an RR is read, and refused with 4 where its last bytes are cut off
   pub rr_read : reading (receiver_report 5) 1 Profile.Compound
-      ≡ Reading.Read (record { report = MaybeReport.Absent; feedback = MaybeFeedback.Absent; summary = MaybeSummary.Absent; reporting = true })
-  pub rr_cut : reading (take 6 (receiver_report 5)) 1 Profile.Compound ≡ Reading.Refused PacketSize
+      ≡ Ok (record { report = None; feedback = None; summary = None; reporting = true })
+  pub rr_cut : reading (take 6 (receiver_report 5)) 1 Profile.Compound ≡ Err PacketSize
   -- RowFits
-  pub row_accepted : row_fault text (record { source = run c1_packets; jumped = 3; restarts = 2 }) ≡ none
+  pub row_accepted : row_fault text (record { source = run c1_packets; jumped = 3; restarts = 2 }) ≡ None
   -- RoomIsExact, StepRoomIsExact: C1's feedback packet and its row, each with one byte too few
-  pub room : written none (feedback_bytes 9 1 (run c1_packets)) (replicate 31 0) ≡ Room 32
-  pub row_room : written (fault_in (call_next begun label c1_block)) (row_in label (call_next begun label c1_block)) (replicate 40 0) ≡ Room 41
+  pub room : written None (feedback_bytes 9 1 (run c1_packets)) (replicate 31 0) ≡ Err (Unwritten.Room 32)
+  pub row_room : written (fault_in (call_next begun label c1_block)) (row_in label (call_next begun label c1_block)) (replicate 40 0) ≡ Err (Unwritten.Room 41)

@@ -1,9 +1,8 @@
 -- The hypotheses of the theorems on what comes between two records, and on restarts, can be met: for each of them, values that meet them all.
-use Rattle.std.specs.Prelude.{◌≡◌, true, List, [], ◌∷◌, map, ℕ, pos, negsuc}
+use Rattle.std.specs.Prelude.{◌≡◌, true, List, [], ◌∷◌, map, ℕ, pos, negsuc, None}
 use Rattle.answers.specs.declared.Refusal.TheVariants.{Jump}
 use Rattle.format.specs.declared.Wire.{Wire}
 use Rattle.source.specs.declared.Source.{Source}
-use Rattle.source.specs.declared.Remembered.TheVariants.{Nothing}
 use Rattle.source.specs.declared.Arrival.TheVariants.{Restarted, Refused}
 use Rattle.source.specs.declared.distances.Reach.TheVariants as reach
 use Rattle.source.specs.Distances.{reach_of}
@@ -36,7 +35,7 @@ earlier = record {
   ce = 2;
   duplicates = 1;
   history = record { recent = 0b111001; older = 0 };
-  remembered = Nothing;
+  remembered = None;
 }
 
 abbrev pub later : Source
@@ -49,7 +48,7 @@ later = record {
   ce = 2;
   duplicates = 2;
   history = record { recent = 0b1111011; older = 0 };
-  remembered = Nothing;
+  remembered = None;
 }
 
 pub record MetBetween : Type 0 where

@@ -1,6 +1,5 @@
 -- The hypotheses of the theorems on pieces of a trace can be met: traces of a label and C1's arrivals, whole and with a part of a block behind them, each in one piece.
-use Rattle.std.specs.Prelude.{◌≡◌, true, List, [], ◌∷◌, ◌++◌, ℕ, ◌*◌, ◌^◌, ◌≤◌, ◌<◌, length}
-use Rattle.std.proofs.Math.Option.{none}
+use Rattle.std.specs.Prelude.{◌≡◌, true, List, [], ◌∷◌, ◌++◌, ℕ, ◌*◌, ◌^◌, ◌≤◌, ◌<◌, length, None}
 use Rattle.format.specs.Blocks.{block_bytes}
 use Rattle.table.specs.Theorems.{row_most}
 use Rattle.walk.specs.Programs.{Printed, nothing, both, to_output, Program}
@@ -8,7 +7,6 @@ use Rattle.walk.specs.Pieces.{Octets, IsWhole, wholes, whole_in}
 use Rattle.walk.specs.Fitting.{fitting}
 use Rattle.walk.specs.Machines.{Gave, Session}
 use Rattle.walk.specs.Singles.{Held as Single, singly}
-use Rattle.walk.specs.declared.Ended.TheVariants.{Going}
 use Rattle.convert.specs.declared.pieces.Progress.{Progress}
 use Rattle.convert.specs.Runs.{sound_run}
 use Rattle.convert.specs.Tables.{Kept}
@@ -27,7 +25,7 @@ parted = label ++ (c1_block ++ part)
 
 -- the progress behind block 0
 abbrev pub started : Progress
-started = record { run = begun; block = 1; ended = Going }
+started = record { run = begun; block = 1; ended = None }
 
 -- begin, a piece with room for one row, and the end with what the piece left
 abbrev pub gave : List ℕ → Gave Held
@@ -43,12 +41,12 @@ single = (singly block_calls).blocks ((singly block_calls).begin label).state c1
 abbrev pub single_given : Printed
 single_given = both ((singly block_calls).begin label).printed (both single.printed ((singly block_calls).end single.state []))
 
--- ---- a program of which each block prints one byte, and which refuses none
+-- ---- a program of which each block prints one byte, and which refuses None
 
 abbrev pub one : Program (Unit {0})
 one = record {
-  begin = λ b. record { state = tt; printed = nothing; refusal = none };
-  step = λ i s b. record { state = tt; printed = to_output (i ∷ []); refusal = none };
+  begin = λ b. record { state = tt; printed = nothing; refusal = None };
+  step = λ i s b. record { state = tt; printed = to_output (i ∷ []); refusal = None };
   close = λ s e. nothing;
 }
 
@@ -68,10 +66,10 @@ pub record MetPieces : Type 0 where
   pub sound : sound_run begun label ≡ true
   pub block_bytes_lem : Octets c1_block
   pub row_room : wholes c1_block * row_most ≤ row_most
-  pub row_taken : (took_of started label c1_block row_most).refusal ≡ none
+  pub row_taken : (took_of started label c1_block row_most).refusal ≡ None
   -- BlocksInPieces and TraceInPieces
   pub label_whole : IsWhole label
   pub label_some : 1 ≤ length label
   -- RoomIsEnough
   pub byte_room : wholes whole * 1 ≤ 2
-  pub byte_taken : (fitting one 1 (whole_in whole) tt 2).refusal ≡ none
+  pub byte_taken : (fitting one 1 (whole_in whole) tt 2).refusal ≡ None

@@ -1,6 +1,5 @@
 -- The hypotheses of the theorems on a table of several sources can be met: two tables, and calls of both kinds on two sources.
-use Rattle.std.specs.Prelude.{◌≡◌, true, List, [], ◌∷◌, ◌++◌, ℕ, ◌^◌, ◌≤◌, ◌<◌, length}
-use Rattle.std.proofs.Math.Option.{none}
+use Rattle.std.specs.Prelude.{◌≡◌, true, List, [], ◌∷◌, ◌++◌, ℕ, ◌^◌, ◌≤◌, ◌<◌, length, None}
 use Rattle.sources.specs.declared.Place.{Place}
 use Rattle.sources.specs.Places.{empty_place, held_of}
 use Rattle.sources.specs.Rules.{fault}
@@ -30,8 +29,8 @@ abbrev pub one_block : List Call
 one_block = counts 3 8 (one_record 255 250 2 ++ one_record 255 161 0 ++ one_record 0 4 3 ++ one_record 0 4 1) ∷ []
 
 pub record MetSources : Type 0 where
-  -- CompoundReadsBack, with a held place and an SSRC that none holds
-  pub good : fault some_table ≡ none
+  -- CompoundReadsBack, with a held place and an SSRC that None holds
+  pub good : fault some_table ≡ None
   pub ssrcs : ssrcs_fit (held_of some_table) ≡ true
   pub sender : 9 < 2 ^ 32
   pub some_held : 0 < length (held_of some_table)

@@ -1,4 +1,5 @@
 -- How many records a block holds, and what it takes to be one. Assumes nothing.
+use Rattle.std.specs.Prelude.{Some, None}
 use mathlib.Core.Path.{◌≡◌, refl, sym, ap, ◌∙◌}
 use mathlib.Core.Bool.{Bool, true, false, cond, ◌&&◌, false≢true}
 use Prim.Native.Nat.{ℕ, ◌+◌, ◌*◌, ◌/◌, ◌%◌, ◌^◌, ◌≤◌, ◌<◌}
@@ -12,7 +13,6 @@ use lib.ListN.{length, get_or}
 use Rattle.answers.specs.Conditions.{all}
 use Rattle.answers.proofs.Conditions.{all_true, all_false, and_left, and_right}
 use Rattle.source.specs.Blocks.{Packet, packets, marks_fit, in_limits}
-use Rattle.engine.specs.declared.scans.Scanned.TheVariants.{Fits, Misfit}
 use Rattle.engine.specs.Limits.{shape, records_in, Held}
 use Rattle.engine.specs.Windows.{strays}
 use Rattle.source.specs.declared.Source.{Source}
@@ -38,12 +38,12 @@ pub part_some : (width : ℕ) (s : List ℕ) (n : ℕ) → Held width s n → 0 
 part_some width s n h = let d = div-le_self (length s) width in omega (arith, h.count, h.some)
 
 -- a scan that shows a mark above 3
-pub misfit_of : (first : ℕ) (ps : List Packet) → Misfit ≡ scan_of first ps → marks_fit ps ≡ false
+pub misfit_of : (first : ℕ) (ps : List Packet) → None ≡ scan_of first ps → marks_fit ps ≡ false
 misfit_of first ps e = go (marks_fit ps) refl
   where
     go : (t : Bool) → marks_fit ps ≡ t → t ≡ false
     go true f =
-        let no : Misfit ≡ Fits (record { notect = numbered 0 ps; ect1 = numbered 1 ps; ect0 = numbered 2 ps; ce = numbered 3 ps; strays = strays first ps }) = e ∙ rw f refl in
+        let no : None ≡ Some (record { notect = numbered 0 ps; ect1 = numbered 1 ps; ect0 = numbered 2 ps; ce = numbered 3 ps; strays = strays first ps }) = e ∙ rw f refl in
         let z : ◌≡◌ {A = ℕ} 0 1 = cc in absurd (omega arith)
     go false f = refl
 

@@ -1,4 +1,5 @@
 -- Packets whose numbers follow each other: the places at which they lie. Assumes nothing.
+use Rattle.std.specs.Prelude.{Some}
 use mathlib.Core.Path.{◌≡◌, refl, sym, ap, ◌∙◌}
 use mathlib.Core.Logic.{⊎_elim}
 use mathlib.Core.Bool.{Bool, true, false, not, ◌&&◌, ◌||◌}
@@ -19,7 +20,6 @@ use Rattle.numbers.proofs.BigEndian.{Octets, word_lt}
 use Rattle.source.specs.Blocks.{Packet, packets}
 use Rattle.source.proofs.Rows.{pack_ext, pack_unique, place_low, place_next}
 use Rattle.source.proofs.Shifts.{place_zero, place_mod, place_mul}
-use Rattle.engine.specs.declared.window.Found.TheVariants.{At}
 use Rattle.engine.specs.Limits.{Held}
 use Rattle.engine.specs.Windows.{held, below, within, hits, wired, turned, strays, found_in, row_from}
 
@@ -154,7 +154,7 @@ module _ (top : ℕ) where
           let same = row_within ps w q row n e l ∙ f in
           let places : pack 64 (among (length ps) q) ≡ pack 64 (hits top ps) =
           pack_ext 64 (among (length ps) q) (hits top ps) (λ k m. sym (row_hits ps w q row n e l (leb-true (length ps) (q + 1) f) k)) in
-          rw (f, same) (ap At places)
+          rw (f, same) (ap Some places)
       go row false f = let same = row_within ps w q row n e l ∙ f in rw (f, same)
 
 -- ---- their bits

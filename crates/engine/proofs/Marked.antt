@@ -1,4 +1,5 @@
 -- The packets of each mark, from sums. Assumes nothing.
+use Rattle.std.specs.Prelude.{Some}
 use mathlib.Core.Path.{◌≡◌, refl, sym, ap, ◌∙◌}
 use mathlib.Core.Bool.{true, false}
 use mathlib.Core.List.{List, [], ◌∷◌}
@@ -13,7 +14,6 @@ use Rattle.source.specs.Blocks.{Packet, marks_fit}
 use Rattle.source.proofs.Kept.{one_mark}
 use Rattle.source.proofs.Totalled.{length-packets}
 use Rattle.engine.specs.declared.scans.Sums.{Sums}
-use Rattle.engine.specs.declared.scans.Scanned.TheVariants.{Fits}
 use Rattle.engine.specs.Limits.{Held}
 use Rattle.engine.specs.Windows.{held}
 use Rattle.engine.specs.Settled.{total, numbered}
@@ -122,5 +122,5 @@ module _ (width : ℕ) (s : List ℕ) (n first : ℕ) (sums : Sums) (h : Held wi
   known_all = sym (length-packets width (length s / width) s ∙ h.count) ∙ known.all
 
   pub scanned_is : {notect ect1 ect0 ce off : ℕ} → notect ≡ numbered 0 (held width s) → ect1 ≡ numbered 1 (held width s) → ect0 ≡ numbered 2 (held width s) → ce ≡ numbered 3 (held width s)
-      → off ≡ sums.strays → Fits (record { notect = notect; ect1 = ect1; ect0 = ect0; ce = ce; strays = off }) ≡ scan_of first (held width s)
-  scanned_is a b c d e = rw fit (ap Fits (λ i. record { notect = a i; ect1 = b i; ect0 = c i; ce = d i; strays = (e ∙ of.strays) i }))
+      → off ≡ sums.strays → Some (record { notect = notect; ect1 = ect1; ect0 = ect0; ce = ce; strays = off }) ≡ scan_of first (held width s)
+  scanned_is a b c d e = rw fit (ap Some (λ i. record { notect = a i; ect1 = b i; ect0 = c i; ce = d i; strays = (e ∙ of.strays) i }))

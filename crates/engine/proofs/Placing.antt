@@ -1,4 +1,6 @@
 -- The record that a window's bits make is that behind the packets. Assumes nothing.
+use Rattle.std.specs.Prelude.{Option, Some, None}
+use Rattle.format.specs.declared.Wire.{Wire}
 use mathlib.Core.Path.{◌≡◌, refl, sym, ap, ap₂, ◌∙◌}
 use mathlib.Core.Logic.{⊎_elim}
 use mathlib.Core.Bool.{Bool, true, false, ◌||◌}
@@ -16,8 +18,6 @@ use lib.ListN.{length}
 use Rattle.answers.proofs.Conditions.{is_true, true_is, or_cases, or_left, or_right, and_left, and_right}
 use Rattle.source.specs.declared.History.{History}
 use Rattle.source.specs.declared.Source.{Source}
-use Rattle.source.specs.declared.Remembered.{Remembered}
-use Rattle.source.specs.declared.Remembered.TheVariants.{Nothing}
 use Rattle.source.specs.Places.{place, pack, history, marks, moved}
 use Rattle.source.specs.Arrivals.{extended}
 use Rattle.source.specs.Blocks.{Packet, marks_fit}
@@ -25,10 +25,8 @@ use Rattle.source.proofs.Rows.{pack_lt, pack_ext, place_pack, history_ext}
 use Rattle.source.proofs.Shifts.{place_above}
 use Rattle.source.proofs.Totalled.{length-packets}
 use Rattle.engine.specs.declared.scans.Scan.{Scan}
-use Rattle.engine.specs.declared.scans.Scanned.TheVariants.{Fits, Misfit}
 use Rattle.engine.specs.declared.shifts.Shifted.{Shifted}
 use Rattle.engine.specs.Limits.{Held}
-use Rattle.engine.specs.declared.window.Found.TheVariants.{At, Outside}
 use Rattle.engine.specs.Windows.{held, below, within, hits, least, strays, found_in}
 use Rattle.engine.specs.Settled.{numbered, joined, forgotten, settled_at, settled, lowest, row_with, ShiftedBy, scanned_onto}
 use Rattle.engine.specs.Scans.{scan_of}
@@ -104,7 +102,7 @@ module _ (top : ℕ) where
 
 -- ---- the record
 
-forgets : (ps : List Packet) (r : Remembered) → 1 ≤ length ps → Nothing ≡ forgotten ps r
+forgets : (ps : List Packet) (r : Option Wire) → 1 ≤ length ps → None ≡ forgotten ps r
 forgets [] r h = absurd (omega arith)
 forgets (p ∷ ps) r h = refl
 
@@ -173,19 +171,19 @@ module _ (top : ℕ) (s : Source) (n : ℕ) (scan : Scan) (shifted : Shifted) (p
       some_packets x e h = omega arith
 
 -- what a scan shows
-module _ (width : ℕ) (s : List ℕ) (n first : ℕ) (h : Held width s n) (scan : Scan) (of : Fits scan ≡ scan_of first (held width s)) where
+module _ (width : ℕ) (s : List ℕ) (n first : ℕ) (h : Held width s n) (scan : Scan) (of : Some scan ≡ scan_of first (held width s)) where
   pub scan_fit : marks_fit (held width s) ≡ true
   scan_fit = go (marks_fit (held width s)) refl
     where
       go : (b : Bool) → marks_fit (held width s) ≡ b → b ≡ true
       go true e = refl
       go false e =
-          let no : Fits scan ≡ Misfit = of ∙ rw e refl in
+          let no : Some scan ≡ None = of ∙ rw e refl in
           let z : ◌≡◌ {A = ℕ} 0 1 = cc in absurd (omega arith)
 
   scan_is : scan ≡ record { notect = numbered 0 (held width s); ect1 = numbered 1 (held width s); ect0 = numbered 2 (held width s); ce = numbered 3 (held width s); strays = strays first (held width s) }
   scan_is =
-      let yes-fit : Fits scan ≡ Fits (record { notect = numbered 0 (held width s); ect1 = numbered 1 (held width s); ect0 = numbered 2 (held width s); ce = numbered 3 (held width s); strays = strays first (held width s) }) = of ∙ rw scan_fit refl in
+      let yes-fit : Some scan ≡ Some (record { notect = numbered 0 (held width s); ect1 = numbered 1 (held width s); ect0 = numbered 2 (held width s); ce = numbered 3 (held width s); strays = strays first (held width s) }) = of ∙ rw scan_fit refl in
       cc
 
   pub scan_strays : scan.strays ≡ strays first (held width s)
@@ -202,22 +200,22 @@ module _ (width : ℕ) (s : List ℕ) (n first : ℕ) (h : Held width s n) (scan
       record { notect = a; ect1 = b; ect0 = d; ce = f; size = size; some = h.some; sum = omega (arith, c.all) }
 
 -- what is found decides
-pub found_at : (top b : ℕ) (ps : List Packet) → At b ≡ found_in top ps → (within top ps ≡ true) × (b ≡ pack 64 (hits top ps))
+pub found_at : (top b : ℕ) (ps : List Packet) → Some b ≡ found_in top ps → (within top ps ≡ true) × (b ≡ pack 64 (hits top ps))
 found_at top b ps e = go (within top ps) refl
   where
     go : (t : Bool) → within top ps ≡ t → (t ≡ true) × (b ≡ pack 64 (hits top ps))
     go true w =
-        let is : At b ≡ At (pack 64 (hits top ps)) = e ∙ rw w refl in
+        let is : Some b ≡ Some (pack 64 (hits top ps)) = e ∙ rw w refl in
         (refl, cc)
     go false w =
-        let no : At b ≡ Outside = e ∙ rw w refl in
+        let no : Some b ≡ None = e ∙ rw w refl in
         let z : ◌≡◌ {A = ℕ} 0 1 = cc in absurd (omega arith)
 
-pub found_none : (top : ℕ) (ps : List Packet) → Outside ≡ found_in top ps → within top ps ≡ false
+pub found_none : (top : ℕ) (ps : List Packet) → None ≡ found_in top ps → within top ps ≡ false
 found_none top ps e = go (within top ps) refl
   where
     go : (t : Bool) → within top ps ≡ t → t ≡ false
     go false w = refl
     go true w =
-        let no : Outside ≡ At (pack 64 (hits top ps)) = e ∙ rw w refl in
+        let no : None ≡ Some (pack 64 (hits top ps)) = e ∙ rw w refl in
         let z : ◌≡◌ {A = ℕ} 0 1 = cc in absurd (omega arith)

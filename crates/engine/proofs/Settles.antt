@@ -1,5 +1,6 @@
 -- Packets that all lie in the window of a record that has counted, in whatever order: counting them one by one is a union of places, and sums.
 -- Assumes nothing.
+use Rattle.std.specs.Prelude.{None}
 use mathlib.Core.Path.{◌≡◌, refl, sym, ap, ap₂, ◌∙◌}
 use mathlib.Core.Bool.{Bool, true, false, not, ◌||◌, or_assoc, or_comm, or-false}
 use mathlib.Core.List.{List, [], ◌∷◌, ◌++◌}
@@ -16,7 +17,6 @@ use Rattle.source.specs.declared.History.{History}
 use Rattle.source.specs.declared.Source.{Source}
 use Rattle.source.specs.declared.Arrival.{Arrival}
 use Rattle.source.specs.declared.Arrival.TheVariants.{Accepted}
-use Rattle.source.specs.declared.Remembered.TheVariants.{Nothing}
 use Rattle.source.specs.Places.{bit, pack, history, marks, moved, added}
 use Rattle.source.specs.Record.{arrivals, sound}
 use Rattle.source.specs.Arrivals.{extended, counted, arrival, after}
@@ -118,7 +118,7 @@ module _ (top a b e : ℕ) (s : Source) (p : Packet) (ps : List Packet) (first :
         remembered = nothing_left ps i;
       }
     where
-      nothing_left : (ps : List Packet) → forgotten ps Nothing ≡ Nothing
+      nothing_left : (ps : List Packet) → forgotten ps None ≡ None
       nothing_left [] = refl
       nothing_left (p ∷ ps) = refl
 

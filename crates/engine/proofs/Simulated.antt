@@ -1,4 +1,5 @@
 -- Counting an arrival in few words is counting it by `arrival`, seen through the record that the words stand for. Assumes nothing.
+use Rattle.std.specs.Prelude.{Some, None}
 use mathlib.Core.Path.{◌≡◌, refl, sym, ap, ap₂, subst, ◌∙◌}
 use mathlib.Core.Bool.{Bool, true, false, cond}
 use Prim.Native.Nat.{ℕ, zero, suc, ◌+◌, ◌*◌, ◌%◌, ◌^◌, ◌≤◌, ◌<◌}
@@ -9,7 +10,6 @@ use lib.Dec.{eqb}
 use lib.IntN.{pos}
 use Rattle.format.specs.declared.Wire.{Wire}
 use Rattle.source.specs.declared.History.{History}
-use Rattle.source.specs.declared.Remembered.TheVariants.{Nothing, Number}
 use Rattle.source.specs.declared.Source.{Source}
 use Rattle.source.specs.declared.Arrival.{Arrival}
 use Rattle.source.specs.declared.Arrival.TheVariants.{Accepted, Restarted, Refused}
@@ -88,7 +88,7 @@ module _ (s : Source) (t : Lean) (g : Stands s t) (mark : ℕ) (m : mark ≤ 3) 
         ce = grown again s.ce 5 (bit (eqb mark 3)) (omega (arith, b.5)) i;
         duplicates = (grown again s.duplicates 1 (bit again) (omega (arith, b.1)) ∙ sym e) i;
         history = past;
-        remembered = Nothing;
+        remembered = None;
       }
 
   grows_one : (again : Bool) (k : ℕ) → k ≤ 6 → byte k (t.counts + units mark again) ≤ byte k t.counts + 1
@@ -160,7 +160,7 @@ module _ (s : Source) (t : Lean) (g : Stands s t) (mark : ℕ) (m : mark ≤ 3) 
           ap₂ ◌+◌ (ap (λ (b : ℕ). cond (eqb b 0) n 0) (one 6 ∙ add-zero (byte 6 t.counts)))
           (one k ∙ ap (λ (b : ℕ). byte k t.counts + b) e ∙ add-zero (byte k t.counts))
 
-      number_kept : remembered_as ((number + 1) % 65536) ≡ Number (record { 0 = (number + 1) % 65536 })
+      number_kept : remembered_as ((number + 1) % 65536) ≡ Some (record { 0 = (number + 1) % 65536 })
       number_kept = rw (ne_eqb ((number + 1) % 65536) 65536 (λ z. omega arith)) refl
 
   -- ---- a restart
@@ -206,7 +206,7 @@ module _ (s : Source) (t : Lean) (g : Stands s t) (mark : ℕ) (m : mark ≤ 3) 
           ce = begins s.ce 5 (bit (eqb mark 3)) (fresh_byte 5 ∙ omega (arith, c.fifth, b.5)) i;
           duplicates = begins s.duplicates 1 0 (fresh_byte 1 ∙ omega (arith, c.first, b.1)) i;
           history = history (λ k. eqb k 0);
-          remembered = Nothing;
+          remembered = None;
         }
 
     fresh_grows : (k : ℕ) → k ≤ 6 → byte k fresh_counts ≤ byte k t.counts + 1
@@ -239,7 +239,7 @@ module _ (s : Source) (t : Lean) where
   unfolding remembered_as
   remembered_is number l = go (eqb t.awaited 65536) refl
     where
-      go : (b : Bool) → eqb t.awaited 65536 ≡ b → spec.is_remembered (cond b Nothing (Number (record { 0 = t.awaited }))) (record { 0 = number }) ≡ eqb number t.awaited
+      go : (b : Bool) → eqb t.awaited 65536 ≡ b → spec.is_remembered (cond b None (Some (record { 0 = t.awaited }))) (record { 0 = number }) ≡ eqb number t.awaited
       go true e = let is = eqb-true t.awaited 65536 e in sym (ne_eqb number t.awaited (λ z. omega arith))
       go false e = refl
 

@@ -1,4 +1,6 @@
 -- The packets of a part, counted in few words one after the other. Assumes nothing.
+use Rattle.std.specs.Prelude.{Option, Some, None}
+use Rattle.format.specs.declared.Wire.{Wire}
 use mathlib.Core.Path.{◌≡◌, refl, sym, ap, subst, ◌∙◌}
 use mathlib.Core.Bool.{Bool, true, false, cond, ◌&&◌}
 use mathlib.Core.List.{List, [], ◌∷◌}
@@ -10,8 +12,6 @@ use lib.Dec.{eqb, leb, ltb}
 use lib.IntN.{ℤ, pos, nat_abs}
 use lib.ListN.{length}
 use Rattle.answers.proofs.Conditions.{and_left, and_right}
-use Rattle.source.specs.declared.Remembered.{Remembered}
-use Rattle.source.specs.declared.Remembered.TheVariants.{Nothing, Number}
 use Rattle.source.specs.declared.Source.{Source}
 use Rattle.source.specs.declared.BlockCount.TheVariants.{Counted}
 use Rattle.source.specs.declared.distances.Reach.{Reach}
@@ -197,14 +197,14 @@ module _ (s : Source) where
     natural : {z : ℤ} (x : ℕ) → z ≡ pos x → pos (nat_abs z) ≡ z
     natural x e = ap pos (ap nat_abs e) ∙ sym e
 
-    remembered_back : (m : Remembered) → wire_number m ≡ true → remembered_as (awaited_in m) ≡ m
+    remembered_back : (m : Option Wire) → wire_number m ≡ true → remembered_as (awaited_in m) ≡ m
     unfolding remembered_as
-    remembered_back Nothing e = refl
-    remembered_back (Number wire) e = let l = ltb-true wire.0 65536 e in rw (ne_eqb wire.0 65536 (λ z. omega arith)) refl
+    remembered_back None e = refl
+    remembered_back (Some wire) e = let l = ltb-true wire.0 65536 e in rw (ne_eqb wire.0 65536 (λ z. omega arith)) refl
 
-    awaited_few : (m : Remembered) → wire_number m ≡ true → awaited_in m ≤ 65536
-    awaited_few Nothing e = omega arith
-    awaited_few (Number wire) e = let l = ltb-true wire.0 65536 e in omega arith
+    awaited_few : (m : Option Wire) → wire_number m ≡ true → awaited_in m ≤ 65536
+    awaited_few None e = omega arith
+    awaited_few (Some wire) e = let l = ltb-true wire.0 65536 e in omega arith
 
     restored_begun : restored s (begun s) ≡ s
     unfolding restored still_counted

@@ -1,8 +1,7 @@
 -- A part counted record by record in few words (document 02, L8). For the contracts of private functions alone: proofs/Simulated says that this is `arrival`.
-use Rattle.std.specs.Prelude.{ℕ, ◌+◌, ◌-◌, ◌*◌, ◌/◌, ◌%◌, ◌^◌, ◌≤◌, ◌<◌, ◌≡◌, true, cond, List, [], ◌∷◌, eqb, pos, nat_abs, length}
+use Rattle.format.specs.declared.Wire.{Wire}
+use Rattle.std.specs.Prelude.{ℕ, ◌+◌, ◌-◌, ◌*◌, ◌/◌, ◌%◌, ◌^◌, ◌≤◌, ◌<◌, ◌≡◌, true, cond, List, [], ◌∷◌, eqb, pos, nat_abs, length, Option, Some, None}
 use Rattle.source.specs.declared.History.{History}
-use Rattle.source.specs.declared.Remembered.{Remembered}
-use Rattle.source.specs.declared.Remembered.TheVariants.{Nothing, Number}
 use Rattle.source.specs.declared.Source.{Source}
 use Rattle.source.specs.declared.BlockCount.TheVariants.{Counted}
 use Rattle.source.specs.declared.distances.Reach.{Reach}
@@ -30,12 +29,12 @@ pub record LeanFits (n : ℕ) (t : Lean) : Type 0 where
 -- ---- a record as a state, and back
 
 -- the remembered number, 65,536 for none
-abbrev pub awaited_in : Remembered → ℕ
-awaited_in Nothing = 65536
-awaited_in (Number wire) = wire.0
+abbrev pub awaited_in : Option Wire → ℕ
+awaited_in None = 65536
+awaited_in (Some wire) = wire.0
 
-unfoldable pub remembered_as : ℕ → Remembered
-remembered_as n = cond (eqb n 65536) Nothing (Number (record { 0 = n }))
+unfoldable pub remembered_as : ℕ → Option Wire
+remembered_as n = cond (eqb n 65536) None (Some (record { 0 = n }))
 
 -- before a part
 abbrev pub begun : Source → Lean

@@ -1,9 +1,8 @@
 -- The marks of packets, added up.
-use Rattle.std.specs.Prelude.{◌≡◌, cond, List, ℕ, ◌+◌, ◌/◌}
+use Rattle.engine.specs.declared.scans.Scan.{Scan}
+use Rattle.std.specs.Prelude.{◌≡◌, cond, List, ℕ, ◌+◌, ◌/◌, Option, Some, None}
 use Rattle.source.specs.Blocks.{Packet, marks_fit}
 use Rattle.engine.specs.declared.scans.Sums.{Sums}
-use Rattle.engine.specs.declared.scans.Scanned.{Scanned}
-use Rattle.engine.specs.declared.scans.Scanned.TheVariants.{Fits, Misfit}
 use Rattle.engine.specs.Windows.{strays}
 use Rattle.engine.specs.Settled.{total, numbered}
 
@@ -16,8 +15,8 @@ pub record SumsOf (first : ℕ) (ps : List Packet) (r : Sums) : Type 0 where
   pub strays : r.strays ≡ strays first ps
 
 -- how many packets have each mark, or that some mark is above 3
-abbrev pub scan_of : ℕ → List Packet → Scanned
+abbrev pub scan_of : ℕ → List Packet → Option Scan
 scan_of first ps =
     cond (marks_fit ps)
-    (Fits (record { notect = numbered 0 ps; ect1 = numbered 1 ps; ect0 = numbered 2 ps; ce = numbered 3 ps; strays = strays first ps }))
-    Misfit
+    (Some (record { notect = numbered 0 ps; ect1 = numbered 1 ps; ect0 = numbered 2 ps; ce = numbered 3 ps; strays = strays first ps }))
+    None

@@ -1,10 +1,9 @@
 -- A record that has counted, after packets that all lie in its window, in whatever order: a union of places, and sums.
-use Rattle.std.specs.Prelude.{ℕ, ◌+◌, ◌-◌, ◌%◌, ◌^◌, ◌≤◌, ◌≡◌, Bool, true, false, ◌||◌, List, [], ◌∷◌, eqb, pos, nat_abs, ◌+ℤ◌, length}
+use Rattle.format.specs.declared.Wire.{Wire}
+use Rattle.std.specs.Prelude.{ℕ, ◌+◌, ◌-◌, ◌%◌, ◌^◌, ◌≤◌, ◌≡◌, Bool, true, false, ◌||◌, List, [], ◌∷◌, eqb, pos, nat_abs, ◌+ℤ◌, length, Option, None}
 use Rattle.std.specs.Int.Bits.{bit_or}
 use Rattle.std.specs.Int.Count.{ones, count_trailing_zeros}
 use Rattle.source.specs.declared.Source.{Source}
-use Rattle.source.specs.declared.Remembered.{Remembered}
-use Rattle.source.specs.declared.Remembered.TheVariants.{Nothing}
 use Rattle.source.specs.declared.History.{History}
 use Rattle.source.specs.Places.{bit, place, pack, history, marks, moved}
 use Rattle.source.specs.Record.{arrivals, sound}
@@ -30,9 +29,9 @@ abbrev pub joined : ℕ → ℕ → ℕ → List Packet → (ℕ → Bool) → �
 joined top d e ps row k = moved d row k || hits top ps (e + k)
 
 -- any packet forgets the remembered number
-abbrev pub forgotten : List Packet → Remembered → Remembered
+abbrev pub forgotten : List Packet → Option Wire → Option Wire
 forgotten [] remembered = remembered
-forgotten (p ∷ ps) remembered = Nothing
+forgotten (p ∷ ps) remembered = None
 
 -- the record after the packets, where its highest number lies at place a: it grows to the least place; a packet is a duplicate unless it marks a
 -- place more
@@ -79,7 +78,7 @@ scanned_onto s n scan shifted = record {
   ce = s.ce + scan.ce;
   duplicates = s.duplicates + (n - shifted.more);
   history = shifted.history;
-  remembered = Nothing;
+  remembered = None;
 }
 
 -- the top of a record's window, modulo 65,536

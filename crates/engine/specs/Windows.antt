@@ -1,12 +1,10 @@
 -- The packets of a part of a block against a window of 64 numbers (document 02, L8): place k of the window stands for the number k below its top.
 -- For the contracts of private functions alone: what the crate promises is source's `block_count`.
-use Rattle.std.specs.Prelude.{ℕ, ◌+◌, ◌-◌, ◌*◌, ◌/◌, ◌%◌, min, ◌≡◌, Bool, true, false, not, ◌&&◌, ◌||◌, cond, List, [], ◌∷◌, map, eqb, leb, ltb, length}
+use Rattle.std.specs.Prelude.{ℕ, ◌+◌, ◌-◌, ◌*◌, ◌/◌, ◌%◌, min, ◌≡◌, Bool, true, false, not, ◌&&◌, ◌||◌, cond, List, [], ◌∷◌, map, eqb, leb, ltb, length, Option, Some, None}
 use Rattle.answers.specs.Conditions.{all}
 use Rattle.source.specs.Places.{bit, pack}
 use Rattle.source.specs.Blocks.{Packet, packets}
 use Rattle.engine.specs.declared.window.Seen.{Seen}
-use Rattle.engine.specs.declared.window.Found.{Found}
-use Rattle.engine.specs.declared.window.Found.TheVariants.{At, Outside}
 
 -- how far the window's top lies above the highest number, and how many numbers it holds
 abbrev pub lead : ℕ
@@ -56,8 +54,8 @@ abbrev pub wired : List Packet → Bool
 wired ps = all (map (λ p. ltb p.wire.0 65536) ps)
 
 -- the places, or that some packet lies outside
-abbrev pub found_in : ℕ → List Packet → Found
-found_in top ps = cond (within top ps) (At (pack wide (hits top ps))) Outside
+abbrev pub found_in : ℕ → List Packet → Option ℕ
+found_in top ps = cond (within top ps) (Some (pack wide (hits top ps))) None
 
 -- what a look at each packet shows of that
 pub record SeenIn (top : ℕ) (ps : List Packet) (r : Seen) : Type 0 where
@@ -65,5 +63,5 @@ pub record SeenIn (top : ℕ) (ps : List Packet) (r : Seen) : Type 0 where
   pub bits : within top ps ≡ true → r.bits ≡ pack wide (hits top ps)
 
 -- n numbers in a row, of which the first lies at a place
-abbrev pub row_from : ℕ → ℕ → Found
-row_from n place = cond (leb n (place + 1)) (At (pack wide (λ k. leb k place && leb (place + 1) (k + n)))) Outside
+abbrev pub row_from : ℕ → ℕ → Option ℕ
+row_from n place = cond (leb n (place + 1)) (Some (pack wide (λ k. leb k place && leb (place + 1) (k + n)))) None

@@ -5,7 +5,7 @@ ghost use Rattle.engine.specs.Lean.{LeanFits, awaited_in, remembered_as, begun, 
 
 use format::Wire;
 use numbers::sign::magnitude;
-use source::{Extended, History, Remembered, Source};
+use source::{Extended, History, Source};
 
 // The first and the highest number, the history, the number that is remembered (65,536 for none), and the part's counts, a byte each: jumps, duplicates,
 // arrivals with the marks 0 to 3, restarts. A restart leaves of these the jumps and the restarts.
@@ -24,39 +24,34 @@ pub const NONE: u64 = 65536;
 // One in the byte of the restarts.
 pub const RESTART: u64 = 0x1_0000_0000_0000;
 
-fn awaited_in(remembered: Remembered) -> u64
+fn awaited_in(remembered: Option<Wire>) -> u64
     ensures { (result ≡ awaited_in remembered) × (wire_number remembered ≡ true) }
 {
     match remembered {
-        Remembered::Nothing => NONE,
-        Remembered::Number(wire) => wire.0 as u64,
+        None => NONE,
+        Some(wire) => wire.0 as u64,
     }
 }
 
-fn remembered_as(awaited: u64) -> Remembered
+fn remembered_as(awaited: u64) -> Option<Wire>
     requires { awaited ≤ 65536 }
     ensures { result ≡ remembered_as awaited }
 {
     if awaited == NONE {
-        return Remembered::Nothing;
+        return None;
     }
-    Remembered::Number(Wire(awaited as u16))
+    Some(Wire(awaited as u16))
 }
 
 // A record before a part.
 pub fn begun(s: Source) -> Lean
     ensures { (result ≡ begun s) × (wire_number s.remembered ≡ true) }
 {
-    let base = s.base;
-    let highest = s.highest;
-    let history = s.history;
-    let remembered = s.remembered;
-    let awaited = awaited_in(remembered);
     Lean {
-        base: magnitude(base.0),
-        highest: magnitude(highest.0),
-        history,
-        awaited,
+        base: magnitude(s.base.0),
+        highest: magnitude(s.highest.0),
+        history: s.history,
+        awaited: awaited_in(s.remembered),
         counts: 0,
     }
 }
@@ -77,8 +72,8 @@ pub fn restored(s: Source, t: Lean) -> Source
     requires { (has_counted s ≡ true) × LeanFits 0 t }
     ensures { result ≡ restored s t }
 {
-    let history = t.history;
     let counts = t.counts;
+    // Before the counters, and not in its field: a part counted so has else 2 % more instructions.
     let remembered = remembered_as(t.awaited);
     Source {
         base: Extended(t.base as i64),
@@ -88,7 +83,7 @@ pub fn restored(s: Source, t: Lean) -> Source
         ect0: since(counts, s.ect0) + counts / 0x1_0000_0000 % 256,
         ce: since(counts, s.ce) + counts / 0x100_0000_0000 % 256,
         duplicates: since(counts, s.duplicates) + counts / 256 % 256,
-        history,
+        history: t.history,
         remembered,
     }
 }

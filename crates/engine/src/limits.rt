@@ -27,15 +27,10 @@ fn whole_records(size: usize, width: usize) -> usize
     requires { 4 ≤ width }
     ensures { result ≡ records_in width size }
 {
-    let rest = size % width;
-    if 0 < rest {
+    if 0 < size % width || MOST_RECORDS < size / width {
         return 0;
     }
-    let n = size / width;
-    if MOST_RECORDS < n {
-        return 0;
-    }
-    n
+    size / width
 }
 
 // How many records of `width` bytes there are, and 0 where they are not 1 to 62 whole ones.
@@ -54,14 +49,31 @@ pub fn records_in(size: usize, width: usize) -> usize
     whole_records(size, width)
 }
 
+// The work of a part, at its width and its bytes: numbers that the compiler knows where the form is 1 or 2, and where the part is a whole one.
+pub fn by_form<R, F: Fn(usize, usize) -> R>(width: usize, size: usize, work: F) -> R
+    requires { F.pre work width size }
+    ensures { F.post work width size result }
+{
+    if width == USUAL {
+        if size == WHOLE {
+            return work(USUAL, WHOLE);
+        }
+        return work(USUAL, size);
+    }
+    if width == LONG {
+        if size == WHOLE_LONG {
+            return work(LONG, WHOLE_LONG);
+        }
+        return work(LONG, size);
+    }
+    work(width, size)
+}
+
 // Whether a record has counted, and can count n arrivals more.
 pub fn has_room(s: Source, n: usize) -> bool
     requires { (sound s ≡ true) × (n ≤ 62) }
     ensures { result ≡ (leb 1 (arrivals s) && leb (arrivals s + n) (2 ^ 48)) }
 {
     let counted = s.notect + s.ect1 + s.ect0 + s.ce;
-    if counted < 1 {
-        return false;
-    }
-    counted + n as u64 <= MOST
+    1 <= counted && counted + n as u64 <= MOST
 }

@@ -1,5 +1,5 @@
 // A block in parts of at most 31 records.
-ghost use Rattle.std.specs.Prelude.{◌≡◌, ◌≤◌, min};
+ghost use Rattle.std.specs.Prelude.{◌≡◌, ◌≤◌};
 ghost use Rattle.source.specs.Blocks.{block_count};
 ghost use Rattle.engine.specs.Blocks.{Block, PartSize};
 ghost use Rattle.engine.specs.Settled.{Roomy};
@@ -10,21 +10,12 @@ use crate::stretches::{Part, count_part};
 use answers::Refusal;
 use source::{BlockCount, Source};
 
-fn least(a: usize, b: usize) -> usize
-    ensures { result ≡ min a b }
-{
-    if a < b { a } else { b }
-}
-
 // How many of the records that are left make the next part.
 fn part_size(left: usize, width: usize) -> usize
     requires { 1 ≤ left }
     ensures { PartSize left result }
 {
-    if width == LONG {
-        return least(left, PART_LONG);
-    }
-    least(left, PART)
+    left.min(if width == LONG { PART_LONG } else { PART })
 }
 
 // The n records of a block, part by part: a part that can't be counted at once is counted record by record.
@@ -33,9 +24,9 @@ pub fn count(s: Source, records: &[u8], width: usize, n: usize) -> BlockCount
     ensures { result ≡ block_count s width records.now }
 {
     let mut next = s;
-    let mut jumps: u64 = 0;
-    let mut restarts: u64 = 0;
-    let mut at: usize = 0;
+    let mut jumps = 0;
+    let mut restarts = 0;
+    let mut at = 0;
     let mut left = n;
     while 0 < left {
         let few = part_size(left, width);

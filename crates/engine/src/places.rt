@@ -4,7 +4,7 @@ ghost use Rattle.source.specs.Places.{bit, history, marks, moved, added};
 
 use source::History;
 
-// 2^36: the older word has 36 places.
+// 2^36: the older word has 36 places. (As in the crate source, whose history in words is private there.)
 const OLDER: u64 = 0x10_0000_0000;
 
 // The places of a word.

@@ -29,8 +29,7 @@ fn along(begun: Lean, records: &[u8], width: usize, n: usize, ordered: bool) -> 
     let mut at: usize = 0;
     while at < records.len() {
         let place = at + (width - 2);
-        let mark = records[place];
-        t = take(t, number(records, at, width), mark, ordered);
+        t = take(t, number(records, at, width), records[place], ordered);
         at += width;
     }
     t
@@ -43,11 +42,9 @@ pub fn count(s: Source, records: &[u8], width: usize, n: usize, ordered: bool) -
     ensures { RunOf s (held width records.now) result }
 {
     let t = along(lean::begun(s), records, width, n, ordered);
-    let counts = t.counts;
-    let source = lean::restored(s, t);
     Run {
-        source,
-        jumps: counts % 256,
-        restarts: counts / RESTART % 256,
+        source: lean::restored(s, t),
+        jumps: t.counts % 256,
+        restarts: t.counts / RESTART % 256,
     }
 }

@@ -6,7 +6,7 @@ ghost use Rattle.engine.specs.Windows.{held};
 ghost use Rattle.engine.specs.Settled.{total};
 ghost use Rattle.engine.specs.Scans.{SumsOf, scan_of};
 
-use crate::limits::{LONG, USUAL, WHOLE, WHOLE_LONG};
+use crate::limits::by_form;
 use crate::records::ending;
 
 // Of each mark t: t, t / 2, (t + 1) / 4 and t / 4, added up. Of marks to 3 the second counts 2 and 3, the third 3, and the fourth is 0. And how many packets
@@ -30,20 +30,14 @@ pub struct Scan {
     pub strays: u64,
 }
 
-// The scan, or that some mark is above 3.
-#[derive(Clone, Copy)]
-pub enum Scanned {
-    Fits(Scan),
-    Misfit,
-}
-
 // 1 where two numbers differ.
 fn differs(a: u32, b: u32) -> u32
     ensures { result ≡ bit (not (eqb a b)) }
 {
-    if a == b { 0 } else { 1 }
+    u32::from(a != b)
 }
 
+// (Here and in the other loops over a part a step of its own: `size` is a constant for a whole part, and the proofs speak of the place `at`.)
 fn added_up(records: &[u8], width: usize, size: usize, n: usize, turned: u32) -> Sums
     requires { (Held width records.now n) × (size ≡ length records.now) × (turned < 65536) }
     ensures { SumsOf turned (held width records.now) result }
@@ -80,43 +74,33 @@ fn added(records: &[u8], width: usize, n: usize, turned: u32) -> Sums
     requires { (Held width records.now n) × (turned < 65536) }
     ensures { SumsOf turned (held width records.now) result }
 {
-    let size = records.len();
-    if width == USUAL {
-        if size == WHOLE {
-            return added_up(records, USUAL, WHOLE, n, turned);
-        }
-        return added_up(records, USUAL, size, n, turned);
-    }
-    if width == LONG {
-        if size == WHOLE_LONG {
-            return added_up(records, LONG, WHOLE_LONG, n, turned);
-        }
-        return added_up(records, LONG, size, n, turned);
-    }
-    added_up(records, width, size, n, turned)
+    by_form(
+        width,
+        records.len(),
+        |width, size| added_up(records, width, size, n, turned),
+    )
 }
 
 // The marks of a part, and whether its numbers follow a first one.
-pub fn marks(records: &[u8], width: usize, n: usize, turned: u32) -> Scanned
+pub fn marks(records: &[u8], width: usize, n: usize, turned: u32) -> Option<Scan>
     requires { (Held width records.now n) × (turned < 65536) }
     ensures { result ≡ scan_of turned (held width records.now) }
 {
     let sums = added(records, width, n, turned);
     if 0 < sums.fours {
-        return Scanned::Misfit;
+        return None;
     }
     let whole = sums.whole as u64;
     let halves = sums.halves as u64;
     let threes = sums.threes as u64;
     let ones = whole - 2 * halves - threes;
-    let scan = Scan {
+    Some(Scan {
         notect: n as u64 - ones - halves,
         ect1: ones,
         ect0: halves - threes,
         ce: threes,
         strays: sums.strays as u64,
-    };
-    Scanned::Fits(scan)
+    })
 }
 
 fn fours_along(records: &[u8], width: usize, size: usize, n: usize) -> u32
@@ -138,18 +122,9 @@ pub fn fours(records: &[u8], width: usize, n: usize) -> u32
     requires { Held width records.now n }
     ensures { result ≡ total (λ t. t / 4) (held width records.now) }
 {
-    let size = records.len();
-    if width == USUAL {
-        if size == WHOLE {
-            return fours_along(records, USUAL, WHOLE, n);
-        }
-        return fours_along(records, USUAL, size, n);
-    }
-    if width == LONG {
-        if size == WHOLE_LONG {
-            return fours_along(records, LONG, WHOLE_LONG, n);
-        }
-        return fours_along(records, LONG, size, n);
-    }
-    fours_along(records, width, size, n)
+    by_form(
+        width,
+        records.len(),
+        |width, size| fours_along(records, width, size, n),
+    )
 }

@@ -34,11 +34,11 @@ fn raised(t: Lean, highest: u64, history: History, units: u64) -> Lean
     ensures { result ≡ raised t highest history units }
 {
     Lean {
-        base: t.base,
         highest,
         history,
         awaited: NONE,
         counts: t.counts + units,
+        ..t
     }
 }
 
@@ -62,10 +62,9 @@ fn near(t: Lean, number: u64, d: u64, mark: u8) -> Lean
     requires { (LeanFits 1 t) × (d < 65536) × ((d + 99) % 65536 < 163) × (mark ≤ 3) }
     ensures { result ≡ TakenBy t number mark (reach_of d) }
 {
-    let history = t.history;
     let up = rise(d);
     let k = fall(d);
-    let past = places::moved(history, up);
+    let past = places::moved(t.history, up);
     let again = places::mark_at(past, k);
     let next = places::with_mark(past, k);
     raised(t, t.highest + up, next, unit(mark) + again * DUPLICATE)
@@ -76,8 +75,7 @@ fn ahead(t: Lean, d: u64, mark: u8) -> Lean
     requires { (LeanFits 1 t) × (64 ≤ d) × (d < 65536) × (mark ≤ 3) }
     ensures { result ≡ ahead t d mark }
 {
-    let history = t.history;
-    let next = places::moved_far(history, d);
+    let next = places::moved_far(t.history, d);
     raised(t, t.highest + d, next, unit(mark))
 }
 
@@ -88,7 +86,6 @@ fn restarted(t: Lean, number: u64, mark: u8) -> Lean
 {
     let jumps = t.counts % 256;
     let restarts = t.counts / RESTART * RESTART;
-    let awaited = NONE;
     Lean {
         base: number,
         highest: number,
@@ -96,7 +93,7 @@ fn restarted(t: Lean, number: u64, mark: u8) -> Lean
             recent: 1,
             older: 0,
         },
-        awaited,
+        awaited: NONE,
         counts: jumps + restarts + RESTART + unit(mark),
     }
 }
@@ -106,16 +103,13 @@ fn jumped(t: Lean, number: u64, mark: u8) -> Lean
     requires { (LeanFits 1 t) × (number < 65536) × (mark ≤ 3) }
     ensures { result ≡ jumped t number mark }
 {
-    let history = t.history;
     if number == t.awaited {
         return restarted(t, number, mark);
     }
     Lean {
-        base: t.base,
-        highest: t.highest,
-        history,
         awaited: (number + 1) % 65536,
         counts: t.counts + 1,
+        ..t
     }
 }
 
@@ -128,10 +122,8 @@ pub fn take(t: Lean, number: u64, mark: u8, ordered: bool) -> Lean
     if (d + FROM_JUMPS) % 65536 < JUMPS {
         return jumped(t, number, mark);
     }
-    if ordered {
-        if d == 1 {
-            return near(t, number, 1, mark);
-        }
+    if ordered && d == 1 {
+        return near(t, number, 1, mark);
     }
     if (d + FROM_NEAR) % 65536 < NEAR {
         return near(t, number, d, mark);

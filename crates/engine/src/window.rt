@@ -4,15 +4,8 @@ ghost use Rattle.numbers.specs.BigEndian.{word};
 ghost use Rattle.engine.specs.Limits.{Held};
 ghost use Rattle.engine.specs.Windows.{held, turned, strays, found_in, row_from, SeenIn};
 
-use crate::limits::{LONG, USUAL, WHOLE, WHOLE_LONG};
+use crate::limits::by_form;
 use crate::records::number;
-
-// The places, or that some packet lies outside.
-#[derive(Clone, Copy)]
-pub enum Found {
-    At(u64),
-    Outside,
-}
 
 // The numbers of the window.
 pub const WIDE: u64 = 64;
@@ -47,50 +40,48 @@ fn seen_in(records: &[u8], width: usize, n: usize, top: u64) -> Seen
     requires { (Held width records.now n) × (top < 131072) }
     ensures { SeenIn top (held width records.now) result }
 {
-    let size = records.len();
-    if width == USUAL {
-        if size == WHOLE {
-            return seen_along(records, USUAL, WHOLE, n, top);
-        }
-        return seen_along(records, USUAL, size, n, top);
-    }
-    if width == LONG {
-        if size == WHOLE_LONG {
-            return seen_along(records, LONG, WHOLE_LONG, n, top);
-        }
-        return seen_along(records, LONG, size, n, top);
-    }
-    seen_along(records, width, size, n, top)
+    by_form(
+        width,
+        records.len(),
+        |width, size| seen_along(records, width, size, n, top),
+    )
 }
 
 // The places of n numbers in a row, of which the first lies at a place of the window.
-fn row(n: usize, below: u64) -> Found
+fn row(n: usize, below: u64) -> Option<u64>
     requires { (1 ≤ n) × (n ≤ 31) × (below < 64) }
     ensures { result ≡ row_from n below }
 {
     let last = n as u64 - 1;
     if below < last {
-        return Found::Outside;
+        return None;
     }
-    Found::At(((1 << (n as u64)) - 1) << (below - last))
+    Some(((1 << (n as u64)) - 1) << (below - last))
 }
 
 // Where the packets of a part lie, whose first number is given.
-pub fn find(records: &[u8], width: usize, n: usize, top: u64, first: u64, astray: u64) -> Found
+pub fn find(
+    records: &[u8],
+    width: usize,
+    n: usize,
+    top: u64,
+    first: u64,
+    astray: u64,
+) -> Option<u64>
     requires held { (Held width records.now n) × (top < 131072) }
     requires from_first { (first ≡ word 2 records.now (width - 4)) × (astray ≡ strays (turned first) (held width records.now)) }
     ensures { result ≡ found_in top (held width records.now) }
 {
     let below = (top + 65536 - first) % 65536;
     if WIDE <= below {
-        return Found::Outside;
+        return None;
     }
     if astray == 0 {
         return row(n, below);
     }
     let found = seen_in(records, width, n, top);
     if WIDE <= found.joined {
-        return Found::Outside;
+        return None;
     }
-    Found::At(found.bits)
+    Some(found.bits)
 }

@@ -27,7 +27,7 @@ pub const BEHIND_TIME: usize = 4;
 
 // All of these numbers: the bytes of a block; where kind, count, SSRC, body and check stand; the body's bytes, the most records of any form, and the bytes
 // of a record behind its time.
-#[derive(Clone, Copy)]
+#[derive(Clone, Copy, PartialEq, Eq)]
 pub struct Layout {
     pub block: usize,
     pub kind: usize,

@@ -7,11 +7,11 @@ ghost use Rattle.format.specs.Forms.{shape_of, width, time_limit, other_form, ki
 pub mod block;
 
 // A sequence number as a packet carries it.
-#[derive(Clone, Copy)]
+#[derive(Clone, Copy, PartialEq, Eq)]
 pub struct Wire(pub u16);
 
 // The counters of an ECN report (RFC 6679, section 5) as the packet carries them.
-#[derive(Clone, Copy)]
+#[derive(Clone, Copy, PartialEq, Eq)]
 pub struct Counts {
     pub ect0: u32,
     pub ect1: u32,
@@ -21,15 +21,15 @@ pub struct Counts {
     pub duplicates: u16,
 }
 
-// The forms of a trace: times of 32 bits, or of 48.
-#[derive(Clone, Copy)]
+// The forms of a trace: times of 32 bits, or of 48. A form has five numbers, so none of them is its discriminant: each is a match.
+#[derive(Clone, Copy, PartialEq, Eq)]
 pub enum Form {
     One,
     Two,
 }
 
 // What the kind of a block says: that it holds the label or arrivals of a trace of some form, or nothing that is known.
-#[derive(Clone, Copy)]
+#[derive(Clone, Copy, PartialEq, Eq)]
 pub enum Kind {
     Label(Form),
     Arrivals(Form),

@@ -1,8 +1,8 @@
 -- Blocks of records stored. Assumes nothing.
+use Rattle.std.specs.Prelude.{Option, None}
 use mathlib.Core.Path.{◌≡◌, refl, sym, ap, ap₂, ◌∙◌}
 use mathlib.Core.Bool.{true}
 use mathlib.Core.List.{List, [], ◌∷◌, ◌++◌, append_assoc, append-nil}
-use mathlib.Core.Option.{Option, none}
 use Prim.Native.Nat.{ℕ, zero, suc, ◌+◌, ◌-◌, ◌*◌, ◌≤◌, ◌<◌}
 use native.Mathlib.Nat.{add-mul}
 use native.Mathlib.Omega.{arith}
@@ -34,7 +34,7 @@ use Rattle.trace.proofs.Tallies.{mul_turn}
 
 -- a block stored in a part of a list that is as long
 pub part_stored : (old block : List ℕ) (at : ℕ) {out : List ℕ} {n : ℕ} → n ≡ length block → at + n ≤ length old
-    → out ≡ stored none block (take n (drop at old)) → take at old ++ (out ++ drop n (drop at old)) ≡ sets old at block
+    → out ≡ stored None block (take n (drop at old)) → take at old ++ (out ++ drop n (drop at old)) ≡ sets old at block
 unfolding stored
 part_stored old block at {out} {n} size room e =
     let many : length (take n (drop at old)) ≡ n = length-take-le n (drop at old) (rw length-drop (omega arith)) in
@@ -48,7 +48,7 @@ module _ (form : Form) (n : ℕ) (s : List ℕ) (o : Octets s) (long : n * width
   block_is ssrc =
       ap (λ (t : List ℕ). records_block (shape_of form) t ssrc) (sym (bytes_records (shape_of form) n s o long good)) ∙ records_by_bytes form (records_in (shape_of form) n s) ssrc
 
-  pub no_fault : 1 ≤ n → n ≤ (shape_of form).most → body_fault (shape_of form) (take (n * width (shape_of form)) s) ≡ none
+  pub no_fault : 1 ≤ n → n ≤ (shape_of form).most → body_fault (shape_of form) (take (n * width (shape_of form)) s) ≡ None
   unfolding body_fault
   no_fault some few = rw (body_good (shape_of form) n s long some few, good)
 
@@ -104,8 +104,8 @@ module _ (form : Form) (rs : List Record) (ssrc : ℕ) (old : List ℕ) (at : �
       let block : List ℕ = arrivals_block shape rs ssrc in
       let whole : length block ≡ block_bytes = length-arrivals_block shape rs ssrc few in
       let there : records_block shape (take (length rs * width shape) (drop 8 (take k (drop at out)))) ssrc ≡ block = ap (λ (s : List ℕ). records_block shape s ssrc) (stand refl ek) ∙ records_by_bytes form rs ssrc in
-      let fault : count_fault shape (length rs) ≡ none = count_taken shape (length rs) some in
-      let is : part ≡ stored none block (take k (drop at out)) =
+      let fault : count_fault shape (length rs) ≡ None = count_taken shape (length rs) some in
+      let is : part ≡ stored None block (take k (drop at out)) =
       h ∙ ap₂ (λ (f : Form) (m : ℕ). stored (count_fault (shape_of f) m) (records_block (shape_of f) (take (m * width (shape_of f)) (drop 8 (take k (drop at out)))) ssrc) (take k (drop at out))) et en
       ∙ ap₂ (λ (f : Option Refusal) (b : List ℕ). stored f b (take k (drop at out))) fault there in
       part_stored out block at {n = k} (omega (arith, whole)) (omega (arith, long)) is

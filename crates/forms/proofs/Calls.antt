@@ -1,4 +1,6 @@
 -- The calls for one block each give what the whole run prints. Assumes nothing.
+use Rattle.std.specs.Prelude.{Result, Ok, Err}
+use Rattle.answers.specs.declared.Refusal.{Refusal}
 use mathlib.Core.Path.{◌≡◌, refl, ap, ◌∙◌, subst, subst⁻¹}
 use mathlib.Core.List.{List, [], ◌∷◌}
 use Prim.Native.Nat.{ℕ, ◌≤◌}
@@ -10,7 +12,6 @@ use Rattle.format.specs.declared.Form.{Form}
 use Rattle.format.proofs.Fits.{fits, records_fit}
 use Rattle.trace.specs.Places.{zeroth_of}
 use Rattle.trace.specs.declared.Zeroth.{Zeroth}
-use Rattle.trace.specs.declared.Zeroth.TheVariants as zeroth
 use Rattle.trace.specs.declared.Record.{Record}
 use Rattle.trace.proofs.Layouts.{length-arrivals_block}
 use Rattle.walk.specs.Programs.{to_output, Turn}
@@ -35,9 +36,9 @@ last_long form ssrc (r ∷ rs) h = omega (arith, length-arrivals_block (shape_of
 
 -- block 0
 module _ (part : List ℕ) (room : body_bytes ≤ length part) where
-  starts : (b : List ℕ) (z : Zeroth) → Starts Fit (block_calls part) ecnforms (begun b z) (started_on part z) × ((begun b z).printed ≡ to_output (begin_bytes b z))
-  starts b (zeroth.Label form n ssrc) = (((holds_none form ssrc part room, kept_none form ssrc part), refl), refl)
-  starts b (zeroth.Refused refusal) = ((refl, refl), refl)
+  starts : (b : List ℕ) (z : Result Zeroth Refusal) → Starts Fit (block_calls part) ecnforms (begun b z) (started_on part z) × ((begun b z).printed ≡ to_output (begin_bytes b z))
+  starts b (Ok label) = (((holds_none label.form label.ssrc part room, kept_none label.form label.ssrc part), refl), refl)
+  starts b (Err refusal) = ((refl, refl), refl)
 
 -- a later block, by what it brings
 module _ (c : Conversion) (part b : List ℕ) (h : Holds c part) (o : Octets b) (i : ℕ) where

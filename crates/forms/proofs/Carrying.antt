@@ -1,8 +1,8 @@
 -- What is carried from block to block, and the program's state with it. Assumes nothing.
+use Rattle.std.specs.Prelude.{Some, None}
 use mathlib.Core.Path.{◌≡◌, refl, sym, ap, ap₂, ◌∙◌, subst}
 use mathlib.Core.Bool.{true}
 use mathlib.Core.List.{List, [], ◌++◌}
-use mathlib.Core.Option.{none, some}
 use Prim.Native.Nat.{ℕ, ◌*◌, ◌≤◌, ◌<◌}
 use native.Mathlib.Omega.{arith}
 use lib.ListN.{length}
@@ -99,7 +99,7 @@ fine_all {c} h b e o = fine_append (to_shape c) h.fine (fine_there (brings c.for
 pub record Turns (c : Conversion) (part b : List ℕ) (s : Carried) : Type 0 where
   pub turn : (i : ℕ)
       → ecnforms.step i (kept_of c part) b
-      ≡ record { state = kept_of s.conversion s.part; printed = to_output (bytes_in c part (next_of c.form c.ssrc b)); refusal = none }
+      ≡ record { state = kept_of s.conversion s.part; printed = to_output (bytes_in c part (next_of c.form c.ssrc b)); refusal = None }
   pub holds : Holds s.conversion s.part
   pub after : next_in (carries c part) (carried_by c part (next_of c.form c.ssrc b)) ≡ s
 
@@ -112,7 +112,7 @@ module _ {c : Conversion} {part : List ℕ} (h : Holds c part) (b : List ℕ) (o
       record {
         turn = λ i.
             ap (taken (kept_of c part)) e
-            ∙ ap₂ (λ (k : Kept) (n : Next (List Record)). record { state = k; printed = to_output (bytes_in c part n); refusal = none }) (sym (kept_is c part h.sound.room rs fine)) (sym e);
+            ∙ ap₂ (λ (k : Kept) (n : Next (List Record)). record { state = k; printed = to_output (bytes_in c part n); refusal = None }) (sym (kept_is c part h.sound.room rs fine)) (sym e);
         holds = holds_next c part h.sound.room rs fine;
         after = ap (λ (n : Next (List Record)). next_in (carries c part) (carried_by c part n)) e;
       }
@@ -128,9 +128,9 @@ module _ {c : Conversion} {part : List ℕ} (h : Holds c part) (b : List ℕ) (o
 
 -- a block that is refused
 pub turn_refuses : (c : Conversion) (part b : List ℕ) {refusal : Refusal} → carried_by c part (next_of c.form c.ssrc b) ≡ refuses refusal → (i : ℕ)
-    → ecnforms.step i (kept_of c part) b ≡ record { state = kept_of c part; printed = nothing; refusal = some refusal }
+    → ecnforms.step i (kept_of c part) b ≡ record { state = kept_of c part; printed = nothing; refusal = Some refusal }
 turn_refuses c part b {refusal} q i = go (next_of c.form c.ssrc b) q
   where
-    go : (n : Next (List Record)) → carried_by c part n ≡ refuses refusal → taken (kept_of c part) n ≡ record { state = kept_of c part; printed = nothing; refusal = some refusal }
+    go : (n : Next (List Record)) → carried_by c part n ≡ refuses refusal → taken (kept_of c part) n ≡ record { state = kept_of c part; printed = nothing; refusal = Some refusal }
     go (goes records) q = let z : ◌≡◌ {A = ℕ} 0 1 = cc in absurd (omega arith)
-    go (refuses other) q = let same : other ≡ refusal = cc in ap (λ (r : Refusal). record { state = kept_of c part; printed = nothing; refusal = some r }) same
+    go (refuses other) q = let same : other ≡ refusal = cc in ap (λ (r : Refusal). record { state = kept_of c part; printed = nothing; refusal = Some r }) same

@@ -1,8 +1,8 @@
 -- The room that a caller lends is enough. Assumes nothing.
+use Rattle.std.specs.Prelude.{Option, Some, None}
 use mathlib.Core.Path.{◌≡◌, refl, ap, ◌∙◌}
 use mathlib.Core.Bool.{Bool, true, false, cond}
 use mathlib.Core.List.{List, [], ◌∷◌, ◌++◌}
-use mathlib.Core.Option.{Option, none, some}
 use Prim.Native.Nat.{ℕ, suc, ◌+◌, ◌-◌, ◌*◌, ◌^◌, ◌≤◌, ◌<◌}
 use native.Mathlib.Omega.{arith}
 use borrow.Author.Tests.{ltb-true}
@@ -25,7 +25,6 @@ use Rattle.walk.specs.Programs.{Turn, Program}
 use Rattle.walk.specs.Pieces.{whole_in}
 use Rattle.walk.specs.Fitting.{Took, none_taken, one_more, fitting}
 use Rattle.walk.specs.Machines.{ending_by}
-use Rattle.walk.specs.Endings.{refusal_in}
 use Rattle.walk.specs.Steps.{Next, goes, refuses}
 use Rattle.walk.proofs.Pieces.{whole_many}
 use Rattle.forms.specs.Packing.{full, left}
@@ -43,15 +42,15 @@ use Rattle.forms.proofs.PieceCalls.{took_by_lem}
 
 module _ {S : Type 0} (p : Program S) (Enough : ℕ → ℕ → S → Type 0)
     (turns : (i many room : ℕ) (s : S) (b : List ℕ) → Enough (suc many) room s
-    → let t = p.step i s b in (length t.printed.out ≤ room) × (t.refusal ≡ none → Enough many (room - length t.printed.out) t.state)) where
+    → let t = p.step i s b in (length t.printed.out ≤ room) × (t.refusal ≡ None → Enough many (room - length t.printed.out) t.state)) where
   all_by : (s : S) (t : Turn S) (w : Took S) (room many : ℕ) (small : Bool) (o : Option Refusal) → ltb room (length t.printed.out) ≡ small → t.refusal ≡ o
-      → length t.printed.out ≤ room → (t.refusal ≡ none → w.refusal ≡ none → w.taken ≡ many)
-      → let u = cond small (none_taken s) (one_more t o w) in u.refusal ≡ none → u.taken ≡ suc many
+      → length t.printed.out ≤ room → (t.refusal ≡ None → w.refusal ≡ None → w.taken ≡ many)
+      → let u = cond small (none_taken s) (one_more t o w) in u.refusal ≡ None → u.taken ≡ suc many
   all_by s t w room many true o e f h k r = absurd (omega (arith, ltb-true room (length t.printed.out) e, h))
-  all_by s t w room many false none e f h k r = ap suc (k f r)
-  all_by s t w room many false (some refusal) e f h k r = let z : ◌≡◌ {A = ℕ} 0 1 = cc in absurd (omega arith)
+  all_by s t w room many false None e f h k r = ap suc (k f r)
+  all_by s t w room many false (Some refusal) e f h k r = let z : ◌≡◌ {A = ℕ} 0 1 = cc in absurd (omega arith)
 
-  all_taken : (i : ℕ) (bs : List (List ℕ)) (s : S) (room : ℕ) → Enough (length bs) room s → (fitting p i bs s room).refusal ≡ none → (fitting p i bs s room).taken ≡ length bs
+  all_taken : (i : ℕ) (bs : List (List ℕ)) (s : S) (room : ℕ) → Enough (length bs) room s → (fitting p i bs s room).refusal ≡ None → (fitting p i bs s room).taken ≡ length bs
   unfolding fitting
   all_taken i [] s room g = λ r. refl
   all_taken i (b ∷ bs) s room g =
@@ -83,11 +82,11 @@ abbrev EnoughFor : ℕ → ℕ → Kept → Type 0
 EnoughFor many room k = EnoughBy k.form many room (length k.held)
 
 enough_turn : (i many room : ℕ) (k : Kept) (b : List ℕ) → EnoughFor (suc many) room k
-    → let t = ecnforms.step i k b in (length t.printed.out ≤ room) × (t.refusal ≡ none → EnoughFor many (room - length t.printed.out) t.state)
+    → let t = ecnforms.step i k b in (length t.printed.out ≤ room) × (t.refusal ≡ None → EnoughFor many (room - length t.printed.out) t.state)
 enough_turn i many room k b e = go (next_of k.form k.ssrc b) refl
   where
     go : (n : Next (List Record)) → next_of k.form k.ssrc b ≡ n
-        → let t = taken k n in (length t.printed.out ≤ room) × (t.refusal ≡ none → EnoughFor many (room - length t.printed.out) t.state)
+        → let t = taken k n in (length t.printed.out ≤ room) × (t.refusal ≡ None → EnoughFor many (room - length t.printed.out) t.state)
     go (refuses refusal) q = (omega arith, λ r. let z : ◌≡◌ {A = ℕ} 0 1 = cc in absurd (omega arith))
     go (goes records) q =
         let rs = k.held ++ records in
@@ -163,13 +162,13 @@ line_small refusal block h =
     omega (arith, length-refused (number_of refusal) block, length-u64 (number_of refusal) (number_small refusal), length-u64 block h)
 
 told_small : (block : ℕ) (o : Option Refusal) (rest : List ℕ) → block < 2 ^ 64 → length (told (ending_by block o rest)) ≤ 64
-told_small block (some refusal) rest h = line_small refusal block h
-told_small block none [] h = omega arith
-told_small block none (c ∷ rest) h = line_small Incomplete block h
+told_small block (Some refusal) rest h = line_small refusal block h
+told_small block None [] h = omega arith
+told_small block None (c ∷ rest) h = line_small Incomplete block h
 
 pub end_has_room : EndHasRoom
 unfolding end_of
 end_has_room p part rest g small =
     let c = p.conversion in
     let few : length (held_in c part) ≤ (to_shape c).most = omega (arith, length-records_in (to_shape c) c.held part, (is_sound_lem g).few) in
-    (last_long (other_form c.form) c.ssrc (held_in c part) few, told_small p.block (refusal_in p.ended) rest small)
+    (last_long (other_form c.form) c.ssrc (held_in c part) few, told_small p.block p.ended rest small)

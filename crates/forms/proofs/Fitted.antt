@@ -1,4 +1,6 @@
 -- The loop over the blocks of a piece: its turns, and its ways out. Assumes nothing.
+use Rattle.std.specs.Prelude.{Some, None, Result, Ok, Err}
+use Rattle.answers.specs.declared.Unwritten.{Unwritten}
 use mathlib.Core.Path.{◌≡◌, refl, sym, ap, ◌∙◌, subst}
 use mathlib.Core.Bool.{true}
 use mathlib.Core.List.{List, ◌∷◌}
@@ -7,15 +9,12 @@ use native.Mathlib.Omega.{arith}
 use lib.ListN.{length, take, drop, length-drop}
 use lib.Seq.{drop-drop}
 use Rattle.answers.specs.declared.Refusal.{Refusal}
-use Rattle.answers.specs.declared.Written.{Written}
-use Rattle.answers.specs.declared.Written.TheVariants.{Length, Room, Refused}
 use Rattle.format.specs.Blocks.{block_bytes}
 use Rattle.numbers.proofs.BigEndian.{Octets}
 use Rattle.numbers.proofs.Octets.{octets_take, octets_drop}
 use Rattle.walk.specs.Pieces.{whole_in}
 use Rattle.walk.specs.Steps.{Next, state_after}
 use Rattle.walk.specs.Puts.{PutBy}
-use Rattle.walk.specs.declared.Ended.TheVariants as ended
 use Rattle.walk.proofs.Pieces.{whole_first}
 use Rattle.walk.proofs.Loops.{Going, going_first, going_last, going_taken, going_pauses, going_refused}
 use Rattle.forms.specs.declared.Conversion.{Conversion}
@@ -60,7 +59,7 @@ module _ {start : Conversion} {lent piece old : List ℕ} {c : Conversion} {part
   unfolding carried_over
   carried_here = let e : at / block_bytes ≡ at / block_bytes + 0 = omega arith in ap (λ (n : ℕ). carried_over (carries start lent) (take n (whole_in piece))) e ∙ l.carried 0
 
-  pub loop_last : length piece - at < block_bytes → Fitted start lent piece old c at used ended.Going part out
+  pub loop_last : length piece - at < block_bytes → Fitted start lent piece old c at used None part out
   loop_last h = record {
     reached = λ first. going_last ecnforms first piece old (kept_of start lent) (l.going first) (omega (arith, h, loop_within));
     carried = carried_here;
@@ -98,14 +97,14 @@ module _ {start : Conversion} {lent piece old : List ℕ} {c : Conversion} {part
         ∙ ap (λ (s : Carried). carried_over s (take k (whole_in (drop end piece)))) t.after
 
     module _ {r : Step} {kept now : List ℕ} (p : Puts c part (next_of c.form c.ssrc block) out used r kept now) where
-      put_by : {w : Written} → r.answer ≡ w → PutBy brings (bytes_in c part (next_of c.form c.ssrc block)) out used (carries r.conversion kept) now w
+      put_by : {w : Result ℕ Unwritten} → r.answer ≡ w → PutBy brings (bytes_in c part (next_of c.form c.ssrc block)) out used (carries r.conversion kept) now w
       put_by e = subst (PutBy brings (bytes_in c part (next_of c.form c.ssrc block)) out used (carries r.conversion kept) now) e p.put
 
       -- the part stays as it was
-      same_part : {w : Written} → r.answer ≡ w → state_after (carries c part) brings w ≡ carries c part → kept ≡ part
+      same_part : {w : Result ℕ Unwritten} → r.answer ≡ w → state_after (carries c part) brings w ≡ carries c part → kept ≡ part
       same_part e s = ap (λ (s : Carried). s.part) (p.after ∙ ap (state_after (carries c part) brings) e ∙ s)
 
-      pub loop_taken : Octets piece → {n : ℕ} → r.answer ≡ Length n → length kept ≡ length part → Loop start lent piece old r.conversion kept end now (used + n)
+      pub loop_taken : Octets piece → {n : ℕ} → r.answer ≡ Ok n → length kept ≡ length part → Loop start lent piece old r.conversion kept end now (used + n)
       loop_taken o {n} e long =
           let w = put_by e in
           let t = turn_goes l.holds block (octets_take (end - at) (drop at piece) (octets_drop at piece o)) w.does in
@@ -120,11 +119,12 @@ module _ {start : Conversion} {lent piece old : List ℕ} {c : Conversion} {part
             carried = carried_next t;
           }
 
-      pub loop_pauses : Octets piece → {n : ℕ} → r.answer ≡ Room n → Fitted start lent piece old c at used ended.Going kept now
-      loop_pauses o {n} e =
+      pub loop_pauses : Octets piece → {u : Unwritten} {n : ℕ} → r.answer ≡ Err u → u ≡ Unwritten.Room n → Fitted start lent piece old c at used None kept now
+      loop_pauses o {n = n} fails why =
+          let e : r.answer ≡ Err (Unwritten.Room n) = fails ∙ ap Err why in
           let w = put_by e in
           let t = turn_goes l.holds block (octets_take (end - at) (drop at piece) (octets_drop at piece o)) w.does in
-          let stays = same_part e (ap (λ (b : Next Carried). state_after (carries c part) b (Room n)) w.does) in
+          let stays = same_part e (ap (λ (b : Next Carried). state_after (carries c part) b (Err (Unwritten.Room n))) w.does) in
           rw (stays, w.stores) (record {
             reached = λ first.
                 going_pauses ecnforms first piece old (kept_of start lent) (l.going first) inside (kept_of w.brings.conversion w.brings.part) (bytes_in c part (next_of c.form c.ssrc block))
@@ -132,10 +132,11 @@ module _ {start : Conversion} {lent piece old : List ℕ} {c : Conversion} {part
             carried = carried_here;
           })
 
-      pub loop_refused : {refusal : Refusal} → r.answer ≡ Refused refusal → Fitted start lent piece old c at used (ended.Refused refusal) kept now
-      loop_refused {refusal} e =
+      pub loop_refused : {u : Unwritten} {refusal : Refusal} → r.answer ≡ Err u → u ≡ Unwritten.Refused refusal → Fitted start lent piece old c at used (Some refusal) kept now
+      loop_refused {refusal = refusal} fails why =
+          let e : r.answer ≡ Err (Unwritten.Refused refusal) = fails ∙ ap Err why in
           let w = put_by e in
-          let stays = same_part e (ap (λ (b : Next Carried). state_after (carries c part) b (Refused refusal)) w.does) in
+          let stays = same_part e (ap (λ (b : Next Carried). state_after (carries c part) b (Err (Unwritten.Refused refusal))) w.does) in
           rw (stays, w.stores) (record {
             reached = λ first.
                 going_refused ecnforms first piece old (kept_of start lent) (l.going first) inside refusal

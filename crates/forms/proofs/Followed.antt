@@ -1,8 +1,8 @@
 -- The calls follow the program, so that what they print, joined, is what it prints. Assumes nothing.
+use Rattle.std.specs.Prelude.{Option, Some, None, Result, Ok, Err}
 use mathlib.Core.Path.{◌≡◌, refl, sym, ap, ◌∙◌, subst, subst⁻¹}
 use mathlib.Core.Bool.{Bool, true, false, cond}
 use mathlib.Core.List.{List, [], ◌∷◌}
-use mathlib.Core.Option.{Option, none, some}
 use Prim.Native.Nat.{ℕ, suc, ◌+◌, ◌-◌, ◌^◌, ◌≤◌, ◌<◌}
 use native.Mathlib.Omega.{arith}
 use lib.Dec.{ltb}
@@ -14,16 +14,13 @@ use Rattle.format.specs.declared.Form.TheVariants.{One}
 use Rattle.trace.specs.Places.{zeroth_of}
 use Rattle.trace.specs.declared.Record.{Record}
 use Rattle.trace.specs.declared.Zeroth.{Zeroth}
-use Rattle.trace.specs.declared.Zeroth.TheVariants as zeroth
 use Rattle.trace.proofs.Placed.{later_short}
 use Rattle.walk.specs.Programs.{nothing, to_output, Turn}
 use Rattle.walk.specs.Pieces.{Octets, wholes, whole_in}
 use Rattle.walk.specs.Fitting.{Took, none_taken, one_more, fitting}
 use Rattle.walk.specs.Steps.{Next, goes, refuses}
-use Rattle.walk.specs.Endings.{refusal_in, is_going}
+use Rattle.walk.specs.Endings.{is_going}
 use Rattle.walk.specs.Machines.{Standing, begun_by, fitting_by, ending_by, goes_on, Gives, Follows}
-use Rattle.walk.specs.declared.Ended.{Ended}
-use Rattle.walk.specs.declared.Ended.TheVariants as ended
 use Rattle.walk.proofs.Cuts.{Each}
 use Rattle.walk.proofs.Pieces.{whole_many, octets_wholes}
 use Rattle.walk.proofs.Fits.{fitting_fits, fitting_quiet}
@@ -52,12 +49,12 @@ module _ (i : ℕ) (b : List ℕ) (bs : List (List ℕ)) (c : Conversion) (part 
   took_at t behind small = cond small (none_taken (kept_of c part)) (one_more t t.refusal behind)
 
   module _ (t : Turn Kept) (behind : Took Kept) where
-    fits_refused : (refusal : Refusal) → t ≡ record { state = kept_of c part; printed = nothing; refusal = some refusal } → (small : Bool) → FitsBy (took_at t behind small)
+    fits_refused : (refusal : Refusal) → t ≡ record { state = kept_of c part; printed = nothing; refusal = Some refusal } → (small : Bool) → FitsBy (took_at t behind small)
     unfolding carried_over
     fits_refused refusal e true = (h, refl)
     fits_refused refusal e false = subst⁻¹ (λ (t : Turn Kept). FitsBy (took_at t behind false)) e (h, refl)
 
-    fits_taken : (s : Carried) (bytes : List ℕ) → t ≡ record { state = kept_of s.conversion s.part; printed = to_output bytes; refusal = none }
+    fits_taken : (s : Carried) (bytes : List ℕ) → t ≡ record { state = kept_of s.conversion s.part; printed = to_output bytes; refusal = None }
         → carried_over (carries c part) (b ∷ take behind.taken bs) ≡ carried_over s (take behind.taken bs) → Fit (carried_over s (take behind.taken bs)) behind.state
         → (small : Bool) → FitsBy (took_at t behind small)
     unfolding carried_over
@@ -98,7 +95,7 @@ pub record Stands (h : Held) (s : Standing Kept) : Type 0 where
   pub holds : Holds h.progress.conversion h.part
   pub is : standing h.progress h.part ≡ s
 
-pub no_fault : {c : Conversion} {part : List ℕ} → Holds c part → close_fault c part ≡ none
+pub no_fault : {c : Conversion} {part : List ℕ} → Holds c part → close_fault c part ≡ None
 unfolding close_fault
 no_fault h = rw (sound_is h.sound)
 
@@ -110,9 +107,9 @@ quiet i k b = go (next_of k.form k.ssrc b)
     go (goes records) = refl
     go (refuses refusal) = refl
 
-going_is : (e : Ended) → is_going e ≡ goes_on (refusal_in e)
-going_is ended.Going = refl
-going_is (ended.Refused refusal) = refl
+going_is : (e : Option Refusal) → is_going e ≡ goes_on e
+going_is None = refl
+going_is (Some refusal) = refl
 
 -- block 0
 begins : (lent b : List ℕ) → body_bytes ≤ length lent
@@ -120,48 +117,48 @@ begins : (lent b : List ℕ) → body_bytes ≤ length lent
 unfolding progress_of
 begins lent b room = go (zeroth_of b)
   where
-    go : (z : Zeroth) → Stands (record { progress = progress_by (begun b z); part = lent }) (begun_by (begun b z)) × (to_output (begun b z).printed.out ≡ (begun b z).printed)
-    go (zeroth.Label form n ssrc) =
-        (record { holds = holds_none form ssrc lent room; is = ap (λ (k : Kept). record { state = k; block = 1; refusal = none }) (kept_none form ssrc lent) }, refl)
-    go (zeroth.Refused refusal) =
-        (record { holds = holds_none One 0 lent room; is = ap (λ (k : Kept). record { state = k; block = 0; refusal = some refusal }) (kept_none One 0 lent) }, refl)
+    go : (z : Result Zeroth Refusal) → Stands (record { progress = progress_by (begun b z); part = lent }) (begun_by (begun b z)) × (to_output (begun b z).printed.out ≡ (begun b z).printed)
+    go (Ok label) =
+        (record { holds = holds_none label.form label.ssrc lent room; is = ap (λ (k : Kept). record { state = k; block = 1; refusal = None }) (kept_none label.form label.ssrc lent) }, refl)
+    go (Err refusal) =
+        (record { holds = holds_none One 0 lent room; is = ap (λ (k : Kept). record { state = k; block = 0; refusal = Some refusal }) (kept_none One 0 lent) }, refl)
 
 -- a piece, by how the run stands
 module _ (lent : List ℕ) (c : Conversion) (block : ℕ) (part piece : List ℕ) (room : ℕ) (h : Holds c part) (o : Octets piece) (few : block + wholes piece < 2 ^ 64) where
-  abbrev at : Ended → Held
+  abbrev at : Option Refusal → Held
   at e = record { progress = record { conversion = c; block = block; ended = e }; part = part }
 
-  gives : (e : Ended)
-      → Gives Stands (standing (at e).progress part) (fitting_by ecnforms (standing (at e).progress part) (refusal_in e) piece room) ((calls lent).blocks (at e) piece room)
+  gives : (e : Option Refusal)
+      → Gives Stands (standing (at e).progress part) (fitting_by ecnforms (standing (at e).progress part) e piece room) ((calls lent).blocks (at e) piece room)
   unfolding took_of carried_with carried_over
-  gives ended.Going =
+  gives None =
       let w = fitting ecnforms block (whole_in piece) (kept_of c part) room in
       let s = carried_over (carries c part) (take w.taken (whole_in piece)) in
       let f = carried_fits block (whole_in piece) c part room h (octets_wholes piece o) in
       let most = (fitting_fits Kept ecnforms block (whole_in piece) (kept_of c part) room).1 in
       let number = number_small block w.taken (omega (arith, few, most, whole_many piece)) in
-      subst⁻¹ (λ (fault : Option Refusal). Gives Stands (standing (at ended.Going).progress part) w (gave_by (at ended.Going) s w fault)) (no_fault h)
+      subst⁻¹ (λ (fault : Option Refusal). Gives Stands (standing (at None).progress part) w (gave_by (at None) s w fault)) (no_fault h)
       (record {
         stands = record { holds = f.0; is = λ i. record { state = f.1 i; block = number i; refusal = ended_back w.refusal i } };
         taken = refl;
         printed = ap (λ (err : List ℕ). record { out = w.printed.out; err = err }) (sym (fitting_quiet ecnforms quiet block (whole_in piece) (kept_of c part) room));
       })
-  gives (ended.Refused refusal) =
+  gives (Some refusal) =
       let number = number_small block 0 (omega (arith, few)) in
       record {
-        stands = record { holds = h; is = ap (λ (n : ℕ). record { state = kept_of c part; block = n; refusal = some refusal }) number };
+        stands = record { holds = h; is = ap (λ (n : ℕ). record { state = kept_of c part; block = n; refusal = Some refusal }) number };
         taken = refl;
         printed = refl;
       }
 
 -- the end
 ends : (p : Progress) (part rest : List ℕ) → Holds p.conversion part
-    → end_by (end_of p part rest) (close_fault p.conversion part) ≡ ecnforms.close (kept_of p.conversion part) (ending_by p.block (refusal_in p.ended) rest)
+    → end_by (end_of p part rest) (close_fault p.conversion part) ≡ ecnforms.close (kept_of p.conversion part) (ending_by p.block p.ended rest)
 unfolding end_of
 ends p part rest h = ap (end_by (end_of p part rest)) (no_fault h)
 
 -- a part of a block
-pub part_refused : (i : ℕ) (k : Kept) (b : List ℕ) → 1 ≤ length b → length b < block_bytes → ecnforms.step i k b ≡ record { state = k; printed = nothing; refusal = some Incomplete }
+pub part_refused : (i : ℕ) (k : Kept) (b : List ℕ) → 1 ≤ length b → length b < block_bytes → ecnforms.step i k b ≡ record { state = k; printed = nothing; refusal = Some Incomplete }
 part_refused i k b some_left short = ap (taken k) (next_refused k.form k.ssrc b (later_short k.form k.ssrc b (λ e. omega arith)))
 
 follows : (lent : List ℕ) → body_bytes ≤ length lent → Follows (calls lent) ecnforms

@@ -1,4 +1,5 @@
 -- There and back. Assumes nothing.
+use Rattle.std.specs.Prelude.{Ok}
 use mathlib.Core.Path.{◌≡◌, refl, sym, ap, ap₂, ◌∙◌, subst}
 use mathlib.Core.Bool.{true}
 use mathlib.Core.List.{List, [], ◌∷◌, ◌++◌}
@@ -142,7 +143,7 @@ module _ (form : Form) (label : List ℕ) (ssrc : ℕ) (rs : List Record) (good 
       ap (cut (length trace)) split
       ∙ cut_joined (length trace) pieces are.whole (omega (arith, many, length-append head rest, ap length (packed_joined (shape_of form) ssrc rs)))
 
-  pub label_read : block_of (blocks_of trace).zeroth ≡ Label form (length label) ssrc
+  pub label_read : block_of (blocks_of trace).zeroth ≡ Ok (Label form (length label) ssrc)
   label_read = ap block_of zeroth_is ∙ (label_reads_back form label ssrc good small).0
 
   pub text_read : take (length label) (body_of (blocks_of trace).zeroth) ≡ label
@@ -168,7 +169,7 @@ twice : (form : Form) → other_form (other_form form) ≡ form
 twice One = refl
 twice Two = refl
 
-module _ (trace : List ℕ) (form : Form) (n ssrc : ℕ) (o : Octets trace) (e : block_of (blocks_of trace).zeroth ≡ Label form n ssrc) where
+module _ (trace : List ℕ) (form : Form) (n ssrc : ℕ) (o : Octets trace) (e : block_of (blocks_of trace).zeroth ≡ Ok (Label form n ssrc)) where
   abbrev zeroth : List ℕ
   zeroth = (blocks_of trace).zeroth
 
@@ -224,7 +225,7 @@ module _ (trace : List ℕ) (form : Form) (n ssrc : ℕ) (o : Octets trace) (e :
       let its = label_read to label ssrc records label_written.0 label_short ssrc_small there_fine there_timed in
       let text = text_read to label ssrc records label_written.0 label_short ssrc_small there_fine there_timed in
       record {
-        label = ap (λ (t : List ℕ). block_of (blocks_of t).zeroth) there ∙ its ∙ ap (λ (k : ℕ). Label to k ssrc) long;
+        label = ap (λ (t : List ℕ). block_of (blocks_of t).zeroth) there ∙ its ∙ ap (λ (k : ℕ). Ok (Label to k ssrc)) long;
         text = ap (λ (t : List ℕ). take n (body_of (blocks_of t).zeroth)) there ∙ ap (λ (k : ℕ). take k (body_of (blocks_of (made to label ssrc records)).zeroth)) (sym long) ∙ text;
         records = ap (λ (t : List ℕ). records_taken to ssrc (blocks_of t).others) there ∙ records_back to label ssrc records label_written.0 label_short ssrc_small there_fine there_timed;
       }
@@ -237,7 +238,7 @@ module _ (trace : List ℕ) (form : Form) (n ssrc : ℕ) (o : Octets trace) (e :
   }
 
 -- and it is bytes
-pub converted_octets : (trace : List ℕ) (form : Form) (n ssrc : ℕ) → Octets trace → block_of (blocks_of trace).zeroth ≡ Label form n ssrc → Octets (drop block_bytes (converted trace).out)
+pub converted_octets : (trace : List ℕ) (form : Form) (n ssrc : ℕ) → Octets trace → block_of (blocks_of trace).zeroth ≡ Ok (Label form n ssrc) → Octets (drop block_bytes (converted trace).out)
 converted_octets trace form n ssrc o e = there_octets trace form n ssrc o e
 
 pub converted_reads : ConvertedReads

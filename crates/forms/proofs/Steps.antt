@@ -1,8 +1,9 @@
 -- What a block does, case by case. Assumes nothing.
+use Rattle.std.specs.Prelude.{None, Result, Ok, Err}
+use Rattle.answers.specs.declared.Unwritten.{Unwritten}
 use mathlib.Core.Path.{◌≡◌, refl, sym, ap, ap₂, ◌∙◌}
 use mathlib.Core.Bool.{true, false}
 use mathlib.Core.List.{List, [], ◌∷◌, ◌++◌}
-use mathlib.Core.Option.{none}
 use Prim.Native.Nat.{ℕ, ◌+◌, ◌-◌, ◌*◌, ◌/◌, ◌≤◌, ◌<◌}
 use native.Mathlib.Omega.{arith}
 use lib.ListN.{length, take, drop, length-drop}
@@ -10,8 +11,6 @@ use lib.Seq.{length-take-le}
 use Rattle.answers.specs.Writers.{written, stored, Wrote}
 use Rattle.answers.specs.declared.Refusal.{Refusal}
 use Rattle.answers.specs.declared.Refusal.TheVariants.{Malformed, FormTwo}
-use Rattle.answers.specs.declared.Written.{Written}
-use Rattle.answers.specs.declared.Written.TheVariants as answer
 use Rattle.answers.proofs.Stores.{wrote_refused, wrote_short, wrote_all, wrote_same}
 use Rattle.numbers.proofs.BigEndian.{Octets}
 use Rattle.format.specs.Blocks.{block_bytes, body_at, body_bytes}
@@ -28,21 +27,16 @@ use Rattle.trace.specs.Rewriting.{zeroth_fault, block_as}
 use Rattle.trace.specs.Writing.{body_fault}
 use Rattle.trace.specs.declared.Block.TheVariants as read
 use Rattle.trace.specs.declared.Zeroth.{Zeroth}
-use Rattle.trace.specs.declared.Zeroth.TheVariants as zeroth
-use Rattle.trace.specs.declared.Later.TheVariants as later
 use Rattle.trace.specs.declared.Record.{Record}
 use Rattle.trace.proofs.Accepted.{accepted}
-use Rattle.trace.proofs.Placed.{zeroth_by_lem, own_later}
+use Rattle.trace.proofs.Placed.{own_later}
 use Rattle.trace.proofs.Records.{length-records_in}
 use Rattle.walk.specs.Steps.{Next, goes, refuses}
 use Rattle.walk.proofs.Putting.{step_refuses}
 use Rattle.forms.specs.Packing.{full_blocks, full, left, last_block}
-use Rattle.forms.specs.Conversions.{to_shape, begin_fault, begin_bytes, begin_by, begin_of, Began, all_times, timed, next_by, next_of, held_in, sound, call_next, bytes_in, carries, carried_by, holding, TakesBlock, close_fault, close_bytes}
+use Rattle.forms.specs.Conversions.{to_shape, begin_fault, begin_bytes, begin_by, Began, all_times, timed, next_by, next_of, held_in, sound, call_next, bytes_in, carries, carried_by, holding, TakesBlock, close_fault, close_bytes}
 use Rattle.forms.specs.Steps.{Packable, Parted}
 use Rattle.forms.specs.declared.Conversion.{Conversion}
-use Rattle.forms.specs.Numbered.{begin_as}
-use Rattle.forms.specs.declared.Begin.{Begin}
-use Rattle.forms.specs.declared.Begin.TheVariants as begin
 use Rattle.forms.proofs.Held.{is_sound_lem, held_fits}
 use Rattle.forms.proofs.Packed.{full_fits, length-left, length-full}
 use Rattle.forms.proofs.Blocks.{block_is, no_fault}
@@ -62,7 +56,7 @@ few_records {c} {part} {body} {n} ready = few_by c.form c.held n (is_sound_lem r
 
 module _ (c : Conversion) (part old : List ℕ) where
   pub takes_refuses : {next : Next (List Record)} {refusal : Refusal} → next ≡ refuses refusal
-      → TakesBlock c part next old (record { answer = answer.Refused refusal; conversion = c }) part old
+      → TakesBlock c part next old (record { answer = Err (Unwritten.Refused refusal); conversion = c }) part old
   takes_refuses {next} e = step_refuses (carries c part) (bytes_in c part next) old (ap (carried_by c part) e) refl refl
 
 module _ {c : Conversion} {part body : List ℕ} {n : ℕ} (ready : Packable c part n body) (old : List ℕ) {to : Form} {most : ℕ}
@@ -89,8 +83,8 @@ module _ {c : Conversion} {part body : List ℕ} {n : ℕ} (ready : Packable c p
       ∙ sym (length-full (to_shape c) c.ssrc (fits (other_form c.form)).room (full (to_shape c) records) records (full_fits (to_shape c) records))
 
   pub step_short : length old < (c.held + n) / most * block_bytes
-      → TakesBlock c part (goes more) old (record { answer = answer.Room ((c.held + n) / most * block_bytes); conversion = c }) part old
-  step_short h = record { wrote = wrote_short {fault = none} blocks old refl (omega (arith, size)) size; after = refl }
+      → TakesBlock c part (goes more) old (record { answer = Err (Unwritten.Room ((c.held + n) / most * block_bytes)); conversion = c }) part old
+  step_short h = record { wrote = wrote_short {fault = None} blocks old refl (omega (arith, size)) size; after = refl }
 
   next_is : record { form = c.form; ssrc = c.ssrc; held = c.held + n - (c.held + n) / most * most } ≡ holding c records
   unfolding holding
@@ -101,28 +95,27 @@ module _ {c : Conversion} {part body : List ℕ} {n : ℕ} (ready : Packable c p
 
   pub step_fits : {kept out : List ℕ} → (c.held + n) / most * block_bytes ≤ length old → Parted c records part old kept out
       → TakesBlock c part (goes more) old
-      (record { answer = answer.Length ((c.held + n) / most * block_bytes); conversion = record { form = c.form; ssrc = c.ssrc; held = c.held + n - (c.held + n) / most * most } }) kept out
-  step_fits h p = record { wrote = wrote_all {fault = none} blocks old refl (omega (arith, size)) size p.stores; after = λ i. carries (next_is i) (p.keeps i) }
+      (record { answer = Ok ((c.held + n) / most * block_bytes); conversion = record { form = c.form; ssrc = c.ssrc; held = c.held + n - (c.held + n) / most * most } }) kept out
+  step_fits h p = record { wrote = wrote_all {fault = None} blocks old refl (omega (arith, size)) size p.stores; after = λ i. carries (next_is i) (p.keeps i) }
 
 -- ---- block 0
 
 module _ (b old : List ℕ) where
   -- by what it is
-  began_by : {z : Zeroth} {r : Begin} {w : Written} {out : List ℕ} → zeroth_of b ≡ z → Wrote (begin_fault z) (begin_bytes b z) old w out → begin_by z w ≡ r → Began b old r out
+  began_by : {z : Result Zeroth Refusal} {r : Result (Conversion × ℕ) Unwritten} {w : Result ℕ Unwritten} {out : List ℕ} → zeroth_of b ≡ z → Wrote (begin_fault z) (begin_bytes b z) old w out → begin_by z w ≡ r → Began b old r out
   began_by {z} e wrote er = record {
-    answers = sym er ∙ ap (begin_by z) wrote.answers ∙ ap (λ (z : Zeroth). begin_by z (written (begin_fault z) (begin_bytes b z) old)) (sym e);
-    stores = wrote.stores ∙ ap (λ (z : Zeroth). stored (begin_fault z) (begin_bytes b z) old) (sym e);
+    answers = sym er ∙ ap (begin_by z) wrote.answers ∙ ap (λ (z : Result Zeroth Refusal). begin_by z (written (begin_fault z) (begin_bytes b z) old)) (sym e);
+    stores = wrote.stores ∙ ap (λ (z : Result Zeroth Refusal). stored (begin_fault z) (begin_bytes b z) old) (sym e);
   }
 
-  pub begin_refused : {refusal : Refusal} → zeroth_of b ≡ zeroth.Refused refusal → Began b old (begin.Refused refusal) old
+  pub begin_refused : {refusal : Refusal} → zeroth_of b ≡ Err refusal → Began b old (Err (Unwritten.Refused refusal)) old
   begin_refused e = began_by e (wrote_refused [] old refl) refl
 
   -- a label is written again in the other form
-  pub begin_label : {form to : Form} {n ssrc : ℕ} {w : Written} {r : Begin} {out : List ℕ} → block_of b ≡ read.Label form n ssrc → to ≡ other_form form
-      → Wrote (zeroth_fault (zeroth_of b)) (block_as to b (zeroth_of b)) old w out → begin_by (zeroth.Label form n ssrc) w ≡ r → Began b old r out
-  begin_label e et w er =
-      let reads = zeroth_by_lem b e in
-      began_by reads (wrote_same (ap zeroth_fault reads) (ap₂ (λ (f : Form) (z : Zeroth). block_as f b z) et reads) w) er
+  pub begin_label : {label : Zeroth} {to : Form} {w : Result ℕ Unwritten} {r : Result (Conversion × ℕ) Unwritten} {out : List ℕ} → zeroth_of b ≡ Ok label → to ≡ other_form label.form
+      → Wrote (zeroth_fault (zeroth_of b)) (block_as to b (zeroth_of b)) old w out → begin_by (Ok label) w ≡ r → Began b old r out
+  begin_label reads et w er =
+      began_by reads (wrote_same (ap zeroth_fault reads) (ap₂ (λ (f : Form) (z : Result Zeroth Refusal). block_as f b z) et reads) w) er
 
 -- ---- a later block
 
@@ -140,11 +133,11 @@ module _ (c : Conversion) (part b : List ℕ) where
   call_sound e = rw e
 
 module _ (form : Form) (ssrc : ℕ) (b : List ℕ) where
-  pub next_refused : {refusal : Refusal} → later_of form ssrc b ≡ later.Refused refusal → next_of form ssrc b ≡ refuses refusal
+  pub next_refused : {refusal : Refusal} → later_of form ssrc b ≡ Err refusal → next_of form ssrc b ≡ refuses refusal
   unfolding next_of
   next_refused e = ap (next_by form b) e
 
-  module _ {n : ℕ} (e : block_of b ≡ read.Arrivals form n ssrc) where
+  module _ {n : ℕ} (e : block_of b ≡ Ok (read.Arrivals form n ssrc)) where
     next_timed : next_of form ssrc b ≡ timed (shape_of (other_form form)) (records_in (shape_of form) n (body_of b))
     unfolding next_of
     next_timed = ap (next_by form b) (own_later form ssrc b e)
@@ -159,7 +152,7 @@ module _ (form : Form) (ssrc : ℕ) (b : List ℕ) where
     next_goes h = next_timed ∙ rw h
 
 -- what the packing asks
-pub next_ready : {c : Conversion} {part : List ℕ} (b : List ℕ) {n : ℕ} → sound c part ≡ true → block_of b ≡ read.Arrivals c.form n c.ssrc
+pub next_ready : {c : Conversion} {part : List ℕ} (b : List ℕ) {n : ℕ} → sound c part ≡ true → block_of b ≡ Ok (read.Arrivals c.form n c.ssrc)
     → all_times (to_shape c) (records_in (shape_of c.form) n (body_of b)) ≡ true → Packable c part n (body_of b)
 next_ready b g e h =
     let a = accepted b e in
@@ -168,21 +161,21 @@ next_ready b g e h =
 -- ---- the end
 
 module _ (c : Conversion) (part old : List ℕ) where
-  pub close_malformed : sound c part ≡ false → Wrote (close_fault c part) (close_bytes c part) old (answer.Refused Malformed) old
+  pub close_malformed : sound c part ≡ false → Wrote (close_fault c part) (close_bytes c part) old (Err (Unwritten.Refused Malformed)) old
   unfolding close_fault
   close_malformed e = wrote_refused (close_bytes c part) old (rw e)
 
-  pub close_none : sound c part ≡ true → c.held ≡ 0 → Wrote (close_fault c part) (close_bytes c part) old (answer.Length 0) old
+  pub close_none : sound c part ≡ true → c.held ≡ 0 → Wrote (close_fault c part) (close_bytes c part) old (Ok 0) old
   unfolding close_fault records_in
   close_none g e =
       let empty : close_bytes c part ≡ [] = ap (λ (n : ℕ). last_block (to_shape c) c.ssrc (records_in (to_shape c) n part)) e in
-      wrote_same (rw g) (sym empty) (wrote_all {fault = none} [] old refl (omega arith) refl refl)
+      wrote_same (rw g) (sym empty) (wrote_all {fault = None} [] old refl (omega arith) refl refl)
 
   last_is : (rs : List Record) → 0 < length rs → arrivals_block (to_shape c) rs c.ssrc ≡ last_block (to_shape c) c.ssrc rs
   last_is [] h = absurd (omega arith)
   last_is (r ∷ rs) h = refl
 
-  pub close_some : Octets part → sound c part ≡ true → 0 < c.held → {to : Form} {w : ℕ} {r : Written} {out : List ℕ} → to ≡ other_form c.form → w ≡ width (shape_of to)
+  pub close_some : Octets part → sound c part ≡ true → 0 < c.held → {to : Form} {w : ℕ} {r : Result ℕ Unwritten} {out : List ℕ} → to ≡ other_form c.form → w ≡ width (shape_of to)
       → Wrote (body_fault (shape_of to) (take (c.held * w) part)) (records_block (shape_of to) (take (c.held * w) part) c.ssrc) old r out
       → Wrote (close_fault c part) (close_bytes c part) old r out
   unfolding close_fault
@@ -196,7 +189,3 @@ module _ (c : Conversion) (part old : List ℕ) where
       (ap₂ (λ (f : Form) (l : List ℕ). body_fault (shape_of f) l) et bytes ∙ no_fault form c.held part o fit s.good some (omega (arith, s.few)) ∙ rw g)
       (ap₂ (λ (f : Form) (l : List ℕ). records_block (shape_of f) l c.ssrc) et bytes ∙ block_is form c.held part o fit s.good c.ssrc ∙ last_is (held_in c part) (rw (length-records_in (to_shape c) c.held part) some))
       wrote
-
--- the answer to block 0 in the paper's terms
-pub begin_numbered : {b old : List ℕ} {r : Begin} {out : List ℕ} → Began b old r out → Began b old r out × (begin_as r ≡ begin_as (begin_of b old))
-begin_numbered w = (w, ap begin_as w.answers)

@@ -1,8 +1,8 @@
 -- A label and packed records as a trace: its blocks, and what they bring. Assumes nothing.
+use Rattle.std.specs.Prelude.{None, Ok}
 use mathlib.Core.Path.{◌≡◌, refl, sym, ap, ◌∙◌, subst}
 use mathlib.Core.Bool.{true}
 use mathlib.Core.List.{List, [], ◌∷◌, ◌++◌, append_assoc, append-nil}
-use mathlib.Core.Option.{none}
 use Prim.Native.Nat.{ℕ, zero, suc, ◌+◌, ◌-◌, ◌*◌, ◌^◌, ◌≤◌, ◌<◌}
 use native.Mathlib.Nat.{zero-mul, suc-mul, add_comm}
 use native.Mathlib.Omega.{arith}
@@ -56,7 +56,7 @@ module _ (form : Form) (rs : List Record) (fine : Fine (shape_of form) rs) (some
   inside : length (records_bytes shape rs) ≤ body_bytes
   inside = rw size (records_fit (fits form) few)
 
-  not_refused : records_fault shape rs ≡ none
+  not_refused : records_fault shape rs ≡ None
   not_refused =
       let good : good_records shape (length rs) (records_bytes shape rs) ≡ true = (rw (append-nil (records_bytes shape rs)) at (good_bytes shape rs [])) ∙ fine.marked in
       sym (body_records shape rs fine.shaped)
@@ -64,10 +64,10 @@ module _ (form : Form) (rs : List Record) (fine : Fine (shape_of form) rs) (some
       ∙ no_fault form (length rs) (records_bytes shape rs) (octets_records shape rs fine.marked) (omega (arith, size)) good some few
 
   module _ (ssrc : ℕ) (small : ssrc < 2 ^ 32) where
-    block_reads : block_of (arrivals_block shape rs ssrc) ≡ Arrivals form (length rs) ssrc
+    block_reads : block_of (arrivals_block shape rs ssrc) ≡ Ok (Arrivals form (length rs) ssrc)
     block_reads =
         let back = arrivals_read_back form (list_of (λ r. r.time) rs) (list_of (λ r. r.number.0) rs) (list_of (λ r. r.mark) rs) ssrc not_refused (numbers_below shape rs fine.shaped) small in
-        ap (λ (l : List Record). block_of (arrivals_block shape l ssrc)) (sym (lists_are rs)) ∙ back.0 ∙ ap (λ (n : ℕ). Arrivals form n ssrc) (length-list (λ r. r.time) rs)
+        ap (λ (l : List Record). block_of (arrivals_block shape l ssrc)) (sym (lists_are rs)) ∙ back.0 ∙ ap (λ (n : ℕ). Ok (Arrivals form n ssrc)) (length-list (λ r. r.time) rs)
 
     body_is : body_of (arrivals_block shape rs ssrc) ≡ filled (records_bytes shape rs)
     unfolding arrivals_block checked

@@ -1,4 +1,5 @@
 -- The calls over a trace's blocks give what the whole run prints, and that is a packing. Assumes nothing.
+use Rattle.std.specs.Prelude.{Result, Ok, Err}
 use mathlib.Core.Path.{◌≡◌, refl, sym, ap, ◌∙◌}
 use mathlib.Core.Bool.{Bool, true, false, cond}
 use mathlib.Core.List.{List, [], ◌∷◌, ◌++◌, append_assoc, append-nil}
@@ -18,9 +19,6 @@ use Rattle.trace.specs.Theorems.{records_in}
 use Rattle.trace.specs.Places.{zeroth_of, later_of}
 use Rattle.trace.specs.declared.Block.TheVariants as read
 use Rattle.trace.specs.declared.Zeroth.{Zeroth}
-use Rattle.trace.specs.declared.Zeroth.TheVariants as zeroth
-use Rattle.trace.specs.declared.Later.{Later}
-use Rattle.trace.specs.declared.Later.TheVariants as later
 use Rattle.trace.specs.declared.Record.{Record}
 use Rattle.trace.proofs.Accepted.{accepted}
 use Rattle.trace.proofs.Placed.{zeroth_by_lem, later_arrivals}
@@ -42,7 +40,7 @@ use Rattle.forms.proofs.Gathered.{Fine, fine_in, fine_other}
 
 pub record Brings (form : Form) (ssrc : ℕ) (b : List ℕ) (records : List Record) : Type 0 where
   pub count : ℕ
-  pub block : block_of b ≡ read.Arrivals form count ssrc
+  pub block : block_of b ≡ Ok (read.Arrivals form count ssrc)
   pub are : records ≡ records_in (shape_of form) count (body_of b)
   pub timed : all_times (shape_of (other_form form)) records ≡ true
 
@@ -50,14 +48,14 @@ pub brings : (form : Form) (ssrc : ℕ) (b : List ℕ) {records : List Record} �
 unfolding next_of timed
 brings form ssrc b {records} e = by_later (later_of form ssrc b) refl e
   where
-    by_time : (n : ℕ) (t : Bool) → all_times (shape_of (other_form form)) (records_in (shape_of form) n (body_of b)) ≡ t → block_of b ≡ read.Arrivals form n ssrc
+    by_time : (n : ℕ) (t : Bool) → all_times (shape_of (other_form form)) (records_in (shape_of form) n (body_of b)) ≡ t → block_of b ≡ Ok (read.Arrivals form n ssrc)
         → cond t (goes (records_in (shape_of form) n (body_of b))) (refuses FormTwo) ≡ goes records → Brings form ssrc b records
     by_time n true q k e = let same : records_in (shape_of form) n (body_of b) ≡ records = cc in record { count = n; block = k; are = sym same; timed = rw (← same) q }
     by_time n false q k e = let z : ◌≡◌ {A = ℕ} 0 1 = cc in absurd (omega arith)
 
-    by_later : (l : Later) → later_of form ssrc b ≡ l → next_by form b l ≡ goes records → Brings form ssrc b records
-    by_later (later.Refused refusal) k e = let z : ◌≡◌ {A = ℕ} 0 1 = cc in absurd (omega arith)
-    by_later (later.Arrivals n) k e = by_time n (all_times (shape_of (other_form form)) (records_in (shape_of form) n (body_of b))) refl (later_arrivals form ssrc b k) e
+    by_later : (l : Result ℕ Refusal) → later_of form ssrc b ≡ l → next_by form b l ≡ goes records → Brings form ssrc b records
+    by_later (Err refusal) k e = let z : ◌≡◌ {A = ℕ} 0 1 = cc in absurd (omega arith)
+    by_later (Ok n) k e = by_time n (all_times (shape_of (other_form form)) (records_in (shape_of form) n (body_of b))) refl (later_arrivals form ssrc b k) e
 
 module _ {form : Form} {ssrc : ℕ} {b : List ℕ} {records : List Record} (br : Brings form ssrc b records) where
   pub many_brought : length records ≡ br.count
@@ -136,20 +134,20 @@ rest_packs i (b ∷ bs) k h = go (next_of k.form k.ssrc b) refl (λ records. res
 -- ---- from block 0 on
 
 -- what is printed by what block 0 is
-pub converted_by : (trace : List ℕ) {z : Zeroth} → zeroth_of (blocks_of trace).zeroth ≡ z
+pub converted_by : (trace : List ℕ) {z : Result Zeroth Refusal} → zeroth_of (blocks_of trace).zeroth ≡ z
     → converted trace ≡ closed ecnforms (onward (turned 0 (begun (blocks_of trace).zeroth z)) (walk ecnforms 1 (blocks_of trace).others))
 unfolding converted printed_by walked
-converted_by trace e = ap (λ (z : Zeroth). closed ecnforms (onward (turned 0 (begun (blocks_of trace).zeroth z)) (walk ecnforms 1 (blocks_of trace).others))) e
+converted_by trace e = ap (λ (z : Result Zeroth Refusal). closed ecnforms (onward (turned 0 (begun (blocks_of trace).zeroth z)) (walk ecnforms 1 (blocks_of trace).others))) e
 
-module _ (trace : List ℕ) {form : Form} {n ssrc : ℕ} (e : block_of (blocks_of trace).zeroth ≡ read.Label form n ssrc) where
+module _ (trace : List ℕ) {form : Form} {n ssrc : ℕ} (e : block_of (blocks_of trace).zeroth ≡ Ok (read.Label form n ssrc)) where
   pub converted_started : converted trace
       ≡ both (to_output (label_block (shape_of (other_form form)) (take n (body_of (blocks_of trace).zeroth)) ssrc)) (rest 1 (blocks_of trace).others (record { form = form; ssrc = ssrc; held = [] }))
   converted_started =
       converted_by trace (zeroth_by_lem (blocks_of trace).zeroth e)
-      ∙ closed_goes ecnforms (turned 0 (begun (blocks_of trace).zeroth (zeroth.Label form n ssrc))) (walk ecnforms 1 (blocks_of trace).others) refl
+      ∙ closed_goes ecnforms (turned 0 (begun (blocks_of trace).zeroth (Ok (record { form = form; length = n; ssrc = ssrc })))) (walk ecnforms 1 (blocks_of trace).others) refl
 
 -- a refused label gives no output
-pub converted_refused : (trace : List ℕ) {refusal : Refusal} → zeroth_of (blocks_of trace).zeroth ≡ zeroth.Refused refusal
+pub converted_refused : (trace : List ℕ) {refusal : Refusal} → zeroth_of (blocks_of trace).zeroth ≡ Err refusal
     → converted trace ≡ record { out = []; err = refused_line (number_of refusal) 0 }
 unfolding closed
 converted_refused trace {refusal} e =

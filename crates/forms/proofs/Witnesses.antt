@@ -1,14 +1,14 @@
 -- The hypotheses are met, and each theorem is used where they are. Assumes nothing.
+use Rattle.std.specs.Prelude.{Some, None, Ok, Err}
+use Rattle.answers.specs.declared.Unwritten.{Unwritten}
 use mathlib.Core.Path.{◌≡◌, refl, subst}
 use mathlib.Core.Bool.{true}
 use mathlib.Core.List.{List, [], ◌++◌, append-nil}
-use mathlib.Core.Option.{none, some as just}
 use Prim.Native.Nat.{ℕ, ◌*◌, ◌<◌, ◌≤◌}
 use native.Mathlib.Omega.{arith}
 use lib.ListN.{length, take, drop, length-append, length-drop}
 use Rattle.answers.specs.Writers.{written}
 use Rattle.answers.specs.declared.Refusal.TheVariants.{Retired}
-use Rattle.answers.specs.declared.Written.TheVariants.{Room}
 use Rattle.numbers.specs.BigEndian.{word, bytes}
 use Rattle.format.specs.Blocks.{block_bytes}
 use Rattle.format.specs.Forms.{shape_of}
@@ -37,7 +37,6 @@ use Rattle.forms.specs.Converted.{converted}
 use Rattle.forms.specs.Theorems.{block_calls, Convertible, FullButLast}
 use Rattle.forms.specs.Pieces.{progress_of, took_of, Held, calls}
 use Rattle.forms.specs.Witnesses.{text, fully, trace, fresh, begun, piece, zeros, Met}
-use Rattle.forms.specs.declared.Begin.TheVariants as begin
 use Rattle.forms.proofs.Whole.{packs}
 use Rattle.forms.proofs.Calls.{calls_convert}
 use Rattle.forms.proofs.Rooms.{label_room_is_exact, blocks_room_is_exact}
@@ -50,11 +49,11 @@ octets : Below 256 trace
 unfolding label_block arrivals_block record_bytes records_bytes header filled checked bytes words ones_add ones_sum every
 octets = below 256 trace (omega arith) refl
 
-label_reads : block_of (blocks_of trace).zeroth ≡ Label One 2 1
+label_reads : block_of (blocks_of trace).zeroth ≡ Ok (Label One 2 1)
 unfolding label_block arrivals_block record_bytes records_bytes header filled checked bytes words ones_add ones_sum word block_of right_check contents_of label_body label_byte every cut blocks_of
 label_reads = refl
 
-retired_text : label_fault text ≡ just Retired
+retired_text : label_fault text ≡ Some Retired
 unfolding label_fault label_ok label_byte every retired retired_in
 retired_text = refl
 
@@ -74,11 +73,11 @@ some : 1 ≤ length (blocks_of trace).others
 unfolding label_block arrivals_block record_bytes records_bytes header filled checked bytes words ones_add ones_sum word cut blocks_of
 some = omega arith
 
-label_short : begin_of (blocks_of trace).zeroth [] ≡ begin.Room 512
+label_short : begin_of (blocks_of trace).zeroth [] ≡ Err (Unwritten.Room 512)
 unfolding label_block arrivals_block record_bytes records_bytes header filled checked bytes words ones_add ones_sum word block_of right_check contents_of label_body label_byte every cut blocks_of zeroth_of written
 label_short = refl
 
-short : answer_of fresh [] (goes fully) [] ≡ Room 512
+short : answer_of fresh [] (goes fully) [] ≡ Err (Unwritten.Room 512)
 unfolding arrivals_block record_bytes records_bytes header filled checked bytes words ones_add ones_sum records_in full_blocks written
 short = refl
 
@@ -148,7 +147,7 @@ one_by_one = (
       (subst (λ (l : List ℕ). Rest single first.state l second_printed) (append-nil first_left) (more first.state first_left [] 1024 _ (done _ _ none_left))))),
 )
 
-none_refused : (took_of begun (zeros 502) piece (320 * block_bytes)).refusal ≡ none
+none_refused : (took_of begun (zeros 502) piece (320 * block_bytes)).refusal ≡ None
 unfolding label_block arrivals_block record_bytes records_bytes header filled checked bytes words ones_add ones_sum word block_of right_check contents_of every arrivals_body count_ok good_records records_in record_at list_of cut wholes whole_in later_of timed next_of full_blocks took_of fitting
 none_refused = refl
 

@@ -1,13 +1,11 @@
 -- Request L10: what each call does with a block. `part` is the lent buffer that holds the records of a block that is not full yet, as its body has them.
-use Rattle.std.specs.Prelude.{◌≡◌, ℕ, Bool, cond, List, [], ◌∷◌, ◌++◌, leb, ltb, length, take}
-use Rattle.std.proofs.Math.Option.{Option, none, some}
+use Rattle.answers.specs.declared.Unwritten.{Unwritten}
+use Rattle.std.specs.Prelude.{◌≡◌, ℕ, Bool, cond, List, [], ◌∷◌, ◌++◌, leb, ltb, length, take, Option, Some, None, Result, Ok, Err}
 use Rattle.std.proofs.lemmas.List.Edits.{sets}
 use Rattle.answers.specs.Conditions.{all}
 use Rattle.answers.specs.Writers.{written, stored}
 use Rattle.answers.specs.declared.Refusal.{Refusal}
 use Rattle.answers.specs.declared.Refusal.TheVariants.{Malformed, FormTwo}
-use Rattle.answers.specs.declared.Written.{Written}
-use Rattle.answers.specs.declared.Written.TheVariants as answer
 use Rattle.format.specs.Blocks.{body_bytes}
 use Rattle.format.specs.Forms.{Shape, shape_of, other_form}
 use Rattle.format.specs.declared.Form.{Form}
@@ -16,15 +14,10 @@ use Rattle.trace.specs.Contents.{every, is_time, good_records}
 use Rattle.trace.specs.Places.{zeroth_of, later_of}
 use Rattle.trace.specs.Theorems.{records_in, list_of}
 use Rattle.trace.specs.declared.Zeroth.{Zeroth}
-use Rattle.trace.specs.declared.Zeroth.TheVariants as zeroth
-use Rattle.trace.specs.declared.Later.{Later}
-use Rattle.trace.specs.declared.Later.TheVariants as later
 use Rattle.trace.specs.declared.Record.{Record}
 use Rattle.walk.specs.Steps.{Next, goes, refuses, fault_in, state_after, Stepped}
 use Rattle.forms.specs.Packing.{full_blocks, full, left, last_block}
 use Rattle.forms.specs.declared.Conversion.{Conversion}
-use Rattle.forms.specs.declared.Begin.{Begin}
-use Rattle.forms.specs.declared.Begin.TheVariants as begin
 use Rattle.forms.specs.declared.Step.{Step}
 
 -- the shape of the form that is written
@@ -33,32 +26,31 @@ to_shape c = shape_of (other_form c.form)
 
 -- ---- block 0: a label, written in the other form. 1, 13, 14, then 12
 
-abbrev pub begin_fault : Zeroth → Option Refusal
-begin_fault (zeroth.Label form n ssrc) = none
-begin_fault (zeroth.Refused refusal) = some refusal
+abbrev pub begin_fault : Result Zeroth Refusal → Option Refusal
+begin_fault (Ok label) = None
+begin_fault (Err refusal) = Some refusal
 
-abbrev pub begin_bytes : List ℕ → Zeroth → List ℕ
-begin_bytes b (zeroth.Label form n ssrc) = label_block (shape_of (other_form form)) (take n (body_of b)) ssrc
-begin_bytes b (zeroth.Refused refusal) = []
+abbrev pub begin_bytes : List ℕ → Result Zeroth Refusal → List ℕ
+begin_bytes b (Ok label) = label_block (shape_of (other_form label.form)) (take label.length (body_of b)) label.ssrc
+begin_bytes b (Err refusal) = []
 
 -- a conversion that holds no record
-abbrev pub started_by : Zeroth → ℕ → Begin
-started_by (zeroth.Label form n ssrc) size = begin.Started (record { form = form; ssrc = ssrc; held = 0 }) size
-started_by (zeroth.Refused refusal) size = begin.Refused refusal
+abbrev pub started_by : Result Zeroth Refusal → ℕ → Result (Conversion × ℕ) Unwritten
+started_by (Ok label) size = Ok ((record { form = label.form; ssrc = label.ssrc; held = 0 }), size)
+started_by (Err refusal) size = Err (Unwritten.Refused refusal)
 
-abbrev pub begin_by : Zeroth → Written → Begin
-begin_by block (answer.Length size) = started_by block size
-begin_by block (answer.Room size) = begin.Room size
-begin_by block (answer.Refused refusal) = begin.Refused refusal
+abbrev pub begin_by : Result Zeroth Refusal → Result ℕ Unwritten → Result (Conversion × ℕ) Unwritten
+begin_by block (Ok size) = started_by block size
+begin_by block (Err unwritten) = Err unwritten
 
-abbrev pub begin_of : List ℕ → List ℕ → Begin
+abbrev pub begin_of : List ℕ → List ℕ → Result (Conversion × ℕ) Unwritten
 begin_of b old = begin_by (zeroth_of b) (written (begin_fault (zeroth_of b)) (begin_bytes b (zeroth_of b)) old)
 
 abbrev pub begin_stored : List ℕ → List ℕ → List ℕ
 begin_stored b old = stored (begin_fault (zeroth_of b)) (begin_bytes b (zeroth_of b)) old
 
 -- `r` and `out` are what the call on block 0 gives
-pub record Began (b old : List ℕ) (r : Begin) (out : List ℕ) : Type 0 where
+pub record Began (b old : List ℕ) (r : Result (Conversion × ℕ) Unwritten) (out : List ℕ) : Type 0 where
   pub answers : r ≡ begin_of b old
   pub stores : out ≡ begin_stored b old
 
@@ -72,9 +64,9 @@ all_times shape records = every (is_time shape) (list_of (λ r. r.time) records)
 unfoldable pub timed : Shape → List Record → Next (List Record)
 timed shape records = cond (all_times shape records) (goes records) (refuses FormTwo)
 
-abbrev pub next_by : Form → List ℕ → Later → Next (List Record)
-next_by own b (later.Arrivals n) = timed (shape_of (other_form own)) (records_in (shape_of own) n (body_of b))
-next_by own b (later.Refused refusal) = refuses refusal
+abbrev pub next_by : Form → List ℕ → Result ℕ Refusal → Next (List Record)
+next_by own b (Ok n) = timed (shape_of (other_form own)) (records_in (shape_of own) n (body_of b))
+next_by own b (Err refusal) = refuses refusal
 
 unfoldable pub next_of : Form → ℕ → List ℕ → Next (List Record)
 next_of own ssrc b = next_by own b (later_of own ssrc b)
@@ -119,7 +111,7 @@ carried_by c part (goes records) = goes (carries (holding c (held_in c part ++ r
 carried_by c part (refuses refusal) = refuses refusal
 
 -- the call on a block that brings `next`: its answer, its output, and what is carried then, which a refusal or 12 leaves as it was
-abbrev pub answer_of : Conversion → List ℕ → Next (List Record) → List ℕ → Written
+abbrev pub answer_of : Conversion → List ℕ → Next (List Record) → List ℕ → Result ℕ Unwritten
 answer_of c part next old = written (fault_in (carried_by c part next)) (bytes_in c part next) old
 
 abbrev pub stored_of : Conversion → List ℕ → Next (List Record) → List ℕ → List ℕ
@@ -136,7 +128,7 @@ TakesBlock c part next old r kept out = Stepped (carries c part) (carried_by c p
 
 -- 9 for a malformed conversion
 unfoldable pub close_fault : Conversion → List ℕ → Option Refusal
-close_fault c part = cond (sound c part) none (some Malformed)
+close_fault c part = cond (sound c part) None (Some Malformed)
 
 abbrev pub close_bytes : Conversion → List ℕ → List ℕ
 close_bytes c part = last_block (to_shape c) c.ssrc (held_in c part)

@@ -1,6 +1,5 @@
 -- Request L10: what the converter ecnforms prints for a trace: the other form's blocks on standard output, and on standard error `refused N block I` for the first refused block.
-use Rattle.std.specs.Prelude.{ℕ, List, [], ◌++◌, take}
-use Rattle.std.proofs.Math.Option.{Option, none, some}
+use Rattle.std.specs.Prelude.{ℕ, List, [], ◌++◌, take, Option, Some, None, Result, Ok, Err}
 use Rattle.answers.specs.Refusals.{number_of}
 use Rattle.answers.specs.declared.Refusal.{Refusal}
 use Rattle.format.specs.Forms.{shape_of, other_form}
@@ -9,7 +8,6 @@ use Rattle.format.specs.declared.Form.TheVariants.{One}
 use Rattle.trace.specs.Layout.{label_block, body_of}
 use Rattle.trace.specs.Places.{zeroth_of}
 use Rattle.trace.specs.declared.Zeroth.{Zeroth}
-use Rattle.trace.specs.declared.Zeroth.TheVariants as zeroth
 use Rattle.trace.specs.declared.Record.{Record}
 use Rattle.table.specs.Lines.{refused_line}
 use Rattle.walk.specs.Blocks.{blocks_of}
@@ -34,29 +32,29 @@ abbrev pub no_trace : Kept
 no_trace = record { form = One; ssrc = 0; held = [] }
 
 abbrev pub refused_label : Refusal → Turn Kept
-refused_label refusal = record { state = no_trace; printed = nothing; refusal = some refusal }
+refused_label refusal = record { state = no_trace; printed = nothing; refusal = Some refusal }
 
-abbrev pub begun : List ℕ → Zeroth → Turn Kept
-begun b (zeroth.Label form n ssrc) = record {
-  state = record { form = form; ssrc = ssrc; held = [] };
-  printed = to_output (label_block (shape_of (other_form form)) (take n (body_of b)) ssrc);
-  refusal = none;
+abbrev pub begun : List ℕ → Result Zeroth Refusal → Turn Kept
+begun b (Ok label) = record {
+  state = record { form = label.form; ssrc = label.ssrc; held = [] };
+  printed = to_output (label_block (shape_of (other_form label.form)) (take label.length (body_of b)) label.ssrc);
+  refusal = None;
 }
-begun b (zeroth.Refused refusal) = refused_label refusal
+begun b (Err refusal) = refused_label refusal
 
 -- the blocks that are full with a block's records
 abbrev pub taken : Kept → Next (List Record) → Turn Kept
 taken k (goes records) = record {
   state = record { form = k.form; ssrc = k.ssrc; held = left (shape_of (other_form k.form)) (k.held ++ records) };
   printed = to_output (full_blocks (shape_of (other_form k.form)) k.ssrc (full (shape_of (other_form k.form)) (k.held ++ records)) (k.held ++ records));
-  refusal = none;
+  refusal = None;
 }
-taken k (refuses refusal) = record { state = k; printed = nothing; refusal = some refusal }
+taken k (refuses refusal) = record { state = k; printed = nothing; refusal = Some refusal }
 
 -- the records that are left, in a last block, and the line of a refused block
 abbrev pub told : Option Ending → List ℕ
-told none = []
-told (some e) = refused_line (number_of e.refusal) e.block
+told None = []
+told (Some e) = refused_line (number_of e.refusal) e.block
 
 abbrev pub ecnforms : Program Kept
 ecnforms = record {

@@ -1,10 +1,8 @@
 -- The three calls of a run of ecnforms over pieces of a trace: what each gives, by the program of specs/Converted.
-use Rattle.std.specs.Prelude.{◌≡◌, true, List, [], ◌∷◌, ℕ, ◌*◌, ◌/◌, ◌^◌, ◌≤◌, ◌<◌, length, take}
-use Rattle.std.proofs.Math.Option.{Option, none, some}
+use Rattle.answers.specs.declared.Unwritten.{Unwritten}
+use Rattle.std.specs.Prelude.{◌≡◌, true, List, [], ◌∷◌, ℕ, ◌*◌, ◌/◌, ◌^◌, ◌≤◌, ◌<◌, length, take, Option, Some, None, Result, Ok, Err}
 use Rattle.answers.specs.Writers.{Wrote}
 use Rattle.answers.specs.declared.Refusal.{Refusal}
-use Rattle.answers.specs.declared.Written.{Written}
-use Rattle.answers.specs.declared.Written.TheVariants.{Length, Room, Refused}
 use Rattle.format.specs.Blocks.{block_bytes, body_bytes}
 use Rattle.trace.specs.declared.Record.{Record}
 use Rattle.walk.specs.Programs.{Printed, nothing, to_output, Turn}
@@ -12,10 +10,8 @@ use Rattle.walk.specs.Pieces.{Octets, wholes, whole_in}
 use Rattle.walk.specs.Fitting.{Took, fitting, Reached}
 use Rattle.walk.specs.Steps.{Next, goes, refuses, state_after}
 use Rattle.walk.specs.Puts.{PutBy}
-use Rattle.walk.specs.Endings.{refusal_in, ended_by, is_going, number_after}
+use Rattle.walk.specs.Endings.{is_going, number_after}
 use Rattle.walk.specs.Machines.{Standing, next_behind, fitting_by, ending_by, Gave, Machine, Session}
-use Rattle.walk.specs.declared.Ended.{Ended}
-use Rattle.walk.specs.declared.Ended.TheVariants as ended
 use Rattle.walk.specs.declared.Closed.{Closed}
 use Rattle.forms.specs.declared.Conversion.{Conversion}
 use Rattle.forms.specs.declared.Step.{Step}
@@ -32,33 +28,32 @@ abbrev pub conversion_of : Kept → Conversion
 conversion_of k = record { form = k.form; ssrc = k.ssrc; held = length k.held }
 
 abbrev pub progress_by : Turn Kept → Progress
-progress_by t = record { conversion = conversion_of t.state; block = next_behind t.refusal; ended = ended_by t.refusal }
+progress_by t = record { conversion = conversion_of t.state; block = next_behind t.refusal; ended = t.refusal }
 
 unfoldable pub progress_of : List ℕ → Progress
 progress_of b = progress_by (ecnforms.begin b)
 
 abbrev pub not_begun : Progress
-not_begun = record { conversion = conversion_of no_trace; block = 0; ended = ended.Going }
+not_begun = record { conversion = conversion_of no_trace; block = 0; ended = None }
 
 -- where the label block has no room, 12, nothing has begun
-abbrev pub begun_in : List ℕ → Written → Progress
-begun_in b (Length n) = progress_of b
-begun_in b (Room n) = not_begun
-begun_in b (Refused refusal) = not_begun
+abbrev pub begun_in : List ℕ → Result ℕ Unwritten → Progress
+begun_in b (Ok n) = progress_of b
+begun_in b (Err why) = not_begun
 
 pub record Begins (b old : List ℕ) (r : Begun) (out : List ℕ) : Type 0 where
-  pub wrote : Wrote none (ecnforms.begin b).printed.out old r.answer out
+  pub wrote : Wrote None (ecnforms.begin b).printed.out old r.answer out
   pub progress : r.progress ≡ begun_in b r.answer
 
 -- ---- the whole blocks of a piece
 
 -- how the program's run stands
 abbrev pub standing : Progress → List ℕ → Standing Kept
-standing p part = record { state = kept_of p.conversion part; block = p.block; refusal = refusal_in p.ended }
+standing p part = record { state = kept_of p.conversion part; block = p.block; refusal = p.ended }
 
 -- what is taken of the piece: nothing after a refusal
 unfoldable pub took_of : Progress → List ℕ → List ℕ → ℕ → Took Kept
-took_of p part piece room = fitting_by ecnforms (standing p part) (refusal_in p.ended) piece room
+took_of p part piece room = fitting_by ecnforms (standing p part) p.ended piece room
 
 -- what is carried behind blocks that were taken, each as `Conversion.block` takes it
 abbrev pub next_in : Carried → Next Carried → Carried
@@ -73,17 +68,17 @@ unfoldable pub carried_with : Progress → List ℕ → List ℕ → ℕ → Car
 carried_with p part piece many = carried_over (carries p.conversion part) (take many (whole_in piece))
 
 abbrev pub after_taking : Progress → Carried → Took Kept → Progress
-after_taking p s w = record { conversion = s.conversion; block = number_after p.block w.taken; ended = ended_by w.refusal }
+after_taking p s w = record { conversion = s.conversion; block = number_after p.block w.taken; ended = w.refusal }
 
 -- a run that goes on must be sound, with its part, else 9
-abbrev pub piece_fault : Progress → List ℕ → Ended → Option Refusal
-piece_fault p part ended.Going = close_fault p.conversion part
-piece_fault p part (ended.Refused refusal) = none
+abbrev pub piece_fault : Progress → List ℕ → Option Refusal → Option Refusal
+piece_fault p part None = close_fault p.conversion part
+piece_fault p part (Some refusal) = None
 
 -- the bytes taken, the progress and the part afterwards; 9 changes nothing
 abbrev pub TakenBy : Progress → List ℕ → Carried → Took Kept → Option Refusal → Taken → List ℕ → Type 0
-TakenBy p part s w none r kept = (r.bytes ≡ block_bytes * w.taken) × (r.progress ≡ after_taking p s w) × (kept ≡ s.part)
-TakenBy p part s w (some refusal) r kept = (r.bytes ≡ 0) × (r.progress ≡ p) × (kept ≡ part)
+TakenBy p part s w None r kept = (r.bytes ≡ block_bytes * w.taken) × (r.progress ≡ after_taking p s w) × (kept ≡ s.part)
+TakenBy p part s w (Some refusal) r kept = (r.bytes ≡ 0) × (r.progress ≡ p) × (kept ≡ part)
 
 pub record Takes (p : Progress) (part piece old : List ℕ) (r : Taken) (kept out : List ℕ) : Type 0 where
   pub wrote : Wrote (piece_fault p part p.ended) (took_of p part piece (length old)).printed.out old r.answer out
@@ -95,18 +90,18 @@ pub record Puts (c : Conversion) (part : List ℕ) (next : Next (List Record)) (
   pub after : carries r.conversion kept ≡ state_after (carries c part) (carried_by c part next) r.answer
 
 -- the loop over the blocks, whatever number the first has
-pub record Fitted (start : Conversion) (part piece old : List ℕ) (c : Conversion) (bytes used : ℕ) (ended : Ended) (kept out : List ℕ) : Type 0 where
-  pub reached : (first : ℕ) → Reached (fitting ecnforms first (whole_in piece) (kept_of start part) (length old)) (kept_of c kept) (refusal_in ended) bytes old out used
+pub record Fitted (start : Conversion) (part piece old : List ℕ) (c : Conversion) (bytes used : ℕ) (ended : Option Refusal) (kept out : List ℕ) : Type 0 where
+  pub reached : (first : ℕ) → Reached (fitting ecnforms first (whole_in piece) (kept_of start part) (length old)) (kept_of c kept) ended bytes old out used
   pub carried : carried_over (carries start part) (take (bytes / block_bytes) (whole_in piece)) ≡ carries c kept
 
 -- ---- the end: the records that are left; what is left of the trace is a part of a block, which is refused with 1, or nothing
 
 unfoldable pub end_of : Progress → List ℕ → List ℕ → Printed
-end_of p part rest = ecnforms.close (kept_of p.conversion part) (ending_by p.block (refusal_in p.ended) rest)
+end_of p part rest = ecnforms.close (kept_of p.conversion part) (ending_by p.block p.ended rest)
 
 pub record Ends (p : Progress) (part rest oldOut oldErr : List ℕ) (r : Closed) (out err : List ℕ) : Type 0 where
   pub printed : Wrote (close_fault p.conversion part) (end_of p part rest).out oldOut r.out out
-  pub told : Wrote none (end_of p part rest).err oldErr r.err err
+  pub told : Wrote None (end_of p part rest).err oldErr r.err err
 
 -- ---- the calls over a trace, and what they print
 
@@ -116,16 +111,16 @@ pub record Held : Type 0 where
   pub part : List ℕ
 
 abbrev pub gave_by : Held → Carried → Took Kept → Option Refusal → Gave Held
-gave_by h s w none = record { state = record { progress = after_taking h.progress s w; part = s.part }; taken = block_bytes * w.taken; printed = to_output w.printed.out }
-gave_by h s w (some refusal) = record { state = h; taken = 0; printed = nothing }
+gave_by h s w None = record { state = record { progress = after_taking h.progress s w; part = s.part }; taken = block_bytes * w.taken; printed = to_output w.printed.out }
+gave_by h s w (Some refusal) = record { state = h; taken = 0; printed = nothing }
 
 abbrev pub gave_of : Held → List ℕ → Took Kept → Gave Held
 gave_of h piece w = gave_by h (carried_with h.progress h.part piece w.taken) w (piece_fault h.progress h.part h.progress.ended)
 
 -- 9 keeps the last block back
 abbrev pub end_by : Printed → Option Refusal → Printed
-end_by printed none = printed
-end_by printed (some refusal) = record { out = []; err = printed.err }
+end_by printed None = printed
+end_by printed (Some refusal) = record { out = []; err = printed.err }
 
 abbrev pub calls : List ℕ → Machine Held
 calls part = record {
@@ -143,8 +138,8 @@ TracePrints =
 -- room for 320 blocks is enough for a piece of 256: all are taken, unless one is refused
 abbrev pub BlocksHaveRoom : Type 0
 BlocksHaveRoom =
-    (p : Progress) (part piece : List ℕ) (room : ℕ) → p.ended ≡ ended.Going → sound p.conversion part ≡ true → wholes piece ≤ 256 → 320 * block_bytes ≤ room
-    → (took_of p part piece room).refusal ≡ none → (took_of p part piece room).taken ≡ wholes piece
+    (p : Progress) (part piece : List ℕ) (room : ℕ) → p.ended ≡ None → sound p.conversion part ≡ true → wholes piece ≤ 256 → 320 * block_bytes ≤ room
+    → (took_of p part piece room).refusal ≡ None → (took_of p part piece room).taken ≡ wholes piece
 
 -- and so is a block, and 64 bytes, for the end
 abbrev pub EndHasRoom : Type 0

@@ -1,7 +1,7 @@
 -- Request L10: what holds between the calls, the packing and the two forms.
-use Rattle.std.specs.Prelude.{◌≡◌, true, List, [], ◌∷◌, ◌++◌, ℕ, ◌*◌, ◌^◌, ◌≤◌, ◌<◌, length, take}
-use Rattle.std.proofs.Math.Option.{some}
-use Rattle.answers.specs.declared.Written.TheVariants as answer
+use Rattle.answers.specs.declared.Unwritten.{Unwritten}
+use Rattle.answers.specs.declared.Refusal.{Refusal}
+use Rattle.std.specs.Prelude.{◌≡◌, true, List, [], ◌∷◌, ◌++◌, ℕ, ◌*◌, ◌^◌, ◌≤◌, ◌<◌, length, take, Some, Result, Ok, Err}
 use Rattle.format.specs.Blocks.{block_bytes, body_bytes}
 use Rattle.format.specs.Forms.{shape_of, other_form}
 use Rattle.format.specs.declared.Form.{Form}
@@ -12,7 +12,6 @@ use Rattle.trace.specs.Theorems.{Below, records_in}
 use Rattle.trace.specs.declared.Block.TheVariants.{Label, Arrivals}
 use Rattle.trace.specs.declared.Record.{Record}
 use Rattle.trace.specs.declared.Zeroth.{Zeroth}
-use Rattle.trace.specs.declared.Zeroth.TheVariants as zeroth
 use Rattle.walk.specs.Blocks.{blocks_of}
 use Rattle.walk.specs.Programs.{Printed, ending_at}
 use Rattle.walk.specs.Pieces.{Octets}
@@ -24,7 +23,6 @@ use Rattle.forms.specs.Conversions.{begin_bytes, begin_of, begin_stored, next_of
 use Rattle.forms.specs.Converted.{told, converted}
 use Rattle.forms.specs.Pieces.{end_by}
 use Rattle.forms.specs.declared.Conversion.{Conversion}
-use Rattle.forms.specs.declared.Begin.TheVariants as begin
 
 -- ---- what is printed is a packing
 
@@ -40,16 +38,16 @@ records_taken form ssrc (b ∷ bs) = taken_from (next_of form ssrc b) (records_t
 -- the label of block 0 in the other form, and the records packed
 abbrev pub Packs : Type 0
 Packs =
-    (trace : List ℕ) (form : Form) (n ssrc : ℕ) → block_of (blocks_of trace).zeroth ≡ Label form n ssrc
+    (trace : List ℕ) (form : Form) (n ssrc : ℕ) → block_of (blocks_of trace).zeroth ≡ Ok (Label form n ssrc)
     → (converted trace).out
     ≡ label_block (shape_of (other_form form)) (take n (body_of (blocks_of trace).zeroth)) ssrc
     ++ packed (shape_of (other_form form)) ssrc (records_taken form ssrc (blocks_of trace).others)
 
 -- ---- the calls for one block each, on the conversion and the part that the call before handed back; `part` is lent to the first
 
-abbrev pub started_on : List ℕ → Zeroth → Next Carried
-started_on part (zeroth.Label form n ssrc) = goes (carries (record { form = form; ssrc = ssrc; held = 0 }) part)
-started_on part (zeroth.Refused refusal) = refuses refusal
+abbrev pub started_on : List ℕ → Result Zeroth Refusal → Next Carried
+started_on part (Ok label) = goes (carries (record { form = label.form; ssrc = label.ssrc; held = 0 }) part)
+started_on part (Err refusal) = refuses refusal
 
 -- what a block brings to them
 abbrev pub brought_to : Carried → List ℕ → Next (List Record)
@@ -62,7 +60,7 @@ block_calls part = record {
   next = λ s b. carried_by s.conversion s.part (brought_to s b);
   bytes = λ s b. bytes_in s.conversion s.part (brought_to s b);
   end = λ s e. end_by (record { out = close_bytes s.conversion s.part; err = told e }) (close_fault s.conversion s.part);
-  over = λ refusal. record { out = []; err = told (ending_at 0 (some refusal)) };
+  over = λ refusal. record { out = []; err = told (ending_at 0 (Some refusal)) };
 }
 
 -- what the calls over a trace's blocks and the closing call write, and the line of the refused block, if there is one, are what ecnforms prints on both outputs
@@ -76,25 +74,25 @@ CallsConvert =
 -- the call on block 0: with an output of exactly n bytes it starts a conversion and changes all of them to the label block
 pub record RoomForLabel (zeroth : List ℕ) (n : ℕ) : Type 0 where
   pub after : Conversion
-  pub given : (out : List ℕ) → length out ≡ n → begin_of zeroth out ≡ begin.Started after n
+  pub given : (out : List ℕ) → length out ≡ n → begin_of zeroth out ≡ Ok (after, n)
   pub changed : (out : List ℕ) → length out ≡ n → begin_stored zeroth out ≡ begin_bytes zeroth (zeroth_of zeroth)
-  pub fewer : (out : List ℕ) → length out < n → (begin_of zeroth out ≡ begin.Room n) × (begin_stored zeroth out ≡ out)
+  pub fewer : (out : List ℕ) → length out < n → (begin_of zeroth out ≡ Err (Unwritten.Room n)) × (begin_stored zeroth out ≡ out)
 
 abbrev pub LabelRoomIsExact : Type 0
-LabelRoomIsExact = (zeroth old : List ℕ) (n : ℕ) → begin_of zeroth old ≡ begin.Room n → RoomForLabel zeroth n
+LabelRoomIsExact = (zeroth old : List ℕ) (n : ℕ) → begin_of zeroth old ≡ Err (Unwritten.Room n) → RoomForLabel zeroth n
 
 -- where a later call's answer is 12 with n, the same call with an output of exactly n bytes takes the block and changes all of them to the full blocks, and
 -- with any fewer bytes it gives 12 with the same n and changes nothing
 pub record RoomForBlocks (c : Conversion) (part : List ℕ) (next : Next (List Record)) (n : ℕ) : Type 0 where
   pub after : Carried
-  pub given : (out : List ℕ) → length out ≡ n → (answer_of c part next out ≡ answer.Length n) × (after_of c part next out ≡ after)
+  pub given : (out : List ℕ) → length out ≡ n → (answer_of c part next out ≡ Ok n) × (after_of c part next out ≡ after)
   pub changed : (out : List ℕ) → length out ≡ n → stored_of c part next out ≡ bytes_in c part next
   pub fewer : (out : List ℕ) → length out < n
-      → (answer_of c part next out ≡ answer.Room n) × (stored_of c part next out ≡ out) × (after_of c part next out ≡ carries c part)
+      → (answer_of c part next out ≡ Err (Unwritten.Room n)) × (stored_of c part next out ≡ out) × (after_of c part next out ≡ carries c part)
 
 abbrev pub BlocksRoomIsExact : Type 0
 BlocksRoomIsExact =
-    (c : Conversion) (part : List ℕ) (next : Next (List Record)) (old : List ℕ) (n : ℕ) → answer_of c part next old ≡ answer.Room n → RoomForBlocks c part next n
+    (c : Conversion) (part : List ℕ) (next : Next (List Record)) (old : List ℕ) (n : ℕ) → answer_of c part next old ≡ Err (Unwritten.Room n) → RoomForBlocks c part next n
 
 -- a call for a block writes 0, 512 or 1,024 bytes, or asks for so many: the blocks that are full with its records are at most two
 abbrev pub BlocksAreFew : Type 0
@@ -106,25 +104,25 @@ BlocksAreFew = (c : Conversion) (part b : List ℕ) → (k : ℕ) × (k ≤ 2) �
 abbrev pub Convertible : Form → ℕ → List (List ℕ) → Type 0
 Convertible form ssrc [] = Unit {0}
 Convertible form ssrc (b ∷ bs) =
-    (n : ℕ) × (block_of b ≡ Arrivals form n ssrc) × (all_times (shape_of (other_form form)) (records_in (shape_of form) n (body_of b)) ≡ true)
+    (n : ℕ) × (block_of b ≡ Ok (Arrivals form n ssrc)) × (all_times (shape_of (other_form form)) (records_in (shape_of form) n (body_of b)) ≡ true)
     × Convertible form ssrc bs
 
 -- then no block is refused
 abbrev pub ConvertsWhole : Type 0
 ConvertsWhole =
-    (trace : List ℕ) (form : Form) (n ssrc : ℕ) → block_of (blocks_of trace).zeroth ≡ Label form n ssrc → Convertible form ssrc (blocks_of trace).others
+    (trace : List ℕ) (form : Form) (n ssrc : ℕ) → block_of (blocks_of trace).zeroth ≡ Ok (Label form n ssrc) → Convertible form ssrc (blocks_of trace).others
     → (converted trace).err ≡ []
 
 -- ---- what was converted reads as the same label, SSRC and records, those before the first block that was refused
 
 pub record Reads (trace : List ℕ) (form : Form) (n ssrc : ℕ) : Type 0 where
-  pub label : block_of (blocks_of (converted trace).out).zeroth ≡ Label (other_form form) n ssrc
+  pub label : block_of (blocks_of (converted trace).out).zeroth ≡ Ok (Label (other_form form) n ssrc)
   pub text : take n (body_of (blocks_of (converted trace).out).zeroth) ≡ take n (body_of (blocks_of trace).zeroth)
   pub records : records_taken (other_form form) ssrc (blocks_of (converted trace).out).others ≡ records_taken form ssrc (blocks_of trace).others
 
 abbrev pub ConvertedReads : Type 0
 ConvertedReads =
-    (trace : List ℕ) (form : Form) (n ssrc : ℕ) → Below 256 trace → block_of (blocks_of trace).zeroth ≡ Label form n ssrc → Reads trace form n ssrc
+    (trace : List ℕ) (form : Form) (n ssrc : ℕ) → Below 256 trace → block_of (blocks_of trace).zeroth ≡ Ok (Label form n ssrc) → Reads trace form n ssrc
 
 -- ---- there and back
 
@@ -136,7 +134,7 @@ pub record Returns (trace : List ℕ) (form : Form) (ssrc : ℕ) : Type 0 where
 
 abbrev pub SameRecords : Type 0
 SameRecords =
-    (trace : List ℕ) (form : Form) (n ssrc : ℕ) → Below 256 trace → block_of (blocks_of trace).zeroth ≡ Label form n ssrc → Returns trace form ssrc
+    (trace : List ℕ) (form : Form) (n ssrc : ℕ) → Below 256 trace → block_of (blocks_of trace).zeroth ≡ Ok (Label form n ssrc) → Returns trace form ssrc
 
 -- where no block is refused, and all arrivals blocks but perhaps the last are full, so are all bytes
 abbrev pub FullButLast : ℕ → List (List ℕ) → Type 0
@@ -146,5 +144,5 @@ FullButLast most (b ∷ c ∷ bs) = (count_in b ≡ most) × FullButLast most (c
 
 abbrev pub SameBytes : Type 0
 SameBytes =
-    (trace : List ℕ) (form : Form) (n ssrc : ℕ) → Below 256 trace → block_of (blocks_of trace).zeroth ≡ Label form n ssrc → (converted trace).err ≡ []
+    (trace : List ℕ) (form : Form) (n ssrc : ℕ) → Below 256 trace → block_of (blocks_of trace).zeroth ≡ Ok (Label form n ssrc) → (converted trace).err ≡ []
     → FullButLast (shape_of form).most (blocks_of trace).others → (converted (converted trace).out).out ≡ trace

@@ -2,10 +2,8 @@
 // stand in a part that the caller lends to each call.
 #![tactic(auto)]
 
-ghost use Rattle.std.specs.Prelude.{◌≡◌, ℕ};
+ghost use Rattle.std.specs.Prelude.{◌≡◌};
 ghost use Rattle.answers.specs.Writers.{Wrote};
-ghost use Rattle.trace.specs.Reading.{block_of};
-ghost use Rattle.trace.specs.declared.Block.{Block};
 ghost use Rattle.forms.specs.Numbered.{begin_as};
 ghost use Rattle.forms.specs.Conversions.{begin_of, Began, call_next, TakesBlock, close_fault, close_bytes};
 
@@ -15,9 +13,8 @@ pub mod pieces;
 mod soundness;
 mod taking;
 
-use answers::{Refusal, Written};
+use answers::{Refusal, Unwritten};
 use format::Form;
-use trace::Zeroth;
 use trace::places::read_label;
 use trace::rewrite::write_label_as;
 use trace::write::write_records;
@@ -30,56 +27,28 @@ pub struct Conversion {
     pub held: usize,
 }
 
-// The answer to block 0: the conversion and the length of the label block in the other form, or why there is none.
-#[derive(Clone, Copy)]
-pub enum Begin {
-    Started(Conversion, usize),
-    // 12: the output is too small; the block has so many bytes.
-    Room(usize),
-    Refused(Refusal),
-}
-
 // The answer to a later block: what the writer of the blocks that are full says, and the next conversion where they were written, else the one that was given.
 #[derive(Clone, Copy)]
 pub struct Step {
-    pub answer: Written,
+    pub answer: Result<usize, Unwritten>,
     pub conversion: Conversion,
-}
-
-// Writes the label of block 0 in the other form at the front of out.
-fn started(form: Form, ssrc: u32, zeroth: &[u8], out: &mut [u8]) -> Begin
-    requires { (n : ℕ) × (block_of zeroth.now ≡ Block.Label form n ssrc) }
-    ensures { Began zeroth.now out.old result out.new }
-{
-    match write_label_as(form.other(), zeroth, out) {
-        Written::Length(n) => {
-            let start = Conversion {
-                form,
-                ssrc,
-                held: 0,
-            };
-            Begin::Started(start, n)
-        }
-        Written::Room(n) => Begin::Room(n),
-        Written::Refused(refusal) => Begin::Refused(refusal),
-    }
 }
 
 impl Conversion {
     // Takes block 0, which must be a label block, and writes it in the other form at the front of out. Refusals: 1, 13 and 14, as `read_label` gives them;
     // 12 output too small.
-    pub fn start(zeroth: &[u8], out: &mut [u8]) -> Begin
+    pub fn start(zeroth: &[u8], out: &mut [u8]) -> Result<(Conversion, usize), Unwritten>
         ensures began { Began zeroth.now out.old result out.new }
         ensures numbered { begin_as result ≡ begin_as (begin_of zeroth.now out.old) }
     {
-        match read_label(zeroth) {
-            Zeroth::Label {
-                form,
-                length: _,
-                ssrc,
-            } => started(form, ssrc, zeroth, out),
-            Zeroth::Refused(refusal) => Begin::Refused(refusal),
-        }
+        let label = read_label(zeroth)?;
+        let n = write_label_as(label.form.other(), zeroth, out)?;
+        let conversion = Conversion {
+            form: label.form,
+            ssrc: label.ssrc,
+            held: 0,
+        };
+        Ok((conversion, n))
     }
 
     // Takes a later block, which must hold arrivals of the label's form and SSRC: its records go behind those in the part, the blocks that are full with them are
@@ -95,19 +64,17 @@ impl Conversion {
     }
 
     // Writes the records in the part, if there are any, as a last block at the front of out. Refusals: 9 a malformed conversion or part; 12 output too small.
-    pub fn close(self, part: &[u8], out: &mut [u8]) -> Written
+    pub fn close(self, part: &[u8], out: &mut [u8]) -> Result<usize, Unwritten>
         ensures { Wrote (close_fault self part.now) (close_bytes self part.now) out.old result out.new }
     {
         if !soundness::is_sound(self, part) {
-            return Written::Refused(Refusal::Malformed);
+            return Err(Unwritten::Refused(Refusal::Malformed));
         }
-        let form = self.form;
-        let held = self.held;
-        if held == 0 {
-            return Written::Length(0);
+        if self.held == 0 {
+            return Ok(0);
         }
-        let to = form.other();
-        let end = held * to.width();
+        let to = self.form.other();
+        let end = self.held * to.width();
         write_records(to, &part[..end], self.ssrc, out)
     }
 }

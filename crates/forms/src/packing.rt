@@ -12,7 +12,7 @@ ghost use Rattle.forms.specs.Steps.{Joinable, joined, Packable, Parted};
 
 use crate::moving::put_records;
 use crate::{Conversion, Step};
-use answers::Written;
+use answers::Unwritten;
 use answers::copy::put_bytes;
 use format::Form;
 use format::block::{BLOCK, BODY};
@@ -23,8 +23,7 @@ fn gather(form: Form, held: usize, part: &[u8], n: usize, body: &[u8], out: &mut
     requires { Joinable form held part.now n body.now × (at + (held + n) * width (shape_of (other_form form)) ≤ length out.old) }
     ensures { out.new ≡ sets out.old at (records_bytes (shape_of (other_form form)) (joined form held part.now n body.now)) }
 {
-    let to = form.other();
-    let end = held * to.width();
+    let end = held * form.other().width();
     put_bytes(&part[..end], out, at);
     put_records(form, n, body, out, at + end);
 }
@@ -46,7 +45,7 @@ fn put_block(
     let most = to.most();
     let stop = at + BLOCK;
     gather(form, held, part, most - held, body, out, at + BODY);
-    seal(to, most, ssrc, &mut out[at..stop]);
+    let _ = seal(to, most, ssrc, &mut out[at..stop]);
 }
 
 // Writes the first n blocks of the first `held` records in the part and of those of a body behind them, each full, at the front of out.
@@ -63,18 +62,13 @@ fn write_full(
     ensures { out.new ≡ sets out.old 0 (full_blocks (shape_of (other_form form)) ssrc n (joined form held part.now (n * (shape_of (other_form form)).most - held) body.now)) }
 {
     let width = form.width();
-    let to = form.other();
-    let most = to.most();
+    let most = form.other().most();
     let mut first = held;
-    let mut left = n;
     let mut from = 0;
-    let mut at = 0;
-    while 0 < left {
-        put_block(form, first, part, &body[from..], ssrc, out, at);
+    for i in 0..n {
+        put_block(form, first, part, &body[from..], ssrc, out, i * BLOCK);
         from += (most - first) * width;
         first = 0;
-        at += BLOCK;
-        left -= 1;
     }
 }
 
@@ -83,19 +77,17 @@ fn pack(c: Conversion, part: &mut [u8], n: usize, body: &[u8], out: &mut [u8])
     requires { Packable c part.old n body.now × ((c.held + n) / (to_shape c).most * block_bytes ≤ length out.old) }
     ensures { Parted c (held_in c part.old ++ records_in (shape_of c.form) n body.now) part.old out.old part.new out.new }
 {
-    let form = c.form;
-    let held = c.held;
-    let to = form.other();
+    let to = c.form.other();
     let most = to.most();
-    let full = (held + n) / most;
+    let full = (c.held + n) / most;
     if full == 0 {
-        put_records(form, n, body, part, held * to.width());
+        put_records(c.form, n, body, part, c.held * to.width());
         return;
     }
-    let taken = full * most - held;
-    let from = taken * form.width();
-    write_full(form, held, part, full, body, c.ssrc, out);
-    put_records(form, n - taken, &body[from..], part, 0);
+    let taken = full * most - c.held;
+    let from = taken * c.form.width();
+    write_full(c.form, c.held, part, full, body, c.ssrc, out);
+    put_records(c.form, n - taken, &body[from..], part, 0);
 }
 
 // Packs the n records of a body behind those in the part, where out has room for the full blocks.
@@ -103,27 +95,23 @@ pub fn arrivals(c: Conversion, part: &mut [u8], n: usize, body: &[u8], out: &mut
     requires { Packable c part.old n body.now }
     ensures { TakesBlock c part.old (goes (records_in (shape_of c.form) n body.now)) out.old result part.new out.new }
 {
-    let form = c.form;
-    let ssrc = c.ssrc;
     let total = c.held + n;
-    let to = form.other();
-    let most = to.most();
+    let most = c.form.other().most();
     let full = total / most;
     let bytes = full * BLOCK;
     if out.len() < bytes {
         return Step {
-            answer: Written::Room(bytes),
+            answer: Err(Unwritten::Room(bytes)),
             conversion: c,
         };
     }
     pack(c, part, n, body, out);
-    let next = Conversion {
-        form,
-        ssrc,
+    let conversion = Conversion {
         held: total - full * most,
+        ..c
     };
     Step {
-        answer: Written::Length(bytes),
-        conversion: next,
+        answer: Ok(bytes),
+        conversion,
     }
 }

@@ -1,41 +1,39 @@
 // A run of ecnforms over pieces of a trace, in three calls: block 0; the whole blocks of a piece; the end. What they write, joined, is what the program prints,
 // however the trace is cut (specs/Pieces, `trace_prints`).
 ghost use Rattle.std.specs.Prelude.{◌≡◌, true, ◌≤◌, length};
-ghost use Rattle.std.proofs.Math.Option.{none};
 ghost use Rattle.answers.specs.Writers.{Wrote};
-ghost use Rattle.walk.specs.Endings.{refusal_in};
 ghost use Rattle.walk.specs.Machines.{ending_by};
 ghost use Rattle.forms.specs.Conversions.{sound, next_of};
 ghost use Rattle.forms.specs.Converted.{no_trace, told};
 ghost use Rattle.forms.specs.Pieces.{conversion_of, Begins, Puts, Fitted, Takes, Ends};
 
 use crate::soundness::is_sound;
-use crate::{Begin, Conversion, Step, taking};
-use answers::{Refusal, Written};
+use crate::{Conversion, Step, taking};
+use answers::{Refusal, Unwritten};
 use format::Form;
 use format::block::BLOCK;
 use table::write_refused;
-use walk::{Closed, Ended, number_after};
+use walk::{Closed, number_after};
 
 // How far a run has come: what is kept between blocks, the number of the next block, and whether that was refused.
 #[derive(Clone, Copy)]
 pub struct Progress {
     pub conversion: Conversion,
     pub block: u64,
-    pub ended: Ended,
+    pub ended: Option<Refusal>,
 }
 
 // The answer to block 0: what the writer of the label block says, and the progress.
 #[derive(Clone, Copy)]
 pub struct Begun {
-    pub answer: Written,
+    pub answer: Result<usize, Unwritten>,
     pub progress: Progress,
 }
 
 // The answer to a piece: what was written, how many bytes of the piece were taken, and the progress.
 #[derive(Clone, Copy)]
 pub struct Taken {
-    pub answer: Written,
+    pub answer: Result<usize, Unwritten>,
     pub bytes: usize,
     pub progress: Progress,
 }
@@ -46,11 +44,11 @@ struct Reach {
     conversion: Conversion,
     bytes: usize,
     used: usize,
-    ended: Ended,
+    ended: Option<Refusal>,
 }
 
 // The progress at block 0, with the conversion that a refused label leaves.
-fn at_zeroth(ended: Ended) -> Progress
+fn at_zeroth(ended: Option<Refusal>) -> Progress
     ensures { result ≡ record { conversion = conversion_of no_trace; block = 0; ended = ended } }
 {
     let conversion = Conversion {
@@ -81,29 +79,29 @@ fn take_fitting(start: Conversion, part: &mut [u8], piece: &[u8], out: &mut [u8]
     let mut conversion = start;
     let mut at = 0;
     let mut used = 0;
+    // A loop with a step of its own: `at` is also how many bytes of the piece are taken, which each way out tells.
     while BLOCK <= piece.len() - at {
         let end = at + BLOCK;
         let step = put_blocks(conversion, part, &piece[at..end], out, used);
-        let answer = step.answer;
-        match answer {
-            Written::Length(n) => {
+        match step.answer {
+            Ok(n) => {
                 conversion = step.conversion;
                 used += n;
             }
-            Written::Room(_) => {
+            Err(Unwritten::Room(_)) => {
                 return Reach {
                     conversion,
                     bytes: at,
                     used,
-                    ended: Ended::Going,
+                    ended: None,
                 };
             }
-            Written::Refused(refusal) => {
+            Err(Unwritten::Refused(refusal)) => {
                 return Reach {
                     conversion,
                     bytes: at,
                     used,
-                    ended: Ended::Refused(refusal),
+                    ended: Some(refusal),
                 };
             }
         }
@@ -113,12 +111,12 @@ fn take_fitting(start: Conversion, part: &mut [u8], piece: &[u8], out: &mut [u8]
         conversion,
         bytes: at,
         used,
-        ended: Ended::Going,
+        ended: None,
     }
 }
 
 // A piece of which nothing is taken.
-fn none_taken(progress: Progress, answer: Written) -> Taken
+fn none_taken(progress: Progress, answer: Result<usize, Unwritten>) -> Taken
     ensures { result ≡ record { answer = answer; bytes = 0; progress = progress } }
 {
     Taken {
@@ -129,14 +127,19 @@ fn none_taken(progress: Progress, answer: Written) -> Taken
 }
 
 // Writes the line of the refused block, if there is one: 1 byte or more of rest is a block that is refused with 1.
-fn tell_end(ended: Ended, block: u64, rest: &[u8], err: &mut [u8]) -> Written
-    ensures { Wrote none (told (ending_by block (refusal_in ended) rest.now)) err.old result err.new }
+fn tell_end(
+    ended: Option<Refusal>,
+    block: u64,
+    rest: &[u8],
+    err: &mut [u8],
+) -> Result<usize, Unwritten>
+    ensures { Wrote None (told (ending_by block ended rest.now)) err.old result err.new }
 {
     match ended {
-        Ended::Refused(refusal) => write_refused(refusal.number(), block, err),
-        Ended::Going => {
-            if rest.len() == 0 {
-                return Written::Length(0);
+        Some(refusal) => write_refused(refusal.number(), block, err),
+        None => {
+            if rest.is_empty() {
+                return Ok(0);
             }
             write_refused(Refusal::Incomplete.number(), block, err)
         }
@@ -150,24 +153,24 @@ impl Progress {
         ensures { Begins zeroth.now out.old result out.new }
     {
         match Conversion::start(zeroth, out) {
-            Begin::Started(conversion, n) => {
+            Ok((conversion, n)) => {
                 let progress = Progress {
                     conversion,
                     block: 1,
-                    ended: Ended::Going,
+                    ended: None,
                 };
                 Begun {
-                    answer: Written::Length(n),
+                    answer: Ok(n),
                     progress,
                 }
             }
-            Begin::Room(n) => Begun {
-                answer: Written::Room(n),
-                progress: at_zeroth(Ended::Going),
+            Err(Unwritten::Room(n)) => Begun {
+                answer: Err(Unwritten::Room(n)),
+                progress: at_zeroth(None),
             },
-            Begin::Refused(refusal) => Begun {
-                answer: Written::Length(0),
-                progress: at_zeroth(Ended::Refused(refusal)),
+            Err(Unwritten::Refused(refusal)) => Begun {
+                answer: Ok(0),
+                progress: at_zeroth(Some(refusal)),
             },
         }
     }
@@ -178,24 +181,20 @@ impl Progress {
     pub fn blocks(self, part: &mut [u8], piece: &[u8], out: &mut [u8]) -> Taken
         ensures { Takes self part.old piece.now out.old result part.new out.new }
     {
-        let conversion = self.conversion;
-        let before = self.ended;
-        let Ended::Going = before else {
-            return none_taken(self, Written::Length(0));
-        };
-        if !is_sound(conversion, part) {
-            return none_taken(self, Written::Refused(Refusal::Malformed));
+        if self.ended.is_some() {
+            return none_taken(self, Ok(0));
         }
-        let reach = take_fitting(conversion, part, piece, out);
-        let next = reach.conversion;
-        let ended = reach.ended;
+        if !is_sound(self.conversion, part) {
+            return none_taken(self, Err(Unwritten::Refused(Refusal::Malformed)));
+        }
+        let reach = take_fitting(self.conversion, part, piece, out);
         let progress = Progress {
-            conversion: next,
+            conversion: reach.conversion,
             block: number_after(self.block, (reach.bytes / BLOCK) as u64),
-            ended,
+            ended: reach.ended,
         };
         Taken {
-            answer: Written::Length(reach.used),
+            answer: Ok(reach.used),
             bytes: reach.bytes,
             progress,
         }
@@ -206,10 +205,8 @@ impl Progress {
     pub fn end(self, part: &[u8], rest: &[u8], out: &mut [u8], err: &mut [u8]) -> Closed
         ensures { Ends self part.now rest.now out.old err.old result out.new err.new }
     {
-        let conversion = self.conversion;
-        let ended = self.ended;
-        let last = conversion.close(part, out);
-        let line = tell_end(ended, self.block, rest, err);
+        let last = self.conversion.close(part, out);
+        let line = tell_end(self.ended, self.block, rest, err);
         Closed {
             out: last,
             err: line,

@@ -10,18 +10,16 @@ use trace::write::is_body;
 pub fn is_sound(c: Conversion, part: &[u8]) -> bool
     ensures { result ≡ sound c part.now }
 {
-    let form = c.form;
-    let held = c.held;
-    let to = form.other();
+    let to = c.form.other();
     if part.len() < BODY_BYTES {
         return false;
     }
-    if to.most() <= held {
+    if to.most() <= c.held {
         return false;
     }
-    if held == 0 {
+    if c.held == 0 {
         return true;
     }
-    let end = held * to.width();
+    let end = c.held * to.width();
     is_body(to, &part[..end])
 }

@@ -1,36 +1,33 @@
 // A later block of a conversion that was found sound.
 ghost use Rattle.std.specs.Prelude.{◌≡◌, true};
-ghost use Rattle.answers.specs.declared.Written.TheVariants.{Refused};
-ghost use Rattle.trace.specs.Reading.{block_of};
 ghost use Rattle.trace.specs.declared.Block.{Block};
+ghost use Rattle.trace.specs.Reading.{block_of};
 ghost use Rattle.forms.specs.Conversions.{sound, next_of, TakesBlock};
 
 use crate::moving::all_times;
 use crate::packing::arrivals;
 use crate::{Conversion, Step};
-use answers::{Refusal, Written};
+use answers::{Refusal, Unwritten};
 use format::block::{BODY, CHECK};
-use trace::Later;
 use trace::places::read_own;
 
 // A refusal, with the conversion that was given.
 pub fn refused(c: Conversion, refusal: Refusal) -> Step
-    ensures { result ≡ record { answer = Refused refusal; conversion = c } }
+    ensures { result ≡ record { answer = Err (Unwritten.Refused refusal); conversion = c } }
 {
     Step {
-        answer: Written::Refused(refusal),
+        answer: Err(Unwritten::Refused(refusal)),
         conversion: c,
     }
 }
 
 // Takes the n arrivals of a block, unless a time needs form 2.
 fn timed(c: Conversion, part: &mut [u8], n: usize, block: &[u8], out: &mut [u8]) -> Step
-    requires { (sound c part.old ≡ true) × (block_of block.now ≡ Block.Arrivals c.form n c.ssrc) }
+    requires { (sound c part.old ≡ true) × (block_of block.now ≡ Ok (Block.Arrivals c.form n c.ssrc)) }
     ensures { TakesBlock c part.old (next_of c.form c.ssrc block.now) out.old result part.new out.new }
 {
-    let form = c.form;
     let body = &block[BODY..CHECK];
-    if !all_times(form, n, body) {
+    if !all_times(c.form, n, body) {
         return refused(c, Refusal::FormTwo);
     }
     arrivals(c, part, n, body, out)
@@ -41,9 +38,8 @@ pub fn step(c: Conversion, part: &mut [u8], block: &[u8], out: &mut [u8]) -> Ste
     requires { sound c part.old ≡ true }
     ensures { TakesBlock c part.old (next_of c.form c.ssrc block.now) out.old result part.new out.new }
 {
-    let form = c.form;
-    match read_own(form, c.ssrc, block) {
-        Later::Arrivals { count } => timed(c, part, count, block, out),
-        Later::Refused(refusal) => refused(c, refusal),
+    match read_own(c.form, c.ssrc, block) {
+        Ok(count) => timed(c, part, count, block, out),
+        Err(refusal) => refused(c, refusal),
     }
 }

@@ -1,7 +1,7 @@
 -- What ecnlabel prints for a trace's blocks. Assumes nothing.
+use Rattle.std.specs.Prelude.{Option, Some, None, Result, Ok, Err}
 use mathlib.Core.Path.{◌≡◌, refl, ap, ◌∙◌}
 use mathlib.Core.List.{List, [], ◌∷◌, ◌++◌}
-use mathlib.Core.Option.{Option, none, some}
 use Prim.Native.Nat.{ℕ, suc, ◌+◌}
 use native.Mathlib.Omega.{arith}
 use lib.ListN.{take}
@@ -13,7 +13,6 @@ use Rattle.table.specs.Lines.{refused_line, number_line}
 use Rattle.trace.specs.Places.{zeroth_of}
 use Rattle.trace.specs.Rewriting.{block_spaced, replaced_in}
 use Rattle.trace.specs.declared.Zeroth.{Zeroth}
-use Rattle.trace.specs.declared.Zeroth.TheVariants as zeroth
 use Rattle.walk.specs.Blocks.{blocks_of, joined}
 use Rattle.walk.specs.Programs.{Printed, to_output, both, Turn, ending_at, turned, onward, walk, walked, closed, printed_by}
 use Rattle.walk.proofs.Walks.{closed_goes, closed_ends}
@@ -33,13 +32,13 @@ module _ (i : ℕ) (b : List ℕ) (bs : List (List ℕ)) (k : Kept) where
   unfolding walk
   rest_by e = ap (λ (t : Turn Kept). closed ecnlabel (onward (turned i t) (walk ecnlabel (suc i) bs))) (turn_by_lem i k b e)
 
-  rest_own : fault_of k.form k.ssrc b ≡ none → rest i (b ∷ bs) k ≡ both (to_output b) (rest (suc i) bs k)
-  rest_own e = rest_by e ∙ closed_goes ecnlabel (turned i (turn_by k b none)) (walk ecnlabel (suc i) bs) refl
+  rest_own : fault_of k.form k.ssrc b ≡ None → rest i (b ∷ bs) k ≡ both (to_output b) (rest (suc i) bs k)
+  rest_own e = rest_by e ∙ closed_goes ecnlabel (turned i (turn_by k b None)) (walk ecnlabel (suc i) bs) refl
 
-  rest_refused : {refusal : Refusal} → fault_of k.form k.ssrc b ≡ some refusal → rest i (b ∷ bs) k ≡ to_errors (refused_line (number_of refusal) i)
+  rest_refused : {refusal : Refusal} → fault_of k.form k.ssrc b ≡ Some refusal → rest i (b ∷ bs) k ≡ to_errors (refused_line (number_of refusal) i)
   unfolding closed
   rest_refused {refusal} e =
-      rest_by e ∙ closed_ends ecnlabel (turned i (turn_by k b (some refusal))) (walk ecnlabel (suc i) bs) (record { refusal = refusal; block = i }) refl
+      rest_by e ∙ closed_ends ecnlabel (turned i (turn_by k b (Some refusal))) (walk ecnlabel (suc i) bs) (record { refusal = refusal; block = i }) refl
 
 -- the sound blocks at the front, and then the end, or the line of the next block
 pub rest_front : (i : ℕ) (bs : List (List ℕ)) (k : Kept)
@@ -56,31 +55,31 @@ rest_front i (b ∷ bs) k = go (fault_of k.form k.ssrc b) refl (rest_front (suc 
         → rest (suc i) bs k ≡ record { out = joined (take behind.many bs); err = (closing k (ending_at (suc i + behind.many) behind.refusal)).err }
         → let s = sound_by o behind in
         rest i (b ∷ bs) k ≡ record { out = joined (take s.many (b ∷ bs)); err = (closing k (ending_at (i + s.many) s.refusal)).err }
-    go none e back =
+    go None e back =
         let here : suc i + behind.many ≡ i + suc behind.many = omega arith in
         rest_own i b bs k e
         ∙ ap (both (to_output b)) back
         ∙ ap (λ (n : ℕ). record { out = b ++ joined (take behind.many bs); err = (closing k (ending_at n behind.refusal)).err }) here
-    go (some refusal) e back =
+    go (Some refusal) e back =
         let here : i ≡ i + 0 = omega arith in
         rest_refused i b bs k e ∙ ap (λ (n : ℕ). to_errors (refused_line (number_of refusal) n)) here
 
 -- ---- all of a trace, by its label
 
-labelled_by : (trace : List ℕ) {r : Zeroth} → zeroth_of (blocks_of trace).zeroth ≡ r
+labelled_by : (trace : List ℕ) {r : Result Zeroth Refusal} → zeroth_of (blocks_of trace).zeroth ≡ r
     → labelled trace ≡ closed ecnlabel (onward (turned 0 (begun_by (blocks_of trace).zeroth r)) (walk ecnlabel 1 (blocks_of trace).others))
 unfolding labelled printed_by walked
-labelled_by trace e = ap (λ (r : Zeroth). closed ecnlabel (onward (turned 0 (begun_by (blocks_of trace).zeroth r)) (walk ecnlabel 1 (blocks_of trace).others))) e
+labelled_by trace e = ap (λ (r : Result Zeroth Refusal). closed ecnlabel (onward (turned 0 (begun_by (blocks_of trace).zeroth r)) (walk ecnlabel 1 (blocks_of trace).others))) e
 
 pub refused_label_lem : RefusedLabel
 unfolding closed
 refused_label_lem trace refusal e =
     labelled_by trace e
-    ∙ closed_ends ecnlabel (turned 0 (begun_by (blocks_of trace).zeroth (zeroth.Refused refusal))) (walk ecnlabel 1 (blocks_of trace).others) (record { refusal = refusal; block = 0 }) refl
+    ∙ closed_ends ecnlabel (turned 0 (begun_by (blocks_of trace).zeroth (Err refusal))) (walk ecnlabel 1 (blocks_of trace).others) (record { refusal = refusal; block = 0 }) refl
 
-module _ (trace : List ℕ) {form : Form} {n ssrc : ℕ} (e : zeroth_of (blocks_of trace).zeroth ≡ zeroth.Label form n ssrc) where
-  abbrev label : Zeroth
-  label = zeroth.Label form n ssrc
+module _ (trace : List ℕ) {form : Form} {n ssrc : ℕ} (e : zeroth_of (blocks_of trace).zeroth ≡ Ok (record { form = form; length = n; ssrc = ssrc })) where
+  abbrev label : Result Zeroth Refusal
+  label = Ok (record { form = form; length = n; ssrc = ssrc })
 
   abbrev begun : Kept
   begun = record { form = form; ssrc = ssrc; replaced = replaced_in (blocks_of trace).zeroth label }
@@ -106,5 +105,5 @@ module _ (trace : List ℕ) {form : Form} {n ssrc : ℕ} (e : zeroth_of (blocks_
 pub refused_block : RefusedBlock
 refused_block trace form n ssrc refusal e r =
     let s = sound_in form ssrc (blocks_of trace).others in
-    let q : s ≡ record { many = s.many; refusal = some refusal } = λ i. record { many = s.many; refusal = r i } in
+    let q : s ≡ record { many = s.many; refusal = Some refusal } = λ i. record { many = s.many; refusal = r i } in
     labelled_front trace e q

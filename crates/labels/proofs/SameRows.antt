@@ -1,7 +1,7 @@
 -- ecntable's rows before and after. Assumes nothing.
+use Rattle.std.specs.Prelude.{None}
 use mathlib.Core.Path.{◌≡◌, refl, sym, ap, ap₂, ◌∙◌}
 use mathlib.Core.List.{List, [], ◌∷◌, ◌++◌}
-use mathlib.Core.Option.{none}
 use Prim.Native.Nat.{ℕ, suc}
 use lib.ListN.{length}
 use Rattle.format.specs.declared.Form.{Form}
@@ -40,7 +40,7 @@ totals_many run [] = refl
 totals_many run (b ∷ bs) = ap suc (totals_many (after run (next_of run b)) bs)
 
 -- a trace's own block brings its arrivals
-own_next : (run : Run) (b : List ℕ) → fault_of run.form run.ssrc b ≡ none → (n : ℕ) × (next_of run b ≡ goes (arrived run n b))
+own_next : (run : Run) (b : List ℕ) → fault_of run.form run.ssrc b ≡ None → (n : ℕ) × (next_of run b ≡ goes (arrived run n b))
 own_next run b e = let r = own_read run.form run.ssrc b e in (r.0, next_by_lem run b r.1)
 
 -- form, length and SSRC stay

@@ -1,4 +1,5 @@
 -- The theorems on what ecnlabel prints. Assumes nothing.
+use Rattle.std.specs.Prelude.{Ok}
 use mathlib.Core.Path.{◌≡◌, sym, ap, ap₂, ◌∙◌, subst⁻¹}
 use mathlib.Core.List.{List, ◌++◌}
 use Prim.Native.Nat.{ℕ}
@@ -13,7 +14,6 @@ use Rattle.trace.specs.Places.{zeroth_of}
 use Rattle.trace.specs.Retired.{retired_in, spaced_label}
 use Rattle.trace.specs.Writing.{label_fault}
 use Rattle.trace.specs.Theorems.{SpacedFrom}
-use Rattle.trace.specs.declared.Zeroth.TheVariants as zeroth
 use Rattle.trace.proofs.Placed.{zeroth_by_lem, zeroth_label}
 use Rattle.trace.proofs.Rewritten.{spaced_reads}
 use Rattle.trace.proofs.Spacing.{spaced_twice}
@@ -55,7 +55,7 @@ module _ (trace : List ℕ) (form : Form) (n ssrc : ℕ) (s : SoundTrace trace f
     unfolding blocks_of
     reads = spaced_reads form zero n ssrc (octets_take block_bytes trace o) (zeroth_label zero s.label)
 
-    new_label : zeroth_of new ≡ zeroth.Label form n ssrc
+    new_label : zeroth_of new ≡ Ok (record { form = form; length = n; ssrc = ssrc })
     new_label = zeroth_by_lem new reads.label
 
     pub output_sound : SoundTrace (labelled trace).out form n ssrc

@@ -1,7 +1,7 @@
 -- What a block does in a run of ecnlabel, and the first blocks of some. Assumes nothing.
+use Rattle.std.specs.Prelude.{Option, Some, None}
 use mathlib.Core.Path.{◌≡◌, refl, ap, ◌∙◌}
 use mathlib.Core.List.{List, append-nil}
-use mathlib.Core.Option.{Option, none, some}
 use Prim.Native.Nat.{ℕ, ◌+◌}
 use native.Mathlib.Omega.{arith}
 use lib.ListN.{take, drop}
@@ -33,15 +33,15 @@ module _ (i : ℕ) (k : Kept) (bs : List (List ℕ)) where
 
   -- so many are asked for that the refused one is met
   abbrev pub asked : Option Refusal → ℕ
-  asked none = 0
-  asked (some refusal) = 1
+  asked None = 0
+  asked (Some refusal) = 1
 
   -- what is met after them
   met_next : (o : Option Refusal) (rest : List (List ℕ)) → NextHas k.form k.ssrc o rest
       → front ecnlabel (i + many) (asked o) rest k ≡ record { state = k; taken = 0; printed = nothing; refusal = o }
   unfolding front
-  met_next none rest h = refl
-  met_next (some refusal) rest h =
+  met_next None rest h = refl
+  met_next (Some refusal) rest h =
       ap (λ (bs : List (List ℕ)). front ecnlabel (i + many) 1 bs k) h.2
       ∙ ap (λ (t : Turn Kept). one_more t t.refusal (none_taken t.state)) (turn_by_lem (i + many) k h.0 h.3)
 

@@ -1,7 +1,7 @@
 -- The witnesses, computed; each theorem is used with what meets its hypotheses. Assumes nothing.
+use Rattle.std.specs.Prelude.{Some, None, Ok, Err}
 use mathlib.Core.Path.{◌≡◌, refl, subst}
 use mathlib.Core.List.{List, [], ◌++◌, append-nil}
-use mathlib.Core.Option.{some}
 use Prim.Native.Nat.{ℕ, ◌<◌}
 use native.Mathlib.Omega.{arith}
 use lib.ListN.{length, take, drop, length-append, length-drop}
@@ -19,13 +19,11 @@ use Rattle.trace.specs.Places.{zeroth_of, later_of}
 use Rattle.trace.specs.Reading.{right_check, contents_of, block_of}
 use Rattle.trace.specs.Retired.{retired, retired_in, spaced_byte, spaced_label}
 use Rattle.trace.specs.Theorems.{records_in, list_of}
-use Rattle.trace.specs.declared.Zeroth.TheVariants.{Label, Refused}
 use Rattle.trace.proofs.Limits.{below}
 use Rattle.walk.specs.Blocks.{cut, blocks_of}
 use Rattle.walk.specs.Programs.{Printed, both, onward, walk, walked, closed, printed_by}
 use Rattle.walk.specs.Pieces.{Octets, wholes, whole_in}
 use Rattle.walk.specs.Machines.{Gave, Rest, more, done, Session, began}
-use Rattle.walk.specs.declared.Ended.TheVariants.{Going}
 use Rattle.forms.specs.Conversions.{timed, next_of}
 use Rattle.forms.specs.Converted.{ecnforms}
 use Rattle.copies.specs.Fronts.{fault_of, sound_in}
@@ -83,7 +81,7 @@ late_octets : Octets late
 unfolding label_block arrivals_block record_bytes records_bytes header filled checked bytes words ones_add ones_sum every
 late_octets = below 256 late (omega arith) refl
 
-late_refused : (walked ecnforms (blocks_of (labelled late).out)).ended ≡ some (record { refusal = FormTwo; block = 1 })
+late_refused : (walked ecnforms (blocks_of (labelled late).out)).ended ≡ Some (record { refusal = FormTwo; block = 1 })
 unfolding label_block arrivals_block record_bytes records_bytes header filled checked bytes words ones_add ones_sum word block_of right_check contents_of label_body label_byte every arrivals_body count_ok good_records records_in record_at list_of cut blocks_of zeroth_of later_of fault_of retired spaced_byte spaced_label labelled printed_by walked walk onward closed timed next_of
 late_refused = refl
 
@@ -91,15 +89,15 @@ late_none : retired_in (label_in 0 late) ≡ 0
 unfolding retired_in
 late_none = refl
 
-wrong : zeroth_of (blocks_of []).zeroth ≡ Refused Incomplete
+wrong : zeroth_of (blocks_of []).zeroth ≡ Err Incomplete
 unfolding block_of blocks_of zeroth_of
 wrong = refl
 
-damaged_label : zeroth_of (blocks_of damaged).zeroth ≡ Label One 4 1
+damaged_label : zeroth_of (blocks_of damaged).zeroth ≡ Ok (record { form = One; length = 4; ssrc = 1 })
 unfolding label_block header filled checked bytes words ones_add ones_sum word block_of right_check contents_of label_body label_byte every blocks_of zeroth_of
 damaged_label = refl
 
-next : (sound_in One 1 (blocks_of damaged).others).refusal ≡ some Checksum
+next : (sound_in One 1 (blocks_of damaged).others).refusal ≡ Some Checksum
 unfolding label_block arrivals_block record_bytes records_bytes header filled checked bytes words ones_add ones_sum word block_of right_check contents_of every arrivals_body count_ok good_records cut blocks_of later_of fault_of sound_in
 next = refl
 
@@ -115,7 +113,7 @@ arrival_long : length (arrival 1 7) ≡ 512
 unfolding arrivals_block record_bytes records_bytes header filled checked bytes words ones_add ones_sum
 arrival_long = refl
 
-goes_on_lem : (taken_of begun (arrival 1 7)).progress.ended ≡ Going
+goes_on_lem : (taken_of begun (arrival 1 7)).progress.ended ≡ None
 unfolding arrivals_block record_bytes records_bytes header filled checked bytes words ones_add ones_sum word block_of right_check contents_of every arrivals_body count_ok good_records cut wholes whole_in later_of fault_of sound_in taken_of
 goes_on_lem = refl
 

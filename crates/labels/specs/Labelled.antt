@@ -1,7 +1,6 @@
 -- Request L14: what ecnlabel prints for a trace: a copy of it on standard output, with one space in the place of each retired byte of the label; and on standard
 -- error the line of the first refused block, or, if none was refused, the number of bytes replaced.
-use Rattle.std.specs.Prelude.{List, [], ℕ}
-use Rattle.std.proofs.Math.Option.{Option, none, some}
+use Rattle.std.specs.Prelude.{List, [], ℕ, Option, Some, None, Result, Ok, Err}
 use Rattle.answers.specs.Refusals.{number_of}
 use Rattle.answers.specs.declared.Refusal.{Refusal}
 use Rattle.format.specs.declared.Form.{Form}
@@ -10,7 +9,6 @@ use Rattle.table.specs.Lines.{refused_line, number_line}
 use Rattle.trace.specs.Places.{zeroth_of}
 use Rattle.trace.specs.Rewriting.{block_spaced, replaced_in}
 use Rattle.trace.specs.declared.Zeroth.{Zeroth}
-use Rattle.trace.specs.declared.Zeroth.TheVariants as zeroth
 use Rattle.walk.specs.Blocks.{blocks_of}
 use Rattle.walk.specs.Programs.{Printed, nothing, to_output, Turn, Ending, Program, printed_by}
 use Rattle.copies.specs.Fronts.{fault_of}
@@ -29,23 +27,23 @@ abbrev pub to_errors : List ℕ → Printed
 to_errors bytes = record { out = []; err = bytes }
 
 -- block 0: a label is written with spaces; a refused label gives no output
-abbrev pub begun_by : List ℕ → Zeroth → Turn Kept
-begun_by b (zeroth.Label form n ssrc) = record {
-  state = record { form = form; ssrc = ssrc; replaced = replaced_in b (zeroth.Label form n ssrc) };
-  printed = to_output (block_spaced b (zeroth.Label form n ssrc));
-  refusal = none;
+abbrev pub begun_by : List ℕ → Result Zeroth Refusal → Turn Kept
+begun_by b (Ok label) = record {
+  state = record { form = label.form; ssrc = label.ssrc; replaced = replaced_in b (Ok (record { form = label.form; length = label.length; ssrc = label.ssrc })) };
+  printed = to_output (block_spaced b (Ok (record { form = label.form; length = label.length; ssrc = label.ssrc })));
+  refusal = None;
 }
-begun_by b (zeroth.Refused refusal) = record { state = no_trace; printed = nothing; refusal = some refusal }
+begun_by b (Err refusal) = record { state = no_trace; printed = nothing; refusal = Some refusal }
 
 -- a later block is copied, or refused, by ecntable's rule
 abbrev pub turn_by : Kept → List ℕ → Option Refusal → Turn Kept
-turn_by k b none = record { state = k; printed = to_output b; refusal = none }
-turn_by k b (some refusal) = record { state = k; printed = nothing; refusal = some refusal }
+turn_by k b None = record { state = k; printed = to_output b; refusal = None }
+turn_by k b (Some refusal) = record { state = k; printed = nothing; refusal = Some refusal }
 
 -- the number replaced, or the line of the refused block
 abbrev pub closing : Kept → Option Ending → Printed
-closing k none = to_errors (number_line k.replaced)
-closing k (some e) = to_errors (refused_line (number_of e.refusal) e.block)
+closing k None = to_errors (number_line k.replaced)
+closing k (Some e) = to_errors (refused_line (number_of e.refusal) e.block)
 
 abbrev pub ecnlabel : Program Kept
 ecnlabel = record {

@@ -1,6 +1,5 @@
 -- Request L14: what holds of what ecnlabel prints, for every trace.
-use Rattle.std.specs.Prelude.{◌≡◌, List, [], ◌∷◌, ◌++◌, ℕ, ◌+◌, length, take}
-use Rattle.std.proofs.Math.Option.{none, some}
+use Rattle.std.specs.Prelude.{◌≡◌, List, [], ◌∷◌, ◌++◌, ℕ, ◌+◌, length, take, Some, None, Ok, Err}
 use Rattle.answers.specs.Refusals.{number_of}
 use Rattle.answers.specs.declared.Refusal.{Refusal}
 use Rattle.answers.specs.declared.Refusal.TheVariants.{FormTwo}
@@ -12,7 +11,6 @@ use Rattle.trace.specs.Places.{zeroth_of}
 use Rattle.trace.specs.Retired.{retired_in, spaced_label}
 use Rattle.trace.specs.Rewriting.{block_spaced}
 use Rattle.trace.specs.Writing.{label_fault}
-use Rattle.trace.specs.declared.Zeroth.TheVariants as zeroth
 use Rattle.walk.specs.Blocks.{blocks_of, joined}
 use Rattle.walk.specs.Programs.{Ending, walked}
 use Rattle.walk.specs.Pieces.{Octets}
@@ -26,10 +24,10 @@ use Rattle.labels.specs.Labelled.{to_errors, ecnlabel, labelled}
 
 -- the run over it ends with no refusal, and over no other
 abbrev pub SoundIsTaken : Type 0
-SoundIsTaken = (trace : List ℕ) (form : Form) (n ssrc : ℕ) → SoundTrace trace form n ssrc → (walked ecnlabel (blocks_of trace)).ended ≡ none
+SoundIsTaken = (trace : List ℕ) (form : Form) (n ssrc : ℕ) → SoundTrace trace form n ssrc → (walked ecnlabel (blocks_of trace)).ended ≡ None
 
 abbrev pub TakenIsSound : Type 0
-TakenIsSound = (trace : List ℕ) → (walked ecnlabel (blocks_of trace)).ended ≡ none → (form : Form) × (n : ℕ) × (ssrc : ℕ) × SoundTrace trace form n ssrc
+TakenIsSound = (trace : List ℕ) → (walked ecnlabel (blocks_of trace)).ended ≡ None → (form : Form) × (n : ℕ) × (ssrc : ℕ) × SoundTrace trace form n ssrc
 
 -- its label
 abbrev pub label_in : ℕ → List ℕ → List ℕ
@@ -38,9 +36,9 @@ label_in n trace = take n (body_of (blocks_of trace).zeroth)
 -- the output has the label with a space for each 10 and 13 and every other byte as before, in a label block of the same form and SSRC, which the label writer
 -- takes; every later block is the same bytes; the number reported is that of the retired bytes
 pub record Spaced (trace : List ℕ) (form : Form) (n ssrc : ℕ) : Type 0 where
-  pub label : zeroth_of (blocks_of (labelled trace).out).zeroth ≡ zeroth.Label form n ssrc
+  pub label : zeroth_of (blocks_of (labelled trace).out).zeroth ≡ Ok (record { form = form; length = n; ssrc = ssrc })
   pub text : label_in n (labelled trace).out ≡ spaced_label (label_in n trace)
-  pub taken : label_fault (label_in n (labelled trace).out) ≡ none
+  pub taken : label_fault (label_in n (labelled trace).out) ≡ None
   pub others : (blocks_of (labelled trace).out).others ≡ (blocks_of trace).others
   pub number : (labelled trace).err ≡ number_line (retired_in (label_in n trace))
 
@@ -49,13 +47,13 @@ SpacedLabel = (trace : List ℕ) (form : Form) (n ssrc : ℕ) → Octets trace �
 
 -- ecntable refuses no block of the output, and ecnforms none but with 17
 abbrev pub TableTakes : Type 0
-TableTakes = (trace : List ℕ) (form : Form) (n ssrc : ℕ) → Octets trace → SoundTrace trace form n ssrc → (walked ecntable (blocks_of (labelled trace).out)).ended ≡ none
+TableTakes = (trace : List ℕ) (form : Form) (n ssrc : ℕ) → Octets trace → SoundTrace trace form n ssrc → (walked ecntable (blocks_of (labelled trace).out)).ended ≡ None
 
 -- ecnforms refuses none of its blocks but with 17
 abbrev pub FormsTake : Type 0
 FormsTake =
     (trace : List ℕ) (form : Form) (n ssrc : ℕ) (e : Ending) → Octets trace → SoundTrace trace form n ssrc
-    → (walked ecnforms (blocks_of (labelled trace).out)).ended ≡ some e → e.refusal ≡ FormTwo
+    → (walked ecnforms (blocks_of (labelled trace).out)).ended ≡ Some e → e.refusal ≡ FormTwo
 
 -- if no byte was retired, the output is the trace
 abbrev pub NoneRetired : Type 0
@@ -90,15 +88,15 @@ SameRows = (trace : List ℕ) (form : Form) (n ssrc : ℕ) → Octets trace → 
 
 -- a refused label: no output, and its line; an empty trace is one, with 1
 abbrev pub RefusedLabel : Type 0
-RefusedLabel = (trace : List ℕ) (refusal : Refusal) → zeroth_of (blocks_of trace).zeroth ≡ zeroth.Refused refusal → labelled trace ≡ to_errors (refused_line (number_of refusal) 0)
+RefusedLabel = (trace : List ℕ) (refusal : Refusal) → zeroth_of (blocks_of trace).zeroth ≡ Err refusal → labelled trace ≡ to_errors (refused_line (number_of refusal) 0)
 
 -- a later block: what the blocks before it give, and its line; no number is reported
 abbrev pub RefusedBlock : Type 0
 RefusedBlock =
-    (trace : List ℕ) (form : Form) (n ssrc : ℕ) (refusal : Refusal) → zeroth_of (blocks_of trace).zeroth ≡ zeroth.Label form n ssrc
+    (trace : List ℕ) (form : Form) (n ssrc : ℕ) (refusal : Refusal) → zeroth_of (blocks_of trace).zeroth ≡ Ok (record { form = form; length = n; ssrc = ssrc })
     → let s = sound_in form ssrc (blocks_of trace).others in
-    s.refusal ≡ some refusal → labelled trace
+    s.refusal ≡ Some refusal → labelled trace
     ≡ record {
-      out = block_spaced (blocks_of trace).zeroth (zeroth.Label form n ssrc) ++ joined (take s.many (blocks_of trace).others);
+      out = block_spaced (blocks_of trace).zeroth (Ok (record { form = form; length = n; ssrc = ssrc })) ++ joined (take s.many (blocks_of trace).others);
       err = refused_line (number_of refusal) (1 + s.many);
     }

@@ -3,20 +3,18 @@
 #![tactic(auto)]
 
 ghost use Rattle.std.specs.Prelude.{◌≡◌};
-ghost use Rattle.std.proofs.Math.Option.{none};
 ghost use Rattle.answers.specs.Writers.{Wrote};
 ghost use Rattle.trace.specs.Places.{zeroth_of};
 ghost use Rattle.labels.specs.Pieces.{started_by, not_begun, Begins, taken_of, end_of};
 
-use answers::{Refusal, Written};
+use answers::{Refusal, Unwritten};
 use copies::sound_front;
 use format::Form;
 use format::block::BLOCK;
 use table::{write_number, write_refused};
 use trace::places::read_label;
 use trace::rewrite::space_label;
-use trace::{Spaced, Zeroth};
-use walk::{Ended, number_after};
+use walk::number_after;
 
 // How far a run has come: the form and the SSRC of its trace, how many bytes of its label were replaced, the number of the next block, and whether that was
 // refused. Every such state is sound.
@@ -26,13 +24,13 @@ pub struct Progress {
     pub ssrc: u32,
     pub replaced: u64,
     pub block: u64,
-    pub ended: Ended,
+    pub ended: Option<Refusal>,
 }
 
 // The answer to block 0: what its writer says, and the progress.
 #[derive(Clone, Copy)]
 pub struct Begun {
-    pub answer: Written,
+    pub answer: Result<usize, Unwritten>,
     pub progress: Progress,
 }
 
@@ -48,23 +46,16 @@ fn started(zeroth: &[u8], replaced: usize) -> Progress
     ensures { result ≡ started_by (zeroth_of zeroth.now) replaced }
 {
     match read_label(zeroth) {
-        Zeroth::Label {
-            form,
-            length: _,
-            ssrc,
-        } => Progress {
-            form,
-            ssrc,
+        Ok(label) => Progress {
+            form: label.form,
+            ssrc: label.ssrc,
             replaced: replaced as u64,
             block: 1,
-            ended: Ended::Going,
+            ended: None,
         },
-        Zeroth::Refused(refusal) => Progress {
-            form: Form::One,
-            ssrc: 0,
-            replaced: 0,
-            block: 0,
-            ended: Ended::Refused(refusal),
+        Err(refusal) => Progress {
+            ended: Some(refusal),
+            ..not_begun()
         },
     }
 }
@@ -78,7 +69,7 @@ fn not_begun() -> Progress
         ssrc: 0,
         replaced: 0,
         block: 0,
-        ended: Ended::Going,
+        ended: None,
     }
 }
 
@@ -89,16 +80,16 @@ impl Progress {
         ensures { Begins zeroth.now out.old result out.new }
     {
         match space_label(zeroth, out) {
-            Spaced::Replaced(number) => Begun {
-                answer: Written::Length(BLOCK),
+            Ok(number) => Begun {
+                answer: Ok(BLOCK),
                 progress: started(zeroth, number),
             },
-            Spaced::Room(size) => Begun {
-                answer: Written::Room(size),
+            Err(Unwritten::Room(size)) => Begun {
+                answer: Err(Unwritten::Room(size)),
                 progress: not_begun(),
             },
-            Spaced::Refused(_) => Begun {
-                answer: Written::Length(0),
+            Err(Unwritten::Refused(_)) => Begun {
+                answer: Ok(0),
                 progress: started(zeroth, 0),
             },
         }
@@ -109,38 +100,32 @@ impl Progress {
     pub fn blocks(self, piece: &[u8]) -> Taken
         ensures { result ≡ taken_of self piece.now }
     {
-        let before = self.ended;
-        let form = self.form;
-        let Ended::Going = before else {
+        let None = self.ended else {
             return Taken {
                 bytes: 0,
                 progress: self,
             };
         };
-        let front = sound_front(form, self.ssrc, piece);
-        let ended = front.ended;
-        let progress = Progress {
-            form,
-            ssrc: self.ssrc,
-            replaced: self.replaced,
-            block: number_after(self.block, (front.bytes / BLOCK) as u64),
-            ended,
-        };
+        let front = sound_front(self.form, self.ssrc, piece);
+        let block = number_after(self.block, (front.bytes / BLOCK) as u64);
         Taken {
             bytes: front.bytes,
-            progress,
+            progress: Progress {
+                block,
+                ended: front.ended,
+                ..self
+            },
         }
     }
 
     // Ends the run. `rest` is what is left: 1 byte or more is a block that is refused with 1. Writes at the front of err the line of the refused block, or, if none
     // was refused, the number of bytes replaced. 12 with the line's length.
-    pub fn end(self, rest: &[u8], err: &mut [u8]) -> Written
-        ensures { Wrote none (end_of self rest.now) err.old result err.new }
+    pub fn end(self, rest: &[u8], err: &mut [u8]) -> Result<usize, Unwritten>
+        ensures { Wrote None (end_of self rest.now) err.old result err.new }
     {
-        let ended = self.ended;
-        match ended {
-            Ended::Refused(refusal) => write_refused(refusal.number(), self.block, err),
-            Ended::Going => {
+        match self.ended {
+            Some(refusal) => write_refused(refusal.number(), self.block, err),
+            None => {
                 if rest.len() == 0 {
                     return write_number(self.replaced, err);
                 }

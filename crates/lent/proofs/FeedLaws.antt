@@ -1,4 +1,5 @@
 -- An upload and its 18 words: taking out and putting back are inverse. Assumes nothing.
+use Rattle.std.specs.Prelude.{Option, Some, None}
 use mathlib.Core.Path.{◌≡◌, refl, sym, ap, ◌∙◌, subst}
 use mathlib.Core.Bool.{Bool, true, false, cond, ◌&&◌, ◌||◌}
 use mathlib.Core.List.{List, [], ◌∷◌, ◌++◌}
@@ -16,8 +17,6 @@ use Rattle.answers.specs.declared.Refusal.TheVariants.{Incomplete, Version, Firs
 use Rattle.answers.proofs.Conditions.{and_left, and_right}
 use Rattle.answers.proofs.Stores.{sets-append}
 use Rattle.format.specs.declared.Form.{Form}
-use Rattle.walk.specs.declared.Ended.{Ended}
-use Rattle.walk.specs.declared.Ended.TheVariants.{Going, Refused}
 use Rattle.convert.specs.declared.feeds.Upload.{Upload}
 use Rattle.convert.specs.Tables.{no_run}
 use Rattle.convert.specs.Feeds.{fresh_upload, keepable}
@@ -25,7 +24,6 @@ use Rattle.lent.specs.FormWords.{form_number, is_form, form_of}
 use Rattle.lent.specs.SourceWords.{FitsWord, source_of, is_source, source_words}
 use Rattle.lent.specs.RunWords.{record_in, run_with}
 use Rattle.lent.specs.FeedWords.{is_form_word, form_word, is_end, ended_of, end_word, upload_with, upload_of, is_upload, loaded, feed_words, FeedBack, FeedWordsBack, FreshIsZeros}
-use Rattle.lent.specs.declared.feed_words.Loaded.TheVariants.{Held, Malformed}
 use Rattle.lent.proofs.SourceLaws.{record_back, words_back, held as source_held, elements, elements_are}
 use Rattle.lent.proofs.RunLaws.{form_fits, form_back, form_word_lem, length-record, source_again}
 
@@ -54,22 +52,22 @@ form_word_again blocks word e = go (eqb blocks 0) e
 
 -- ---- the refusal's
 
-end_fits : (ended : Ended) → keepable ended ≡ true → is_end (end_word ended) ≡ true
-end_fits Going e = refl
-end_fits (Refused refusal) e = go (eqb (number_of refusal) 0)
+end_fits : (ended : Option Refusal) → keepable ended ≡ true → is_end (end_word ended) ≡ true
+end_fits None e = refl
+end_fits (Some refusal) e = go (eqb (number_of refusal) 0)
   where
-    go : (b : Bool) → (b || keepable (Refused refusal)) ≡ true
+    go : (b : Bool) → (b || keepable (Some refusal)) ≡ true
     go true = refl
     go false = e
 
-end_back : (ended : Ended) → keepable ended ≡ true → ended_of (end_word ended) ≡ ended
-end_back Going e = refl
-end_back (Refused refusal) e = go refusal e
+end_back : (ended : Option Refusal) → keepable ended ≡ true → ended_of (end_word ended) ≡ ended
+end_back None e = refl
+end_back (Some refusal) e = go refusal e
   where
     no : {A : Type 0} → false ≡ true → A
     no e = let z : ◌≡◌ {A = ℕ} 0 1 = cc in absurd (omega arith)
 
-    go : (r : Refusal) → keepable (Refused r) ≡ true → ended_of (end_word (Refused r)) ≡ Refused r
+    go : (r : Refusal) → keepable (Some r) ≡ true → ended_of (end_word (Some r)) ≡ Some r
     go Incomplete e = refl
     go Version e = no e
     go FirstPacket e = no e
@@ -93,7 +91,7 @@ end_again : (n : ℕ) → is_end n ≡ true → end_word (ended_of n) ≡ n
 end_again n e = go (eqb n 0) (eqb n 1) (eqb n 13) refl refl refl e
   where
     go : (a b c : Bool) → eqb n 0 ≡ a → eqb n 1 ≡ b → eqb n 13 ≡ c → (a || (b || (c || eqb n 14))) ≡ true
-        → end_word (cond a Going (cond b (Refused Incomplete) (cond c (Refused Checksum) (Refused Contents)))) ≡ n
+        → end_word (cond a None (cond b (Some Incomplete) (cond c (Some Checksum) (Some Contents)))) ≡ n
     go true b c p q r e = sym (eqb-true n 0 p)
     go false true c p q r e = sym (eqb-true n 1 q)
     go false false true p q r e = sym (eqb-true n 13 r)
@@ -144,20 +142,20 @@ words_of words e =
       its = and_right end its c;
     }
 
-pub held : (words : List ℕ) {u : Upload} → loaded words ≡ Held u → (is_upload words ≡ true) × (u ≡ upload_of words)
+pub held : (words : List ℕ) {u : Upload} → loaded words ≡ Some u → (is_upload words ≡ true) × (u ≡ upload_of words)
 unfolding loaded
 held words {u} e = go (is_upload words) refl e
   where
-    go : (b : Bool) → is_upload words ≡ b → cond b (Held (upload_of words)) Malformed ≡ Held u → (is_upload words ≡ true) × (u ≡ upload_of words)
+    go : (b : Bool) → is_upload words ≡ b → cond b (Some (upload_of words)) None ≡ Some u → (is_upload words ≡ true) × (u ≡ upload_of words)
     go true f e = (f, cc)
     go false f e = let z : ◌≡◌ {A = ℕ} 0 1 = cc in absurd (omega arith)
 
 -- and those that are none's are not
-pub other : (words : List ℕ) → loaded words ≡ Malformed → is_upload words ≡ false
+pub other : (words : List ℕ) → loaded words ≡ None → is_upload words ≡ false
 unfolding loaded
 other words e = go (is_upload words) e
   where
-    go : (b : Bool) → cond b (Held (upload_of words)) Malformed ≡ Malformed → b ≡ false
+    go : (b : Bool) → cond b (Some (upload_of words)) None ≡ None → b ≡ false
     go true e = let z : ◌≡◌ {A = ℕ} 0 1 = cc in absurd (omega arith)
     go false e = refl
 
@@ -166,7 +164,7 @@ unfolding loaded feed_words upload_with run_with source_words
 feed_back u ssrc base highest number kept unused =
     let s = u.run.totals.source in
     let back = source_held (source_words s) (record_back s base highest number) in
-    rw (form_word_fits u.blocks u.run.form, lt-ltb u.run.ssrc (2 ^ 32) ssrc, end_fits u.ended kept, back.1) (ap Held (λ i. record {
+    rw (form_word_fits u.blocks u.run.form, lt-ltb u.run.ssrc (2 ^ 32) ssrc, end_fits u.ended kept, back.1) (ap Some (λ i. record {
       run = record {
         form = form_word_back u.blocks u.run.form unused i;
         length = u.run.length;
@@ -203,5 +201,5 @@ zero_fits = record { least = le_z_yes tt; most = lt_z_yes tt }
 used : Unit {0}
 used =
     let back = feed_back fresh_upload (omega arith) zero_fits zero_fits refl refl (λ e. refl) in
-    let words = feed_words_back (replicate 18 0) fresh_upload (omega arith) (omega arith) (subst (λ (l : List ℕ). loaded l ≡ Held fresh_upload) fresh_is_zeros back) in
+    let words = feed_words_back (replicate 18 0) fresh_upload (omega arith) (omega arith) (subst (λ (l : List ℕ). loaded l ≡ Some fresh_upload) fresh_is_zeros back) in
     tt

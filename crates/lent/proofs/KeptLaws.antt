@@ -1,4 +1,6 @@
 -- What is kept of a receiver and its 4 words: taking out and putting back are inverse. Assumes nothing.
+use Rattle.std.specs.Prelude.{Option, Some, None}
+use Rattle.between.specs.declared.calls.Kept.{Kept}
 use mathlib.Core.Path.{◌≡◌, refl, sym, ap, ◌∙◌}
 use mathlib.Core.Bool.{Bool, true, false, cond}
 use mathlib.Core.List.{List, [], ◌∷◌}
@@ -10,37 +12,35 @@ use lib.ListN.{length, get_or}
 use lib.Seq.{take_all}
 use Rattle.answers.specs.Conditions.{all}
 use Rattle.answers.proofs.Conditions.{all_true, and_left, and_right}
-use Rattle.between.specs.declared.calls.MaybeKept.{MaybeKept}
 use Rattle.lent.specs.KeptWords.{kept_numbers, kept_in, numbers_fit, zeros, is_kept, loaded, kept_words, KeptBack, KeptWordsBack, some_kept, SomeKept}
-use Rattle.lent.specs.declared.kept_words.Loaded.TheVariants.{Held, Malformed}
 use Rattle.lent.proofs.SourceLaws.{elements, elements_are}
 
 -- the words that are those of it are 4
-pub held : (words : List ℕ) {kept : MaybeKept} → loaded words ≡ Held kept → (length words ≡ 4) × (is_kept words ≡ true) × (kept ≡ kept_in words)
+pub held : (words : List ℕ) {kept : Option Kept} → loaded words ≡ Some kept → (length words ≡ 4) × (is_kept words ≡ true) × (kept ≡ kept_in words)
 unfolding loaded
 held words {kept} e = go (is_kept words) refl e
   where
-    go : (b : Bool) → is_kept words ≡ b → cond b (Held (kept_in words)) Malformed ≡ Held kept → (length words ≡ 4) × (is_kept words ≡ true) × (kept ≡ kept_in words)
+    go : (b : Bool) → is_kept words ≡ b → cond b (Some (kept_in words)) None ≡ Some kept → (length words ≡ 4) × (is_kept words ≡ true) × (kept ≡ kept_in words)
     go true f e = (eqb-true (length words) 4 (and_left (eqb (length words) 4) (cond (eqb (get_or words 0 0) 1) (all (numbers_fit words)) (all (zeros words))) f), f, cc)
     go false f e = let z : ◌≡◌ {A = ℕ} 0 1 = cc in absurd (omega arith)
 
 -- and those that are not are refused
-pub other : (words : List ℕ) → loaded words ≡ Malformed → is_kept words ≡ false
+pub other : (words : List ℕ) → loaded words ≡ None → is_kept words ≡ false
 unfolding loaded
 other words e = go (is_kept words) e
   where
-    go : (b : Bool) → cond b (Held (kept_in words)) Malformed ≡ Malformed → b ≡ false
+    go : (b : Bool) → cond b (Some (kept_in words)) None ≡ None → b ≡ false
     go true e = let z : ◌≡◌ {A = ℕ} 0 1 = cc in absurd (omega arith)
     go false e = refl
 
-pub length-kept : (kept : MaybeKept) → length (kept_words kept) ≡ 4
-length-kept (MaybeKept.Present k) = refl
-length-kept MaybeKept.Absent = refl
+pub length-kept : (kept : Option Kept) → length (kept_words kept) ≡ 4
+length-kept (Some k) = refl
+length-kept None = refl
 
 pub kept_back : KeptBack
 unfolding loaded
-kept_back (MaybeKept.Present k) e = rw e
-kept_back MaybeKept.Absent e = refl
+kept_back (Some k) e = rw e
+kept_back None e = refl
 
 -- the four words by themselves
 four : (words : List ℕ) → length words ≡ 4 → words ≡ get_or words 0 0 ∷ get_or words 1 0 ∷ get_or words 2 0 ∷ get_or words 3 0 ∷ []
@@ -54,7 +54,7 @@ kept_words_back words kept e =
     ap kept_words h.2 ∙ go (eqb (get_or words 0 0) 1) refl rest ∙ sym (four words h.0)
   where
     go : (b : Bool) → eqb (get_or words 0 0) 1 ≡ b → cond b (all (numbers_fit words)) (all (zeros words)) ≡ true
-        → kept_words (cond b (MaybeKept.Present (kept_numbers words)) MaybeKept.Absent) ≡ get_or words 0 0 ∷ get_or words 1 0 ∷ get_or words 2 0 ∷ get_or words 3 0 ∷ []
+        → kept_words (cond b (Some (kept_numbers words)) None) ≡ get_or words 0 0 ∷ get_or words 1 0 ∷ get_or words 2 0 ∷ get_or words 3 0 ∷ []
     go true f g = ap (λ (n : ℕ). n ∷ get_or words 1 0 ∷ get_or words 2 0 ∷ get_or words 3 0 ∷ []) (sym (eqb-true (get_or words 0 0) 1 f))
     go false f g =
         let zero : (i : ℕ) → get_or (zeros words) i true ≡ true = λ i. all_true (zeros words) i g in

@@ -1,4 +1,8 @@
 -- Laws of a compound's words: four parts, one after the other. Assumes nothing.
+use Rattle.std.specs.Prelude.{Option, Some, None}
+use Rattle.rtcp.specs.declared.ReportBlock.{ReportBlock}
+use Rattle.rtcp.specs.declared.Feedback.{Feedback}
+use Rattle.format.specs.declared.Counts.{Counts}
 use mathlib.Core.Path.{◌≡◌, refl, sym, ap, ap₂, ◌∙◌}
 use mathlib.Core.List.{List, [], ◌∷◌, ◌++◌}
 use Prim.Native.Nat.{ℕ, ◌+◌}
@@ -6,27 +10,24 @@ use native.Mathlib.Omega.{arith}
 use lib.ListN.{length, length-append}
 use lib.Seq.{sets}
 use Rattle.answers.proofs.Stores.{sets-append}
-use Rattle.rtcp.specs.declared.MaybeReport.{MaybeReport}
-use Rattle.rtcp.specs.declared.MaybeFeedback.{MaybeFeedback}
-use Rattle.rtcp.specs.declared.MaybeSummary.{MaybeSummary}
 use Rattle.rtcp.specs.declared.Compound.{Compound}
 use Rattle.lent.specs.BreakerWords.{flag}
 use Rattle.lent.specs.CompoundWords.{report_words, feedback_words, summary_words, reporter_of, compound_words}
 
-length-report : (x : MaybeReport) → length (report_words x) ≡ 7
+length-report : (x : Option ReportBlock) → length (report_words x) ≡ 7
 unfolding report_words
-length-report (MaybeReport.Present x) = refl
-length-report MaybeReport.Absent = refl
+length-report (Some x) = refl
+length-report None = refl
 
-length-feedback : (x : MaybeFeedback) → length (feedback_words x) ≡ 9
+length-feedback : (x : Option Feedback) → length (feedback_words x) ≡ 9
 unfolding feedback_words
-length-feedback (MaybeFeedback.Present x) = refl
-length-feedback MaybeFeedback.Absent = refl
+length-feedback (Some x) = refl
+length-feedback None = refl
 
-length-summary : (x : MaybeSummary) → length (summary_words x) ≡ 7
+length-summary : (x : Option Counts) → length (summary_words x) ≡ 7
 unfolding summary_words
-length-summary (MaybeSummary.Present x) = refl
-length-summary MaybeSummary.Absent = refl
+length-summary (Some x) = refl
+length-summary None = refl
 
 module _ (c : Compound) where
   abbrev front : List ℕ

@@ -1,4 +1,5 @@
 -- A run and its 15 words: taking out and putting back are inverse. Assumes nothing.
+use Rattle.std.specs.Prelude.{Some, None}
 use mathlib.Core.Path.{◌≡◌, refl, sym, ap, ap₂, ◌∙◌, subst}
 use mathlib.Core.Bool.{Bool, true, false, cond, ◌&&◌, ◌||◌}
 use mathlib.Core.List.{List, [], ◌∷◌, ◌++◌}
@@ -17,8 +18,6 @@ use Rattle.convert.specs.declared.Run.{Run}
 use Rattle.lent.specs.FormWords.{form_number, is_form, form_of}
 use Rattle.lent.specs.SourceWords.{source_of, is_source, source_words, loaded as sourceLoaded}
 use Rattle.lent.specs.RunWords.{record_in, run_with, run_of, is_run, loaded, run_words, RunBack, RunWordsBack}
-use Rattle.lent.specs.declared.source_words.Loaded.TheVariants as source
-use Rattle.lent.specs.declared.run_words.Loaded.TheVariants.{Held, Malformed}
 use Rattle.lent.proofs.SourceLaws.{record_back, words_back, held as source_held, elements, elements_are}
 
 -- ---- the form
@@ -63,20 +62,20 @@ three_runs l run =
 -- ---- runs
 
 -- the words that are a run's are 15
-pub held : (words : List ℕ) {run : Run} → loaded words ≡ Held run → (length words ≡ 15) × (is_run words ≡ true) × (run ≡ run_of words)
+pub held : (words : List ℕ) {run : Run} → loaded words ≡ Some run → (length words ≡ 15) × (is_run words ≡ true) × (run ≡ run_of words)
 unfolding loaded
 held words {run} e = go (is_run words) refl e
   where
-    go : (b : Bool) → is_run words ≡ b → cond b (Held (run_of words)) Malformed ≡ Held run → (length words ≡ 15) × (is_run words ≡ true) × (run ≡ run_of words)
+    go : (b : Bool) → is_run words ≡ b → cond b (Some (run_of words)) None ≡ Some run → (length words ≡ 15) × (is_run words ≡ true) × (run ≡ run_of words)
     go true f e = (eqb-true (length words) 15 (and_left (eqb (length words) 15) (is_form (get_or words 0 0) && (ltb (get_or words 2 0) (2 ^ 32) && is_source (record_in words))) f), f, cc)
     go false f e = let z : ◌≡◌ {A = ℕ} 0 1 = cc in absurd (omega arith)
 
 -- and those that are none's are not
-pub other : (words : List ℕ) → loaded words ≡ Malformed → is_run words ≡ false
+pub other : (words : List ℕ) → loaded words ≡ None → is_run words ≡ false
 unfolding loaded
 other words e = go (is_run words) e
   where
-    go : (b : Bool) → cond b (Held (run_of words)) Malformed ≡ Malformed → b ≡ false
+    go : (b : Bool) → cond b (Some (run_of words)) None ≡ None → b ≡ false
     go true e = let z : ◌≡◌ {A = ℕ} 0 1 = cc in absurd (omega arith)
     go false e = refl
 
@@ -85,14 +84,14 @@ unfolding loaded run_words run_with source_words
 run_back run ssrc base highest number =
     let s = run.totals.source in
     let back = source_held (source_words s) (record_back s base highest number) in
-    rw (form_fits run.form, lt-ltb run.ssrc (2 ^ 32) ssrc, back.1) (ap Held (λ i. record {
+    rw (form_fits run.form, lt-ltb run.ssrc (2 ^ 32) ssrc, back.1) (ap Some (λ i. record {
       form = form_back run.form i;
       length = run.length;
       ssrc = run.ssrc;
       totals = record { source = sym back.2 i; jumped = run.totals.jumped; restarts = run.totals.restarts };
     }))
 
-pub source_again : (words : List ℕ) → is_source words ≡ true → sourceLoaded words ≡ source.Held (source_of words)
+pub source_again : (words : List ℕ) → is_source words ≡ true → sourceLoaded words ≡ Some (source_of words)
 unfolding sourceLoaded
 source_again words e = rw e
 

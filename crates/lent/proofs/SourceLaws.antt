@@ -1,4 +1,6 @@
 -- A source's record and its 10 words: taking out and putting back are inverse. Assumes nothing.
+use Rattle.std.specs.Prelude.{Option, Some, None}
+use Rattle.format.specs.declared.Wire.{Wire}
 use mathlib.Core.Path.{◌≡◌, refl, sym, ap, ap₂, ◌∙◌}
 use mathlib.Core.Bool.{Bool, true, false, cond}
 use mathlib.Core.List.{List, [], ◌∷◌, ◌++◌}
@@ -16,12 +18,9 @@ use Rattle.numbers.specs.Since.{signed}
 use Rattle.numbers.proofs.Integers.{eq_z_eq, minus_neg}
 use Rattle.numbers.proofs.Differences.{signed_low, signed_high}
 use Rattle.answers.proofs.Conditions.{and_left, all_true, true_is}
-use Rattle.source.specs.declared.Remembered.{Remembered}
-use Rattle.source.specs.declared.Remembered.TheVariants.{Nothing, Number}
 use Rattle.source.specs.declared.Source.{Source}
 use Rattle.source.specs.Record.{arrivals, distinct, zeros, fresh, sound, wire_number}
 use Rattle.source.proofs.Facts.{facts, sound_has_counted}
-use Rattle.lent.specs.declared.source_words.Loaded.TheVariants.{Held, Malformed}
 use Rattle.lent.specs.SourceWords.{remembered_word, remembered_in, source_with, source_of, is_source, loaded, source_words, FitsWord, RecordBack, WordsBack}
 
 -- ---- two's complement
@@ -48,12 +47,12 @@ word_back w h = go (dec_le (2 ^ 63) w)
 
 -- ---- what is remembered
 
-pub remembered_back : (r : Remembered) → wire_number r ≡ true → (remembered_in (remembered_word r) ≡ r) × (remembered_word r ≤ 65536)
-remembered_back Nothing e = (refl, omega arith)
-remembered_back (Number wire) e =
+pub remembered_back : (r : Option Wire) → wire_number r ≡ true → (remembered_in (remembered_word r) ≡ r) × (remembered_word r ≤ 65536)
+remembered_back None e = (refl, omega arith)
+remembered_back (Some wire) e =
     let same : wire.0 + 1 - 1 ≡ wire.0 = omega arith in
     let less : wire.0 < 65536 = ltb-true wire.0 65536 e in
-    (rw (ne_eqb (wire.0 + 1) 0 (λ z. omega arith)) (λ i. Number (record { 0 = same i })), omega arith)
+    (rw (ne_eqb (wire.0 + 1) 0 (λ z. omega arith)) (λ i. Some (record { 0 = same i })), omega arith)
 
 remembered_word_lem : (n : ℕ) → remembered_word (remembered_in n) ≡ n
 remembered_word_lem zero = refl
@@ -65,7 +64,7 @@ pub record_back : RecordBack
 unfolding source_with loaded source_words
 record_back s base highest number =
     let r = remembered_back s.remembered number in
-    rw (le-leb (remembered_word s.remembered) 65536 r.1) (ap Held (λ i. record {
+    rw (le-leb (remembered_word s.remembered) 65536 r.1) (ap Some (λ i. record {
       base = record { 0 = number_back s.base.0 base i };
       highest = record { 0 = number_back s.highest.0 highest i };
       notect = s.notect;
@@ -78,20 +77,20 @@ record_back s base highest number =
     }))
 
 -- the words that are a record's are 10
-pub held : (words : List ℕ) {s : Source} → loaded words ≡ Held s → (length words ≡ 10) × (is_source words ≡ true) × (s ≡ source_of words)
+pub held : (words : List ℕ) {s : Source} → loaded words ≡ Some s → (length words ≡ 10) × (is_source words ≡ true) × (s ≡ source_of words)
 unfolding loaded
 held words {s} e = go (is_source words) refl e
   where
-    go : (b : Bool) → is_source words ≡ b → cond b (Held (source_of words)) Malformed ≡ Held s → (length words ≡ 10) × (is_source words ≡ true) × (s ≡ source_of words)
+    go : (b : Bool) → is_source words ≡ b → cond b (Some (source_of words)) None ≡ Some s → (length words ≡ 10) × (is_source words ≡ true) × (s ≡ source_of words)
     go true f e = (eqb-true (length words) 10 (and_left (eqb (length words) 10) (leb (get_or words 9 0) 65536) f), f, cc)
     go false f e = let z : ◌≡◌ {A = ℕ} 0 1 = cc in absurd (omega arith)
 
 -- and those that are none's are not
-pub other : (words : List ℕ) → loaded words ≡ Malformed → is_source words ≡ false
+pub other : (words : List ℕ) → loaded words ≡ None → is_source words ≡ false
 unfolding loaded
 other words e = go (is_source words) e
   where
-    go : (b : Bool) → cond b (Held (source_of words)) Malformed ≡ Malformed → b ≡ false
+    go : (b : Bool) → cond b (Some (source_of words)) None ≡ None → b ≡ false
     go true e = let z : ◌≡◌ {A = ℕ} 0 1 = cc in absurd (omega arith)
     go false e = refl
 
@@ -125,11 +124,11 @@ words_back words s base highest e =
 fits : (n : ℕ) {z : ℤ} → z ≡ pos n → n < 2 ^ 63 → FitsWord z
 fits n e h = rw e (record { least = record { le = tt }; most = record { lt = lt→ltb n (2 ^ 63) h } })
 
-pub sound_back : (s : Source) → sound s ≡ true → wire_number s.remembered ≡ true → loaded (source_words s) ≡ Held s
+pub sound_back : (s : Source) → sound s ≡ true → wire_number s.remembered ≡ true → loaded (source_words s) ≡ Some s
 unfolding fresh
 sound_back s e n = go (fresh s) refl
   where
-    go : (b : Bool) → fresh s ≡ b → loaded (source_words s) ≡ Held s
+    go : (b : Bool) → fresh s ≡ b → loaded (source_words s) ≡ Some s
     go true f =
         record_back s (fits 0 (eq_z_eq s.base.0 (pos 0) (true_is _ (all_true (zeros s) 0 f))) (omega arith))
         (fits 0 (eq_z_eq s.highest.0 (pos 0) (true_is _ (all_true (zeros s) 1 f))) (omega arith)) n

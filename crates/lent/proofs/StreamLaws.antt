@@ -1,8 +1,9 @@
 -- A run of ecnstreams and its words: taking out and putting back are inverse. Assumes nothing.
+use Rattle.std.specs.Prelude.{Option, Some, None, Ok}
+use Rattle.format.specs.declared.Wire.{Wire}
 use mathlib.Core.Path.{◌≡◌, refl, sym, ap, ap₂, ◌∙◌}
 use mathlib.Core.Bool.{Bool, true, false, cond, not, ◌&&◌, false≢true}
 use mathlib.Core.List.{List, [], ◌∷◌, ◌++◌, map, append_assoc}
-use mathlib.Core.Option.{none, some}
 use Prim.Native.Nat.{ℕ, zero, suc, ◌+◌, ◌-◌, ◌*◌, ◌^◌, ◌≤◌, ◌<◌}
 use native.Mathlib.Nat.{zero-add}
 use native.Mathlib.Omega.{arith}
@@ -16,8 +17,6 @@ use Rattle.answers.specs.Conditions.{all}
 use Rattle.answers.specs.declared.Refusal.TheVariants.{Malformed, Rules}
 use Rattle.answers.proofs.Conditions.{and_left, and_right, all_true, true_is}
 use Rattle.answers.proofs.Stores.{sets-front}
-use Rattle.source.specs.declared.Remembered.{Remembered}
-use Rattle.source.specs.declared.Remembered.TheVariants.{Nothing, Number}
 use Rattle.source.specs.Record.{nothing, zeros, fresh, wire_number}
 use Rattle.sources.specs.declared.Place.{Place}
 use Rattle.sources.specs.declared.Table.{Table}
@@ -35,7 +34,6 @@ use Rattle.sources.proofs.RunFaults.{GoodRun, good_run}
 use Rattle.sources.proofs.LineLaws.{lines_long}
 use Rattle.lent.specs.SourceWords.{remembered_word, source_with, source_words}
 use Rattle.lent.specs.StreamWords.{run_words, line_words, lines_words, stored_lines, place_in, tally_in, each_line, held_in, run_of, is_held, line_fits, are_ruled, are_fit, words_fault, loaded, typed, Lendable, StreamBack, StreamWordsBack, TakenRules}
-use Rattle.lent.specs.declared.stream_words.Answer.TheVariants.{Taken}
 use Rattle.lent.proofs.SourceLaws.{remembered_back, held as held-source, elements, elements_are, words_front, sound_back}
 use Rattle.lent.proofs.RunLaws.{form_fits, form_back, form_word_lem}
 use Rattle.lent.proofs.StreamRuns.{length-each, length-line}
@@ -43,9 +41,9 @@ use Rattle.lent.proofs.StreamTaking.{three, few, enough, Sound, none_sound, take
 
 -- ---- an empty place, and places behind the held ones
 
-nothing_is : (r : Remembered) → nothing r ≡ true → r ≡ Nothing
-nothing_is Nothing e = refl
-nothing_is (Number wire) e = absurd (false≢true e)
+nothing_is : (r : Option Wire) → nothing r ≡ true → r ≡ None
+nothing_is None e = refl
+nothing_is (Some wire) e = absurd (false≢true e)
 
 empty_is : (p : Place) → empty p ≡ true → p ≡ empty_place
 unfolding fresh
@@ -144,7 +142,7 @@ module _ (rest : List ℕ) where
 
 -- ---- a run reads back
 
-module _ (run : Run) (ws : List ℕ) (room : 208 ≤ length ws) (good : run_fault run ≡ none) (fit : Lendable run) where
+module _ (run : Run) (ws : List ℕ) (room : 208 ≤ length ws) (good : run_fault run ≡ None) (fit : Lendable run) where
   abbrev t : Table
   t = run.table
 
@@ -168,7 +166,7 @@ module _ (run : Run) (ws : List ℕ) (room : 208 ≤ length ws) (good : run_faul
 
   k : Kept (lent t)
   unfolding fault_in
-  k = kept (lent t) (sym (λ i. cond (not_over i) (some Rules) (fault (lent t))) ∙ g.table)
+  k = kept (lent t) (sym (λ i. cond (not_over i) (Some Rules) (fault (lent t))) ∙ g.table)
 
   sounds : all (map sound_place hs) ≡ true
   sounds = k.sounds
@@ -220,20 +218,17 @@ module _ (run : Run) (ws : List ℕ) (room : 208 ≤ length ws) (good : run_faul
       sets-eq ts (replicate 16 no_tally) 0 (omega (arith, n, most)) ∙ ap (λ (m : ℕ). ts ++ drop m (replicate 16 no_tally)) (zero-add (length ts) ∙ n)
       ∙ ap (λ (us : List Tally). ts ++ us) (sym fit.rest) ∙ take-append-drop (length hs) run.tallies
 
-  reads_back : loaded (run_words run) stored ≡ record { run = run; answer = Taken }
+  reads_back : loaded (run_words run) stored ≡ Ok run
   unfolding loaded words_fault run_of
   reads_back =
       let length-kept : length stored ≡ length ws = length-sets ws 0 (lines_words lines) in
       rw (le-leb 208 (length stored) (omega (arith, length-kept, room)), le-leb (length lines) most_places (omega (arith, many, most)), rise, they_held, form_fits run.form, they_fit)
-      (λ i. record {
-        run = record {
-          form = form_back run.form i;
-          length = run.length;
-          table = record { places = (ap (sets (replicate 16 empty_place) 0) the_places ∙ same_places) i; count = sym g.count i };
-          tallies = (ap (sets (replicate 16 no_tally) 0) the_tallies ∙ same_tallies) i;
-        };
-        answer = Taken;
-      })
+      (λ i. Ok (record {
+        form = form_back run.form i;
+        length = run.length;
+        table = record { places = (ap (sets (replicate 16 empty_place) 0) the_places ∙ same_places) i; count = sym g.count i };
+        tallies = (ap (sets (replicate 16 no_tally) 0) the_tallies ∙ same_tallies) i;
+      }))
 
 pub stream_back : StreamBack
 stream_back run ws room good fit = reads_back run ws room good fit
@@ -333,12 +328,12 @@ module _ (words ws : List ℕ) (s : Sound words ws) where
   unfolding run_of
   few_over = refl
 
-  only_9 : fault_in (run_of words ws).table ≡ cond (not (all (map sound_place qs))) (some Malformed) none
+  only_9 : fault_in (run_of words ws).table ≡ cond (not (all (map sound_place qs))) (Some Malformed) None
   unfolding fault_in fault
   only_9 =
       let ps = lent (run_of words ws).table in
       let rise = ap (rising 0) its_held ∙ all_true (are_ruled n ws) 0 s.ruled in
-      rw (few_over, le-leb (length ps) most_places its_length, rise, its_rest) (λ i. cond (not (all (map sound_place (its_held i)))) (some Malformed) none)
+      rw (few_over, le-leb (length ps) most_places its_length, rise, its_rest) (λ i. cond (not (all (map sound_place (its_held i)))) (Some Malformed) None)
 
   tallies_are : (run_of words ws).tallies ≡ sets (replicate 16 no_tally) 0 (each_line tally_in n ws)
   unfolding run_of
@@ -367,7 +362,7 @@ module _ (words ws : List ℕ) (s : Sound words ws) where
       ∙ (λ i. lines_words (its_lines i) ++ drop (size i) ws) ∙ lines_back n ws (drop n (replicate 16 no_tally)) room bits
 
 pub stream_words_back : StreamWordsBack
-stream_words_back words ws bits e =
+stream_words_back words ws run bits e =
     let f = taken words ws e in
     let s = none_sound words ws f.0 in
     (ap run_words f.1 ∙ run_words_lem words ws s, ap (stored_lines ws) f.1 ∙ line_words_lem words ws s bits)

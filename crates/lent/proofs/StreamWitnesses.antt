@@ -32,6 +32,6 @@ used : Unit {0}
 unfolding source_with signed each_line run_of words_fault loaded run_fault fault_in fault rising held_of rest_of sound fresh has_counted marks place places ones
 used =
     let back = stream_back (run_of some_words some_lines) some_lines (omega arith) refl (record { places = refl; fits = refl; tallies = refl; rest = refl }) in
-    let words = stream_words_back some_words some_lines (fit_words some_lines refl) refl in
+    let words = stream_words_back some_words some_lines (run_of some_words some_lines) (fit_words some_lines refl) refl in
     let rules = taken_rules some_words some_lines refl in
     tt

@@ -1,4 +1,5 @@
 -- A table and its words: taking out and putting back are inverse. Assumes nothing.
+use Rattle.std.specs.Prelude.{Ok}
 use mathlib.Core.Path.{◌≡◌, refl, sym, ap, ap₂, ◌∙◌}
 use mathlib.Core.Bool.{Bool, true, false, cond, ◌&&◌}
 use mathlib.Core.List.{List, [], ◌∷◌, ◌++◌, map}
@@ -19,7 +20,6 @@ use Rattle.sources.proofs.Checking.{kept, kept_empties}
 use Rattle.sources.proofs.Loaded.{few_lent}
 use Rattle.lent.specs.SourceWords.{remembered_word, source_with, source_words}
 use Rattle.lent.specs.TableWords.{place_words, table_words, place_of, places_by, whole_places, places_in, each_below, are_places, are_wires, words_fault, unfit, loaded, typed_place, TableBack, TableWordsBack}
-use Rattle.lent.specs.declared.table_words.Answer.TheVariants.{Taken}
 use Rattle.lent.proofs.SourceLaws.{remembered_back, held as held-source, words_front, sound_back}
 use Rattle.lent.proofs.PlaceRuns.{length-table}
 use Rattle.lent.proofs.Taking.{taken}
@@ -41,7 +41,7 @@ places_back (suc n) words long bits =
     ap₂ (λ (x y : List ℕ). x ++ y) (place_back words (omega arith) bits) (places_back n rest (length-drop 11 words ∙ omega arith) behind) ∙ take-append-drop 11 words
 
 pub table_words_back : TableWordsBack
-table_words_back words bits e =
+table_words_back words t bits e =
     let f = taken words e in
     let n : length words ≡ 11 * whole_places words = omega (arith, f.long) in
     ap table_words (ap table.lent f.table ∙ few_lent (places_in words) f.short) ∙ places_back (whole_places words) words n bits
@@ -113,4 +113,4 @@ table_back ps f t =
     let places : all (are_places words) ≡ true = rw (whole, n, le-leb (length ps) most_places most, ssrcs_fit_lem ps t) in
     let wires : are_wires words ≡ true = rw (n, wires_fit ps t) in
     let same : places_in words ≡ ps = ap (λ (j : ℕ). places_by place_of j words) n ∙ places_of ps (all_sound_lem ps k.sounds (kept_empties ps k.ruled)) t in
-    (rw (places, wires) (λ i. record { table = table.loaded (same i); answer = Taken }), rw (places, wires, same, k.ruled, k.sounds))
+    (rw (places, wires) (λ i. Ok (table.loaded (same i))), rw (places, wires, same, k.ruled, k.sounds))

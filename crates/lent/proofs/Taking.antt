@@ -1,8 +1,8 @@
 -- Which words a table is taken from, and what is then left for its calls to refuse. Assumes nothing.
+use Rattle.std.specs.Prelude.{Option, Some, None, Ok, Err}
 use mathlib.Core.Path.{◌≡◌, refl, sym, ap, ap₂, ◌∙◌}
 use mathlib.Core.Bool.{Bool, true, false, cond, not, ◌&&◌}
 use mathlib.Core.List.{List, ◌∷◌}
-use mathlib.Core.Option.{Option, none, some}
 use Prim.Native.Nat.{ℕ, zero, suc, ◌*◌, ◌%◌, ◌^◌, ◌≤◌, ◌<◌, min}
 use native.Mathlib.Nat.{mod-eq_of_lt}
 use native.Mathlib.Omega.{arith}
@@ -17,7 +17,6 @@ use Rattle.answers.proofs.Conditions.{and_left, and_right, all_true}
 use Rattle.source.specs.Record.{nothing, fresh}
 use Rattle.sources.specs.declared.Place.{Place}
 use Rattle.sources.specs.declared.Table.{Table}
-use Rattle.sources.specs.declared.Checked.TheVariants.{Held, Refused as NotHeld}
 use Rattle.sources.specs.Rules.{most_places, rules, all_sound, fault}
 use Rattle.sources.specs.Checks.{checked_in}
 use Rattle.sources.specs.Tables as table
@@ -26,7 +25,6 @@ use Rattle.sources.proofs.Loaded.{few_fault}
 use Rattle.lent.specs.SourceWords.{remembered_in, source_with}
 use Rattle.lent.specs.TableWords.{place_of, places_by, whole_places, places_in, each_below, are_places, are_wires, words_fault, unfit, loaded_by, loaded}
 use Rattle.lent.specs.TableReads.{place_near, places_near}
-use Rattle.lent.specs.declared.table_words.Answer.TheVariants.{Taken, Refused}
 use Rattle.lent.proofs.PlaceRuns.{length-places_by}
 use Rattle.lent.proofs.Alike.{Alike, AllAlike, rules_alike}
 
@@ -69,9 +67,9 @@ module _ (words : List ℕ) where
   abbrev near : List Place
   near = places_near (whole_places words) words
 
-  pub outside : (t : Table) → all (are_places words) ≡ false → loaded_by (some Rules) t ≡ loaded words
+  pub outside : all (are_places words) ≡ false → Err Rules ≡ loaded words
   unfolding loaded unfit words_fault
-  outside t e = rw e
+  outside e = rw e
 
   module _ (e : all (are_places words) ≡ true) where
     pub whole : length words ≡ 11 * whole_places words
@@ -89,71 +87,71 @@ module _ (words : List ℕ) where
     near_rules : all (rules near) ≡ all (rules (places_in words))
     near_rules = rules_alike near (places_in words) (near_all (whole_places words) words ssrcs)
 
-    pub fitting : {t : Table} → are_wires words ≡ true → t ≡ table.loaded near → record { table = t; answer = Taken } ≡ loaded words
+    pub fitting : {t : Table} → are_wires words ≡ true → t ≡ table.loaded near → Ok t ≡ loaded words
     unfolding loaded unfit
-    fitting w h = rw (e, w) (λ i. record { table = (h ∙ ap table.loaded (near_is (whole_places words) words ssrcs w)) i; answer = Taken })
+    fitting w h = rw (e, w) (λ i. Ok ((h ∙ ap table.loaded (near_is (whole_places words) words ssrcs w)) i))
 
     module _ (w : are_wires words ≡ false) where
-      too_large : {r : Refusal} (t : Table) → words_fault words ≡ some r → loaded_by (some r) t ≡ loaded words
+      too_large : {r : Refusal} → words_fault words ≡ Some r → Err r ≡ loaded words
       unfolding loaded unfit
-      too_large t h = rw (e, w, h)
+      too_large h = rw (e, w, h)
 
-      pub large_held : {u : Table} {n : ℕ} (t : Table) → u ≡ table.loaded near → Held n ≡ checked_in u → loaded_by (some Malformed) t ≡ loaded words
+      pub large_held : {u : Table} {n : ℕ} → u ≡ table.loaded near → Ok n ≡ checked_in u → Err Malformed ≡ loaded words
       unfolding words_fault
-      large_held {u} t h c =
+      large_held {u} h c =
           let good = (told_held u c).kept in
           let k = kept near (sym (few_fault near near_few) ∙ ap (λ (x : Table). table.fault_in x) (sym h) ∙ good) in
-          too_large t (rw (e, sym near_rules ∙ k.ruled, w))
+          too_large (rw (e, sym near_rules ∙ k.ruled, w))
 
-      pub large_refused : {u : Table} {r : Refusal} (t : Table) → u ≡ table.loaded near → NotHeld r ≡ checked_in u → loaded_by (some r) t ≡ loaded words
+      pub large_refused : {u : Table} {r : Refusal} → u ≡ table.loaded near → Err r ≡ checked_in u → Err r ≡ loaded words
       unfolding words_fault fault
-      large_refused {u} {r} t h c = too_large t (rw (e, w) (go (all (rules near)) refl (all_sound near) refl))
+      large_refused {u} {r} h c = too_large (rw (e, w) (go (all (rules near)) refl (all_sound near) refl))
         where
-          given : fault near ≡ some r
+          given : fault near ≡ Some r
           given = sym (few_fault near near_few) ∙ ap (λ (x : Table). table.fault_in x) (sym h) ∙ told_refused u c
 
-          go : (a : Bool) → all (rules near) ≡ a → (b : Bool) → all_sound near ≡ b → cond (not (all (rules (places_in words)))) (some Rules) (some Malformed) ≡ some r
+          go : (a : Bool) → all (rules near) ≡ a → (b : Bool) → all_sound near ≡ b → cond (not (all (rules (places_in words)))) (Some Rules) (Some Malformed) ≡ Some r
           go true ra true rb = let g = rw (ra, rb) at given in let z : ◌≡◌ {A = ℕ} 0 1 = cc in absurd (omega arith)
           go true ra false rb = rw (sym near_rules ∙ ra) (rw (ra, rb) at given)
           go false ra b rb = rw (sym near_rules ∙ ra) (rw ra at given)
 
 -- ---- what is known of words by what was given
 
-pub record Fit (words : List ℕ) : Type 0 where
+pub record Fit (words : List ℕ) (t : Table) : Type 0 where
   pub long : length words ≡ 11 * length (places_in words)
   pub short : ltb most_places (length (places_in words)) ≡ false
-  pub table : (loaded words).table ≡ table.loaded (places_in words)
+  pub table : t ≡ table.loaded (places_in words)
   pub faults : words_fault words ≡ fault (places_in words)
 
 module _ (words : List ℕ) where
-  fits_all : all (are_places words) ≡ true → are_wires words ≡ true → Fit words
-  unfolding loaded unfit words_fault fault
-  fits_all e w =
+  fits_all : {t : Table} → all (are_places words) ≡ true → are_wires words ≡ true → t ≡ table.loaded (places_in words) → Fit words t
+  unfolding words_fault fault
+  fits_all e w h =
       let n = length-places_by place_of (whole_places words) words in
       record {
         long = omega (arith, whole words e, n);
         short = le-ltb most_places (length (places_in words)) (omega (arith, few words e, n));
-        table = rw (e, w);
+        table = h;
         faults = rw (e, w);
       }
 
-  pub taken : (loaded words).answer ≡ Taken → Fit words
+  pub taken : {t : Table} → loaded words ≡ Ok t → Fit words t
   unfolding loaded unfit words_fault
-  taken h = go (all (are_places words)) refl (are_wires words) refl (all (rules (places_in words))) refl h
+  taken {t} h = go (all (are_places words)) refl (are_wires words) refl (all (rules (places_in words))) refl h
     where
       go : (a : Bool) → all (are_places words) ≡ a → (b : Bool) → are_wires words ≡ b → (c : Bool) → all (rules (places_in words)) ≡ c
-          → (loaded_by (cond (a && b) none (cond (not a) (some Rules) (cond (not c) (some Rules) (cond (not (b && all_sound (places_in words))) (some Malformed) none)))) (table.loaded (places_in words))).answer ≡ Taken
-          → Fit words
-      go true ra true rb c rc h = fits_all ra rb
+          → loaded_by (cond (a && b) None (cond (not a) (Some Rules) (cond (not c) (Some Rules) (cond (not (b && all_sound (places_in words))) (Some Malformed) None)))) (table.loaded (places_in words)) ≡ Ok t
+          → Fit words t
+      go true ra true rb c rc h = fits_all ra rb (cc)
       go true ra false rb true rc h = let z : ◌≡◌ {A = ℕ} 0 1 = cc in absurd (omega arith)
       go true ra false rb false rc h = let z : ◌≡◌ {A = ℕ} 0 1 = cc in absurd (omega arith)
       go false ra b rb c rc h = let z : ◌≡◌ {A = ℕ} 0 1 = cc in absurd (omega arith)
 
-  pub not_taken : {r : Refusal} → (loaded words).answer ≡ Refused r → words_fault words ≡ some r
+  pub not_taken : {r : Refusal} → loaded words ≡ Err r → words_fault words ≡ Some r
   unfolding loaded unfit
   not_taken {r} h = go (all (are_places words) && are_wires words) (words_fault words) h
     where
-      go : (b : Bool) (f : Option Refusal) → (loaded_by (cond b none f) (table.loaded (places_in words))).answer ≡ Refused r → f ≡ some r
+      go : (b : Bool) (f : Option Refusal) → loaded_by (cond b None f) (table.loaded (places_in words)) ≡ Err r → f ≡ Some r
       go true f h = let z : ◌≡◌ {A = ℕ} 0 1 = cc in absurd (omega arith)
-      go false (some q) h = cc
-      go false none h = let z : ◌≡◌ {A = ℕ} 0 1 = cc in absurd (omega arith)
+      go false (Some q) h = cc
+      go false None h = let z : ◌≡◌ {A = ℕ} 0 1 = cc in absurd (omega arith)

@@ -17,6 +17,7 @@ use Rattle.sources.specs.Places.{held_of, rest_of}
 use Rattle.sources.specs.Rules.{rising, fault}
 use Rattle.numbers.specs.Since.{signed}
 use Rattle.lent.specs.SourceWords.{source_with, source_of, loaded}
+use Rattle.sources.specs.Tables as tables
 use Rattle.lent.specs.TableWords as table
 use Rattle.lent.specs.TableWords.{places_by, places_in, each_below, words_fault, unfit}
 use Rattle.lent.specs.BreakerWords.{breaker_of, words_fit}
@@ -66,7 +67,7 @@ used =
     let source = record_back (source_of some_source) met.base_fits met.highest_fits met.remembered_fits in
     let source-words = words_back some_source (source_of some_source) met.base_word met.highest_word met.source_held in
     let table = table_back (places_in some_table) met.table_good met.table_typed in
-    let table-words = table_words_back some_table met.table_bits met.table_taken in
+    let table-words = table_words_back some_table (tables.loaded (places_in some_table)) met.table_bits met.table_taken in
     let breaker = breaker_restored (breaker_of some_breaker) met.breaker_typed in
     let breaker-words = words_restored some_breaker met.breaker_long met.breaker_fits in
     let run = run_back (run_of some_run) met.run_ssrc met.base_fits met.highest_fits met.remembered_fits in

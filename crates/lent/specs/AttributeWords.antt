@@ -1,19 +1,16 @@
 -- What an attribute says (RFC 6679, section 6.1; document 02, request L12) in 11 words, in the order of include/flasknib.h: how many methods, eight methods, the
 -- mode and the ect.
-use Rattle.std.specs.Prelude.{◌≡◌, Bool, cond, ◌&&◌, ◌||◌, List, [], ◌∷◌, ℕ, ◌+◌, ◌≤◌, eqb, leb, ltb, length, get_or}
+use Rattle.sdp.specs.declared.Mode.{Mode}
+use Rattle.sdp.specs.declared.Ect.{Ect}
+use Rattle.std.specs.Prelude.{◌≡◌, Bool, cond, ◌&&◌, ◌||◌, List, [], ◌∷◌, ℕ, ◌+◌, ◌≤◌, eqb, leb, ltb, length, get_or, Option, Some, None}
 use Rattle.answers.specs.Conditions.{all}
 use Rattle.sdp.specs.declared.Method.{Method}
 use Rattle.sdp.specs.declared.Method.TheVariants.{Rtp, Ice, Leap}
 use Rattle.sdp.specs.declared.Mode.TheVariants.{SetOnly, SetRead, ReadOnly}
 use Rattle.sdp.specs.declared.Ect.TheVariants.{Zero, One, Random}
-use Rattle.sdp.specs.declared.MaybeMode.{MaybeMode}
-use Rattle.sdp.specs.declared.MaybeEct.{MaybeEct}
-use Rattle.sdp.specs.declared.Listed.{Listed}
 use Rattle.sdp.specs.declared.Attribute.{Attribute}
-use Rattle.sdp.specs.Reading.{listed, attribute_of, nothing}
+use Rattle.sdp.specs.Reading.{attribute_of}
 use Rattle.sdp.specs.Writing.{methods_in}
-use Rattle.lent.specs.declared.attribute_words.Loaded.{Loaded}
-use Rattle.lent.specs.declared.attribute_words.Answer.TheVariants.{Held, Malformed}
 
 -- ---- numbers
 
@@ -23,18 +20,18 @@ method_number Ice = 2
 method_number Leap = 3
 
 -- 0 is absent; 1 sets, 2 reads
-abbrev pub mode_number : MaybeMode → ℕ
-mode_number MaybeMode.Absent = 0
-mode_number (MaybeMode.Present SetOnly) = 1
-mode_number (MaybeMode.Present ReadOnly) = 2
-mode_number (MaybeMode.Present SetRead) = 3
+abbrev pub mode_number : Option Mode → ℕ
+mode_number None = 0
+mode_number (Some SetOnly) = 1
+mode_number (Some ReadOnly) = 2
+mode_number (Some SetRead) = 3
 
 -- 0 is absent; ECT(1) and ECT(0) are numbered as the marks are
-abbrev pub ect_number : MaybeEct → ℕ
-ect_number MaybeEct.Absent = 0
-ect_number (MaybeEct.Present One) = 1
-ect_number (MaybeEct.Present Zero) = 2
-ect_number (MaybeEct.Present Random) = 3
+abbrev pub ect_number : Option Ect → ℕ
+ect_number None = 0
+ect_number (Some One) = 1
+ect_number (Some Zero) = 2
+ect_number (Some Random) = 3
 
 abbrev pub is_method : ℕ → Bool
 is_method n = leb 1 n && leb n 3
@@ -42,24 +39,24 @@ is_method n = leb 1 n && leb n 3
 abbrev pub method_of : ℕ → Method
 method_of n = cond (eqb n 2) Ice (cond (eqb n 3) Leap Rtp)
 
-abbrev pub mode_of : ℕ → MaybeMode
+abbrev pub mode_of : ℕ → Option Mode
 mode_of n =
-    cond (eqb n 1) (MaybeMode.Present SetOnly)
-    (cond (eqb n 2) (MaybeMode.Present ReadOnly)
-    (cond (eqb n 3) (MaybeMode.Present SetRead)
-    MaybeMode.Absent))
+    cond (eqb n 1) (Some SetOnly)
+    (cond (eqb n 2) (Some ReadOnly)
+    (cond (eqb n 3) (Some SetRead)
+    None))
 
-abbrev pub ect_of : ℕ → MaybeEct
+abbrev pub ect_of : ℕ → Option Ect
 ect_of n =
-    cond (eqb n 1) (MaybeEct.Present One)
-    (cond (eqb n 2) (MaybeEct.Present Zero)
-    (cond (eqb n 3) (MaybeEct.Present Random)
-    MaybeEct.Absent))
+    cond (eqb n 1) (Some One)
+    (cond (eqb n 2) (Some Zero)
+    (cond (eqb n 3) (Some Random)
+    None))
 
 -- ---- the record in words; a word past the end counts as 0
 
-abbrev pub listed_at : List ℕ → ℕ → Listed
-listed_at words at = listed (method_of (get_or words at 0))
+abbrev pub listed_at : List ℕ → ℕ → Method
+listed_at words at = method_of (get_or words at 0)
 
 unfoldable pub attribute_in : List ℕ → Attribute
 attribute_in words = record {
@@ -84,14 +81,14 @@ places_fit words =
 unfoldable pub is_attribute : List ℕ → Bool
 is_attribute words = eqb (length words) 11 && (all (places_fit words) && (ltb (get_or words 9 0) 4 && ltb (get_or words 10 0) 4))
 
-unfoldable pub loaded : List ℕ → Loaded
-loaded words =
-    cond (is_attribute words) (record { attribute = attribute_in words; answer = Held }) (record { attribute = nothing; answer = Malformed })
+-- the record, or none where they are no record's
+unfoldable pub loaded : List ℕ → Option Attribute
+loaded words = cond (is_attribute words) (Some (attribute_in words)) None
 
 -- ---- the 11 words of a record; a place that is not in use is 0
 
 abbrev pub place_word : Attribute → ℕ → ℕ
-place_word a i = cond (ltb i a.used) (method_number (get_or a.methods i (listed Rtp)).method) 0
+place_word a i = cond (ltb i a.used) (method_number (get_or a.methods i Rtp)) 0
 
 unfoldable pub attribute_words : Attribute → List ℕ
 attribute_words a =
@@ -104,7 +101,7 @@ attribute_words a =
 abbrev pub AttributeBack : Type 0
 AttributeBack =
     (a : Attribute) → length a.methods ≡ 8 → a.used ≤ 8
-    → loaded (attribute_words a) ≡ record { attribute = attribute_of (methods_in a) a.mode a.ect; answer = Held }
+    → loaded (attribute_words a) ≡ Some (attribute_of (methods_in a) a.mode a.ect)
 
 -- the methods that are not in use as 0
 abbrev pub kept : List ℕ → ℕ → ℕ
@@ -117,7 +114,7 @@ cleared words =
 
 -- words that are a record's are the words of that record, where those that are not in use are 0
 abbrev pub AttributeWordsBack : Type 0
-AttributeWordsBack = (words : List ℕ) → (loaded words).answer ≡ Held → attribute_words (loaded words).attribute ≡ cleared words
+AttributeWordsBack = (words : List ℕ) (a : Attribute) → loaded words ≡ Some a → attribute_words a ≡ cleared words
 
 -- ice and leap, setread, random; the word behind them is no method's
 abbrev pub some_attribute : List ℕ
@@ -125,6 +122,6 @@ some_attribute = 2 ∷ 2 ∷ 3 ∷ 9 ∷ 0 ∷ 0 ∷ 0 ∷ 0 ∷ 0 ∷ 3 ∷ 3 �
 
 -- the hypotheses can be met
 pub record SomeAttribute : Type 0 where
-  pub held : (loaded some_attribute).answer ≡ Held
+  pub held : loaded some_attribute ≡ Some (attribute_in some_attribute)
   pub eight : length (attribute_in some_attribute).methods ≡ 8
   pub few : (attribute_in some_attribute).used ≤ 8

@@ -1,5 +1,5 @@
 -- The breaker's record (document 01, "The breaker", and 02, requests L4 and L9) as 77 words, in the order of include/flasknib.h.
-use Rattle.std.specs.Prelude.{◌≡◌, Bool, true, cond, List, [], ◌∷◌, ℕ, zero, suc, ◌%◌, ◌^◌, leb, ltb, eqb, length, drop, get_or}
+use Rattle.std.specs.Prelude.{◌≡◌, Bool, true, cond, List, [], ◌∷◌, ℕ, zero, suc, ◌%◌, ◌^◌, leb, ltb, eqb, length, drop, get_or, ◌&&◌, Option, Some, None}
 use Rattle.answers.specs.Conditions.{all}
 use Rattle.breaker.specs.declared.Reason.TheVariants.{Timeout, Media, Congestion}
 use Rattle.breaker.specs.declared.State.{State}
@@ -10,7 +10,6 @@ use Rattle.breaker.specs.declared.Window.{Window}
 use Rattle.breaker.specs.declared.Breaker.{Breaker}
 use Rattle.breaker.specs.Answers.{reason_number}
 use Rattle.breaker.specs.Theorems.{Typed}
-use Rattle.lent.specs.declared.breaker_words.Loaded.{Loaded}
 
 -- ---- the words of a record
 
@@ -88,8 +87,9 @@ words_fit ws =
     ∷ leb (get_or ws 11 0) 1
     ∷ []
 
-abbrev pub loaded : List ℕ → Loaded
-loaded ws = record { ok = all (words_fit ws); breaker = breaker_of ws }
+-- the record that words are read as, where they fit a record's
+abbrev pub loaded : List ℕ → Option Breaker
+loaded ws = cond (all (words_fit ws)) (Some (breaker_of ws)) None
 
 -- ---- both ways are inverse
 

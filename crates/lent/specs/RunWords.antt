@@ -1,13 +1,11 @@
 -- A run of ecntable (document 01, "Table") in 15 words, in the order of include/flasknib.h: its form, the label's length, the SSRC, the 10 words of the
 -- source's record, jumped and restarts.
-use Rattle.std.specs.Prelude.{◌≡◌, Bool, true, cond, ◌&&◌, List, [], ◌∷◌, ◌++◌, ℕ, ◌^◌, ◌<◌, eqb, ltb, length, get_or, take, drop}
+use Rattle.std.specs.Prelude.{◌≡◌, Bool, true, cond, ◌&&◌, List, [], ◌∷◌, ◌++◌, ℕ, ◌^◌, ◌<◌, eqb, ltb, length, get_or, take, drop, Option, Some, None}
 use Rattle.source.specs.declared.Source.{Source}
 use Rattle.source.specs.Record.{wire_number}
 use Rattle.convert.specs.declared.Run.{Run}
 use Rattle.lent.specs.FormWords.{form_number, is_form, form_of}
 use Rattle.lent.specs.SourceWords.{source_of, is_source, source_words, FitsWord}
-use Rattle.lent.specs.declared.run_words.Loaded.{Loaded}
-use Rattle.lent.specs.declared.run_words.Loaded.TheVariants.{Held, Malformed}
 
 -- the words of the source's record
 abbrev pub record_in : List ℕ → List ℕ
@@ -29,8 +27,8 @@ run_of words = run_with words (source_of (record_in words))
 abbrev pub is_run : List ℕ → Bool
 is_run words = eqb (length words) 15 && (is_form (get_or words 0 0) && (ltb (get_or words 2 0) (2 ^ 32) && is_source (record_in words)))
 
-unfoldable pub loaded : List ℕ → Loaded
-loaded words = cond (is_run words) (Held (run_of words)) Malformed
+unfoldable pub loaded : List ℕ → Option Run
+loaded words = cond (is_run words) (Some (run_of words)) None
 
 -- the 15 words of a run
 unfoldable pub run_words : Run → List ℕ
@@ -44,8 +42,8 @@ run_words run =
 abbrev pub RunBack : Type 0
 RunBack =
     (run : Run) → run.ssrc < 2 ^ 32 → FitsWord run.totals.source.base.0 → FitsWord run.totals.source.highest.0
-    → wire_number run.totals.source.remembered ≡ true → loaded (run_words run) ≡ Held run
+    → wire_number run.totals.source.remembered ≡ true → loaded (run_words run) ≡ Some run
 
 -- words that are a run's, of which the signed ones have 64 bits, are the words of that run
 abbrev pub RunWordsBack : Type 0
-RunWordsBack = (words : List ℕ) (run : Run) → get_or words 3 0 < 2 ^ 64 → get_or words 4 0 < 2 ^ 64 → loaded words ≡ Held run → run_words run ≡ words
+RunWordsBack = (words : List ℕ) (run : Run) → get_or words 3 0 < 2 ^ 64 → get_or words 4 0 < 2 ^ 64 → loaded words ≡ Some run → run_words run ≡ words

@@ -1,26 +1,23 @@
 -- The record of one source (document 01, "Counting arrivals"; document 02, L5) in 10 words of 64 bits, in the order of include/flasknib.h: base,
 -- highest, not-ECT, ECT(1), ECT(0), CE, duplicates, places 0 to 63 of the history, places 64 to 99, the remembered number. A signed number is its
 -- two's complement.
-use Rattle.std.specs.Prelude.{◌≡◌, Bool, true, cond, ◌&&◌, List, [], ◌∷◌, ℕ, ◌+◌, ◌-◌, ◌^◌, ◌<◌, min, eqb, leb, ℤ, pos, neg_ℤ, length, get_or, ◌≤ℤ◌, ◌<ℤ◌}
+use Rattle.format.specs.declared.Wire.{Wire}
+use Rattle.std.specs.Prelude.{◌≡◌, Bool, true, cond, ◌&&◌, List, [], ◌∷◌, ℕ, ◌+◌, ◌-◌, ◌^◌, ◌<◌, min, eqb, leb, ℤ, pos, neg_ℤ, length, get_or, ◌≤ℤ◌, ◌<ℤ◌, Option, Some, None}
 use Rattle.numbers.specs.Integers.{modulo}
 use Rattle.numbers.specs.Since.{signed}
-use Rattle.source.specs.declared.Remembered.{Remembered}
-use Rattle.source.specs.declared.Remembered.TheVariants.{Nothing, Number}
 use Rattle.source.specs.declared.Source.{Source}
 use Rattle.source.specs.Record.{wire_number}
-use Rattle.lent.specs.declared.source_words.Loaded.{Loaded}
-use Rattle.lent.specs.declared.source_words.Loaded.TheVariants.{Held, Malformed}
 
 -- the last word: 0 for none, the remembered number + 1 otherwise
-abbrev pub remembered_word : Remembered → ℕ
-remembered_word Nothing = 0
-remembered_word (Number wire) = wire.0 + 1
+abbrev pub remembered_word : Option Wire → ℕ
+remembered_word None = 0
+remembered_word (Some wire) = wire.0 + 1
 
-abbrev pub remembered_in : ℕ → Remembered
-remembered_in n = cond (eqb n 0) Nothing (Number (record { 0 = n - 1 }))
+abbrev pub remembered_in : ℕ → Option Wire
+remembered_in n = cond (eqb n 0) None (Some (record { 0 = n - 1 }))
 
 -- the record in the first 9 words, with what it remembers; a word past the end counts as 0
-unfoldable pub source_with : List ℕ → Remembered → Source
+unfoldable pub source_with : List ℕ → Option Wire → Source
 source_with words remembered = record {
   base = record { 0 = signed 64 (get_or words 0 0) };
   highest = record { 0 = signed 64 (get_or words 1 0) };
@@ -44,8 +41,8 @@ source_near words = source_with words (remembered_in (min (get_or words 9 0) 655
 abbrev pub is_source : List ℕ → Bool
 is_source words = eqb (length words) 10 && leb (get_or words 9 0) 65536
 
-unfoldable pub loaded : List ℕ → Loaded
-loaded words = cond (is_source words) (Held (source_of words)) Malformed
+unfoldable pub loaded : List ℕ → Option Source
+loaded words = cond (is_source words) (Some (source_of words)) None
 
 -- the 10 words of a record
 unfoldable pub source_words : Source → List ℕ
@@ -72,8 +69,8 @@ pub record FitsWord (z : ℤ) : Type 0 where
 -- a record whose signed numbers fit their words, and whose remembered number is a wire number, reads back (the others are words as they stand)
 abbrev pub RecordBack : Type 0
 RecordBack =
-    (s : Source) → FitsWord s.base.0 → FitsWord s.highest.0 → wire_number s.remembered ≡ true → loaded (source_words s) ≡ Held s
+    (s : Source) → FitsWord s.base.0 → FitsWord s.highest.0 → wire_number s.remembered ≡ true → loaded (source_words s) ≡ Some s
 
 -- words that are a record's, of which the signed ones have 64 bits, are the words of that record
 abbrev pub WordsBack : Type 0
-WordsBack = (words : List ℕ) (s : Source) → get_or words 0 0 < 2 ^ 64 → get_or words 1 0 < 2 ^ 64 → loaded words ≡ Held s → source_words s ≡ words
+WordsBack = (words : List ℕ) (s : Source) → get_or words 0 0 < 2 ^ 64 → get_or words 1 0 < 2 ^ 64 → loaded words ≡ Some s → source_words s ≡ words

@@ -1,7 +1,6 @@
 -- A run of ecnstreams (document 02, request L1) in words of 64 bits, in the order of include/flasknib.h: 3 of the run, its form, the label's length and how many
 -- lines are held; and 13 for each line, its SSRC, the 10 words of its source's record, jumped and restarts. `ws` are the words of the lines.
-use Rattle.std.specs.Prelude.{◌≡◌, Bool, true, cond, not, ◌&&◌, List, [], ◌∷◌, ◌++◌, map, ℕ, zero, suc, ◌^◌, ◌≤◌, ◌<◌, eqb, leb, ltb, length, get_or, drop, replicate}
-use Rattle.std.proofs.Math.Option.{Option, none, some}
+use Rattle.std.specs.Prelude.{◌≡◌, Bool, true, cond, not, ◌&&◌, List, [], ◌∷◌, ◌++◌, map, ℕ, zero, suc, ◌^◌, ◌≤◌, ◌<◌, eqb, leb, ltb, length, get_or, drop, replicate, Option, Some, None, Result, Ok, Err}
 use Rattle.std.proofs.lemmas.List.Edits.{sets}
 use Rattle.answers.specs.Conditions.{all}
 use Rattle.answers.specs.declared.Refusal.{Refusal}
@@ -14,12 +13,10 @@ use Rattle.sources.specs.Places.{held, empty_place, sound_place, held_of}
 use Rattle.sources.specs.Rules.{most_places, rising}
 use Rattle.sources.specs.Tables.{lent, fault_in}
 use Rattle.sources.specs.Tallies.{no_tally}
-use Rattle.sources.specs.Runs.{no_run, run_fault}
+use Rattle.sources.specs.Runs.{run_fault}
 use Rattle.sources.specs.Rows.{Line, lines_of}
 use Rattle.lent.specs.FormWords.{form_number, is_form, form_of}
 use Rattle.lent.specs.SourceWords.{source_words, source_of}
-use Rattle.lent.specs.declared.stream_words.Loaded.{Loaded}
-use Rattle.lent.specs.declared.stream_words.Answer.TheVariants.{Taken, Refused}
 
 -- ---- the words of a run
 
@@ -69,7 +66,7 @@ run_of words ws = record {
 abbrev pub are_words : List ℕ → List ℕ → List Bool
 are_words words ws = eqb (length words) 3 ∷ leb 208 (length ws) ∷ leb (held_in words) most_places ∷ []
 
--- the rules of a table: in rising order of SSRC, none twice, and each has an arrival counted
+-- the rules of a table: in rising order of SSRC, None twice, and each has an arrival counted
 abbrev pub is_held : List ℕ → Bool
 is_held line = held (place_in line)
 
@@ -86,18 +83,18 @@ are_fit words ws = is_form (get_or words 0 0) ∷ all (each_line line_fits (held
 -- 9, 16, 9 (the calls of the run give the other 9s)
 unfoldable pub words_fault : List ℕ → List ℕ → Option Refusal
 words_fault words ws =
-    cond (not (all (are_words words ws))) (some Malformed)
-    (cond (not (all (are_ruled (held_in words) ws))) (some Rules)
-    (cond (not (all (are_fit words ws))) (some Malformed)
-    none))
+    cond (not (all (are_words words ws))) (Some Malformed)
+    (cond (not (all (are_ruled (held_in words) ws))) (Some Rules)
+    (cond (not (all (are_fit words ws))) (Some Malformed)
+    None))
 
 -- ---- the run taken from words
 
-abbrev pub loaded_by : Option Refusal → Run → Loaded
-loaded_by (some refusal) run = record { run = no_run; answer = Refused refusal }
-loaded_by none run = record { run = run; answer = Taken }
+abbrev pub loaded_by : Option Refusal → Run → Result Run Refusal
+loaded_by (Some refusal) run = Err refusal
+loaded_by None run = Ok run
 
-unfoldable pub loaded : List ℕ → List ℕ → Loaded
+unfoldable pub loaded : List ℕ → List ℕ → Result Run Refusal
 loaded words ws = loaded_by (words_fault words ws) (run_of words ws)
 
 -- ---- both are inverse
@@ -116,19 +113,19 @@ pub record Lendable (run : Run) : Type 0 where
 -- the words of a run that neither 16 nor 9 refuses, stored over any words, read back to it
 abbrev pub StreamBack : Type 0
 StreamBack =
-    (run : Run) (ws : List ℕ) → 208 ≤ length ws → run_fault run ≡ none → Lendable run
-    → loaded (run_words run) (stored_lines ws run) ≡ record { run = run; answer = Taken }
+    (run : Run) (ws : List ℕ) → 208 ≤ length ws → run_fault run ≡ None → Lendable run
+    → loaded (run_words run) (stored_lines ws run) ≡ Ok run
 
 -- words that are taken, of 64 bits each, are the words of their run
 abbrev pub StreamWordsBack : Type 0
 StreamWordsBack =
-    (words ws : List ℕ) → ((i : ℕ) → get_or ws i 0 < 2 ^ 64) → (loaded words ws).answer ≡ Taken
-    → (run_words (loaded words ws).run ≡ words) × (stored_lines ws (loaded words ws).run ≡ ws)
+    (words ws : List ℕ) (run : Run) → ((i : ℕ) → get_or ws i 0 < 2 ^ 64) → loaded words ws ≡ Ok run
+    → (run_words run ≡ words) × (stored_lines ws run ≡ ws)
 
 -- ---- 16 comes before 9
 
 -- of the table in words that are taken only a malformed held record is left to refuse, with 9
 abbrev pub TakenRules : Type 0
 TakenRules =
-    (words ws : List ℕ) → words_fault words ws ≡ none
-    → fault_in (run_of words ws).table ≡ cond (not (all (map sound_place (each_line place_in (held_in words) ws)))) (some Malformed) none
+    (words ws : List ℕ) → words_fault words ws ≡ None
+    → fault_in (run_of words ws).table ≡ cond (not (all (map sound_place (each_line place_in (held_in words) ws)))) (Some Malformed) None

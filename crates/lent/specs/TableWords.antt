@@ -1,7 +1,6 @@
 -- A table of several sources (document 02, L1) in words of 64 bits, in the order of include/flasknib.h: 11 words for each place, its SSRC and the 10 words of
 -- its source's record.
-use Rattle.std.specs.Prelude.{◌≡◌, Bool, true, cond, not, ◌&&◌, List, [], ◌∷◌, ◌++◌, map, ℕ, zero, suc, ◌/◌, ◌%◌, ◌^◌, ◌<◌, eqb, leb, ltb, length, get_or, drop}
-use Rattle.std.proofs.Math.Option.{Option, none, some}
+use Rattle.std.specs.Prelude.{◌≡◌, Bool, true, cond, not, ◌&&◌, List, [], ◌∷◌, ◌++◌, map, ℕ, zero, suc, ◌/◌, ◌%◌, ◌^◌, ◌<◌, eqb, leb, ltb, length, get_or, drop, Option, Some, None, Result, Ok, Err}
 use Rattle.answers.specs.Conditions.{all}
 use Rattle.answers.specs.declared.Refusal.{Refusal}
 use Rattle.answers.specs.declared.Refusal.TheVariants.{Malformed, Rules}
@@ -11,8 +10,6 @@ use Rattle.sources.specs.declared.Table.{Table}
 use Rattle.sources.specs.Rules.{most_places, rules, all_sound, fault}
 use Rattle.sources.specs.Tables as table
 use Rattle.lent.specs.SourceWords.{source_words, source_of}
-use Rattle.lent.specs.declared.table_words.Loaded.{Loaded}
-use Rattle.lent.specs.declared.table_words.Answer.TheVariants.{Taken, Refused}
 
 -- ---- the words of a table
 
@@ -62,22 +59,22 @@ are_wires words = each_below 65537 10 (whole_places words) words
 -- 16 for words that are no places of a table, and for places against the rules; 9 for a remembered word that is too large, and for a record that is malformed
 unfoldable pub words_fault : List ℕ → Option Refusal
 words_fault words =
-    cond (not (all (are_places words))) (some Rules)
-    (cond (not (all (rules (places_in words)))) (some Rules)
-    (cond (not (are_wires words && all_sound (places_in words))) (some Malformed)
-    none))
+    cond (not (all (are_places words))) (Some Rules)
+    (cond (not (all (rules (places_in words)))) (Some Rules)
+    (cond (not (are_wires words && all_sound (places_in words))) (Some Malformed)
+    None))
 
 -- ---- the table taken from words
 
 -- words whose SSRCs and remembered numbers fit a table's fields are taken, and the other refusals left to the calls of the table; all others are refused here
 unfoldable pub unfit : List ℕ → Option Refusal
-unfit words = cond (all (are_places words) && are_wires words) none (words_fault words)
+unfit words = cond (all (are_places words) && are_wires words) None (words_fault words)
 
-abbrev pub loaded_by : Option Refusal → Table → Loaded
-loaded_by (some refusal) t = record { table = table.empty_table 0; answer = Refused refusal }
-loaded_by none t = record { table = t; answer = Taken }
+abbrev pub loaded_by : Option Refusal → Table → Result Table Refusal
+loaded_by (Some refusal) t = Err refusal
+loaded_by None t = Ok t
 
-unfoldable pub loaded : List ℕ → Loaded
+unfoldable pub loaded : List ℕ → Result Table Refusal
 loaded words = loaded_by (unfit words) (table.loaded (places_in words))
 
 -- ---- both are inverse
@@ -89,10 +86,10 @@ typed_place p = ltb p.ssrc (2 ^ 32) && wire_number p.source.remembered
 -- the words of a table that neither 16 nor 9 refuses are not refused either, and read back to it
 abbrev pub TableBack : Type 0
 TableBack =
-    (ps : List Place) → fault ps ≡ none → all (map typed_place ps) ≡ true
-    → (loaded (table_words ps) ≡ record { table = table.loaded ps; answer = Taken }) × (words_fault (table_words ps) ≡ none)
+    (ps : List Place) → fault ps ≡ None → all (map typed_place ps) ≡ true
+    → (loaded (table_words ps) ≡ Ok (table.loaded ps)) × (words_fault (table_words ps) ≡ None)
 
 -- words that are taken, of 64 bits each, are the words of their table
 abbrev pub TableWordsBack : Type 0
 TableWordsBack =
-    (words : List ℕ) → ((i : ℕ) → get_or words i 0 < 2 ^ 64) → (loaded words).answer ≡ Taken → table_words (table.lent (loaded words).table) ≡ words
+    (words : List ℕ) (t : Table) → ((i : ℕ) → get_or words i 0 < 2 ^ 64) → loaded words ≡ Ok t → table_words (table.lent t) ≡ words

@@ -1,23 +1,19 @@
 -- The hypotheses of the read-back laws can be met: words of a source's record, a table, a breaker's record, a run and a conversion, and what they meet, by
 -- theorem.
-use Rattle.std.specs.Prelude.{◌≡◌, true, List, [], ◌∷◌, ◌++◌, map, ℕ, ◌-◌, ◌^◌, ◌<◌, length, get_or, replicate}
-use Rattle.std.proofs.Math.Option.{none}
+use Rattle.std.specs.Prelude.{◌≡◌, true, List, [], ◌∷◌, ◌++◌, map, ℕ, ◌-◌, ◌^◌, ◌<◌, length, get_or, replicate, Some, None, Ok}
 use Rattle.answers.specs.Conditions.{all}
 use Rattle.breaker.specs.Theorems.{Typed}
 use Rattle.source.specs.Record.{wire_number}
-use Rattle.lent.specs.declared.source_words.Loaded.TheVariants.{Held}
 use Rattle.lent.specs.SourceWords.{source_of, loaded, FitsWord}
 use Rattle.sources.specs.Rules.{fault}
+use Rattle.sources.specs.Tables as tables
 use Rattle.lent.specs.TableWords as table
 use Rattle.lent.specs.TableWords.{places_in, typed_place}
-use Rattle.lent.specs.declared.table_words.Answer.TheVariants.{Taken}
 use Rattle.lent.specs.BreakerWords.{breaker_of, words_fit}
 use Rattle.lent.specs.RunWords.{run_of}
 use Rattle.lent.specs.RunWords as run
 use Rattle.lent.specs.ConversionWords.{conversion_of}
 use Rattle.lent.specs.ConversionWords as conversion
-use Rattle.lent.specs.declared.run_words.Loaded.TheVariants as aRun
-use Rattle.lent.specs.declared.conversion_words.Loaded.TheVariants as aConversion
 
 -- base -1, as its two's complement, highest 65536, and number 65535 remembered
 abbrev pub some_source : List ℕ
@@ -47,23 +43,23 @@ pub record Met : Type 0 where
   pub base_fits : FitsWord (source_of some_source).base.0
   pub highest_fits : FitsWord (source_of some_source).highest.0
   pub remembered_fits : wire_number (source_of some_source).remembered ≡ true
-  pub source_held : loaded some_source ≡ Held (source_of some_source)
+  pub source_held : loaded some_source ≡ Some (source_of some_source)
   pub base_word : get_or some_source 0 0 < 2 ^ 64
   pub highest_word : get_or some_source 1 0 < 2 ^ 64
   -- TableBack, TableWordsBack
-  pub table_good : fault (places_in some_table) ≡ none
+  pub table_good : fault (places_in some_table) ≡ None
   pub table_typed : all (map typed_place (places_in some_table)) ≡ true
   pub table_bits : (i : ℕ) → get_or some_table i 0 < 2 ^ 64
-  pub table_taken : (table.loaded some_table).answer ≡ Taken
+  pub table_taken : table.loaded some_table ≡ Ok (tables.loaded (places_in some_table))
   -- BreakerRestored, WordsRestored
   pub breaker_typed : Typed (breaker_of some_breaker)
   pub breaker_long : length some_breaker ≡ 77
   pub breaker_fits : all (words_fit some_breaker) ≡ true
   -- RunBack, RunWordsBack
   pub run_ssrc : (run_of some_run).ssrc < 2 ^ 32
-  pub run_held : run.loaded some_run ≡ aRun.Held (run_of some_run)
+  pub run_held : run.loaded some_run ≡ Some (run_of some_run)
   pub run_base : get_or some_run 3 0 < 2 ^ 64
   pub run_highest : get_or some_run 4 0 < 2 ^ 64
   -- ConversionBack, ConversionWordsBack
   pub conversion_ssrc : (conversion_of some_conversion).ssrc < 2 ^ 32
-  pub conversion_held : conversion.loaded some_conversion ≡ aConversion.Held (conversion_of some_conversion)
+  pub conversion_held : conversion.loaded some_conversion ≡ Some (conversion_of some_conversion)

@@ -7,7 +7,7 @@ ghost use Rattle.lent.specs.AttributeWords.{places_fit, is_attribute, loaded, pl
 
 use crate::access::{put_all, word_at};
 use crate::widths::is_below;
-use sdp::{Attribute, Ect, Listed, MaybeEct, MaybeMode, Method, Mode};
+use sdp::{Attribute, Ect, Method, Mode};
 
 // The words of a record.
 pub const WORDS: usize = 11;
@@ -22,122 +22,90 @@ const ECT: usize = 10;
 // Modes and ects are below this.
 const VALUES: u64 = 4;
 
-#[derive(Clone, Copy)]
-pub enum Answer {
-    Held,
-    Malformed,
-}
-
-// A record taken from words, or that they are no record's; it says nothing then. (An enum cannot hold the array.)
-#[derive(Clone, Copy)]
-pub struct Loaded {
-    pub attribute: Attribute,
-    pub answer: Answer,
-}
-
+#[tactic(auto, using(std::proofs::lemmas::Bool::Decides::nat_tests))]
 fn is_method(number: u64) -> bool
     ensures { result ≡ is_method number }
 {
-    if number < 1 {
-        return false;
-    }
-    number <= 3
+    matches!(number, 1..=3)
 }
 
 // The method of 2 or 3, or else rtp.
+#[tactic(auto, using(std::proofs::lemmas::Bool::Decides::nat_tests))]
 fn method_of(number: u64) -> Method
     ensures { result ≡ method_of number }
 {
-    if number == 2 {
-        return Method::Ice;
+    match number {
+        2 => Method::Ice,
+        3 => Method::Leap,
+        _ => Method::Rtp,
     }
-    if number == 3 {
-        return Method::Leap;
-    }
-    Method::Rtp
 }
 
 // The mode of 1 to 3, or else none.
-fn mode_of(number: u64) -> MaybeMode
+#[tactic(auto, using(std::proofs::lemmas::Bool::Decides::nat_tests))]
+fn mode_of(number: u64) -> Option<Mode>
     ensures { result ≡ mode_of number }
 {
-    if number == 1 {
-        return MaybeMode::Present(Mode::SetOnly);
+    match number {
+        1 => Some(Mode::SetOnly),
+        2 => Some(Mode::ReadOnly),
+        3 => Some(Mode::SetRead),
+        _ => None,
     }
-    if number == 2 {
-        return MaybeMode::Present(Mode::ReadOnly);
-    }
-    if number == 3 {
-        return MaybeMode::Present(Mode::SetRead);
-    }
-    MaybeMode::Absent
 }
 
 // The ect of 1 to 3, or else none.
-fn ect_of(number: u64) -> MaybeEct
+#[tactic(auto, using(std::proofs::lemmas::Bool::Decides::nat_tests))]
+fn ect_of(number: u64) -> Option<Ect>
     ensures { result ≡ ect_of number }
 {
-    if number == 1 {
-        return MaybeEct::Present(Ect::One);
+    match number {
+        1 => Some(Ect::One),
+        2 => Some(Ect::Zero),
+        3 => Some(Ect::Random),
+        _ => None,
     }
-    if number == 2 {
-        return MaybeEct::Present(Ect::Zero);
-    }
-    if number == 3 {
-        return MaybeEct::Present(Ect::Random);
-    }
-    MaybeEct::Absent
 }
 
 // Whether place i is not in use, or has a method.
+#[tactic(auto, using(std::proofs::lemmas::Bool::Decides::nat_tests))]
 fn place_fits(words: &[u64], i: usize) -> bool
     requires { i < 8 }
     ensures { result ≡ place_fits words.now i }
 {
-    if word_at(words, 0) <= i as u64 {
-        return true;
-    }
-    is_method(word_at(words, i + 1))
+    word_at(words, 0) <= i as u64 || is_method(word_at(words, i + 1))
 }
 
 fn places_fit(words: &[u64]) -> bool
     ensures { result ≡ all (places_fit words.now) }
 {
-    let mut i: usize = 0;
-    while i < PLACES {
+    for i in 0..PLACES {
         if !place_fits(words, i) {
             return false;
         }
-        i += 1;
     }
     true
 }
 
 // Whether words are a record's.
+#[tactic(auto, using(std::proofs::lemmas::Bool::Decides::nat_tests), unfolding(crate::specs::AttributeWords::is_attribute))]
 fn do_fit(words: &[u64]) -> bool
     ensures { result ≡ is_attribute words.now }
 {
-    if words.len() != WORDS {
-        return false;
-    }
-    if !places_fit(words) {
-        return false;
-    }
-    if !is_below(words, MODE, VALUES) {
-        return false;
-    }
-    is_below(words, ECT, VALUES)
+    words.len() == WORDS
+        && places_fit(words)
+        && is_below(words, MODE, VALUES)
+        && is_below(words, ECT, VALUES)
 }
 
-fn listed_at(words: &[u64], at: usize) -> Listed
+fn listed_at(words: &[u64], at: usize) -> Method
     ensures { result ≡ listed_at words.now at }
 {
-    let method = method_of(word_at(words, at));
-    Listed { method }
+    method_of(word_at(words, at))
 }
 
 // The methods of the eight places.
-fn methods_in(words: &[u64]) -> [Listed; 8]
+fn methods_in(words: &[u64]) -> [Method; 8]
     ensures { result ≡ (attribute_in words.now).methods }
 {
     [
@@ -155,33 +123,23 @@ fn methods_in(words: &[u64]) -> [Listed; 8]
 fn attribute_in(words: &[u64]) -> Attribute
     ensures { result ≡ attribute_in words.now }
 {
-    let used = word_at(words, 0);
-    let methods = methods_in(words);
-    let mode = mode_of(word_at(words, MODE));
-    let ect = ect_of(word_at(words, ECT));
     Attribute {
-        used: used as usize,
-        methods,
-        mode,
-        ect,
+        used: word_at(words, 0) as usize,
+        methods: methods_in(words),
+        mode: mode_of(word_at(words, MODE)),
+        ect: ect_of(word_at(words, ECT)),
     }
 }
 
 // The record in 11 words; another number of them, a mode or an ect above 3, and a method in use that is not 1 to 3 are no record's.
-pub fn load(words: &[u64]) -> Loaded
+#[tactic(auto, using(std::proofs::lemmas::Bool::Decides::nat_tests), unfolding(crate::specs::AttributeWords::loaded))]
+pub fn load(words: &[u64]) -> Option<Attribute>
     ensures { result ≡ loaded words.now }
 {
     if do_fit(words) {
-        let attribute = attribute_in(words);
-        return Loaded {
-            attribute,
-            answer: Answer::Held,
-        };
-    }
-    let attribute = Attribute::empty();
-    Loaded {
-        attribute,
-        answer: Answer::Malformed,
+        Some(attribute_in(words))
+    } else {
+        None
     }
 }
 
@@ -195,41 +153,36 @@ fn method_number(method: Method) -> u64
     }
 }
 
-fn mode_number(mode: MaybeMode) -> u64
+fn mode_number(mode: Option<Mode>) -> u64
     ensures { result ≡ mode_number mode }
 {
     match mode {
-        MaybeMode::Absent => 0,
-        MaybeMode::Present(m) => match m {
-            Mode::SetOnly => 1,
-            Mode::SetRead => 3,
-            Mode::ReadOnly => 2,
-        },
+        None => 0,
+        Some(Mode::SetOnly) => 1,
+        Some(Mode::SetRead) => 3,
+        Some(Mode::ReadOnly) => 2,
     }
 }
 
-fn ect_number(ect: MaybeEct) -> u64
+fn ect_number(ect: Option<Ect>) -> u64
     ensures { result ≡ ect_number ect }
 {
     match ect {
-        MaybeEct::Absent => 0,
-        MaybeEct::Present(e) => match e {
-            Ect::Zero => 2,
-            Ect::One => 1,
-            Ect::Random => 3,
-        },
+        None => 0,
+        Some(Ect::Zero) => 2,
+        Some(Ect::One) => 1,
+        Some(Ect::Random) => 3,
     }
 }
 
 // The method at place i, or 0 where it is not in use.
+#[tactic(auto, using(std::proofs::lemmas::Bool::Decides::nat_tests))]
 fn place_word(a: Attribute, i: usize) -> u64
     requires { i < 8 }
     ensures { result ≡ place_word a i }
 {
     if i < a.used {
-        let listed = a.methods[i];
-        let method = listed.method;
-        return method_number(method);
+        return method_number(a.methods[i]);
     }
     0
 }
@@ -238,8 +191,6 @@ fn place_word(a: Attribute, i: usize) -> u64
 fn words_of(a: Attribute) -> [u64; 11]
     ensures { result ≡ attribute_words a }
 {
-    let mode = a.mode;
-    let ect = a.ect;
     [
         a.used as u64,
         place_word(a, 0),
@@ -250,8 +201,8 @@ fn words_of(a: Attribute) -> [u64; 11]
         place_word(a, 5),
         place_word(a, 6),
         place_word(a, 7),
-        mode_number(mode),
-        ect_number(ect),
+        mode_number(a.mode),
+        ect_number(a.ect),
     ]
 }
 
@@ -259,6 +210,5 @@ fn words_of(a: Attribute) -> [u64; 11]
 pub fn store(a: Attribute, words: &mut [u64])
     ensures { words.new ≡ sets words.old 0 (attribute_words a) }
 {
-    let new = words_of(a);
-    put_all(&new, words, 0);
+    put_all(&words_of(a), words, 0);
 }

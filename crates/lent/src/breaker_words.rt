@@ -14,13 +14,6 @@ const HEAD: usize = 13;
 
 const NUMBERS: u64 = 0x1_0000_0000;
 
-// A record taken from words, and whether the words are those of a record.
-#[derive(Clone, Copy)]
-pub struct Loaded {
-    pub ok: bool,
-    pub breaker: Breaker,
-}
-
 // 0 where the breaker runs, else the reason of the stop.
 fn state_number(state: State) -> u64
     ensures { result ≡ state_number state }
@@ -35,13 +28,10 @@ fn state_number(state: State) -> u64
 fn store_intervals(xs: [Interval; 32], words: &mut [u64])
     ensures { words.new ≡ sets words.old 13 (interval_words xs) }
 {
-    let mut i: usize = 0;
-    while i < 32 {
-        let x = xs[i];
+    for i in 0..32 {
         let at = HEAD + 2 * i;
-        put(x.length, words, at);
-        put(x.fraction, words, at + 1);
-        i += 1;
+        put(xs[i].length, words, at);
+        put(xs[i].fraction, words, at + 1);
     }
 }
 
@@ -111,15 +101,12 @@ fn intervals_in(words: &[u64]) -> [Interval; 32]
         fraction: 0,
     };
     let mut next = [zero; 32];
-    let mut i: usize = 0;
-    while i < 32 {
+    for i in 0..32 {
         let at = HEAD + 2 * i;
-        let x = Interval {
+        next[i] = Interval {
             length: word_at(words, at),
             fraction: word_at(words, at + 1),
         };
-        next[i] = x;
-        i += 1;
     }
     next
 }
@@ -162,32 +149,24 @@ fn breaker_in(words: &[u64]) -> Breaker
 }
 
 // Whether the words are those of a record: each yes-or-no word at most 1, the state at most 3, the highest number of 32 bits.
+#[tactic(auto, using(std::proofs::lemmas::Bool::Decides::nat_tests), unfolding(crate::specs::BreakerWords::words_fit))]
 fn do_fit(words: &[u64]) -> bool
     ensures { result ≡ all (words_fit words.now) }
 {
-    if 1 < word_at(words, 3) {
-        return false;
-    }
-    if 1 < word_at(words, 4) {
-        return false;
-    }
-    if 3 < word_at(words, 5) {
-        return false;
-    }
-    if 1 < word_at(words, 8) {
-        return false;
-    }
-    if NUMBERS <= word_at(words, 9) {
-        return false;
-    }
-    word_at(words, 11) <= 1
+    word_at(words, 3) <= 1
+        && word_at(words, 4) <= 1
+        && word_at(words, 5) <= 3
+        && word_at(words, 8) <= 1
+        && word_at(words, 9) < NUMBERS
+        && word_at(words, 11) <= 1
 }
 
-// The record that the words are read as, and whether they are its words.
-pub fn load(words: &[u64]) -> Loaded
+// The record that the words are read as, where they fit a record's. How many there are is not asked: a word past the end reads as 0.
+pub fn load(words: &[u64]) -> Option<Breaker>
     ensures { result ≡ loaded words.now }
 {
-    let ok = do_fit(words);
-    let breaker = breaker_in(words);
-    Loaded { ok, breaker }
+    if !do_fit(words) {
+        return None;
+    }
+    Some(breaker_in(words))
 }

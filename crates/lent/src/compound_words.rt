@@ -11,24 +11,17 @@ use crate::access::{complement, put_all, word_at};
 use crate::widths::{FRACTIONS, NUMBERS, counts_fit, is_below};
 use between::counters_of;
 use format::Counts;
-use rtcp::{Compound, Feedback, MaybeFeedback, MaybeReport, MaybeSummary, ReportBlock};
+use rtcp::{Compound, Feedback, ReportBlock};
 
 // The words of a compound.
 pub const WORDS: usize = 25;
 
-// A compound taken from words, or that they are no compound's.
-#[derive(Clone, Copy)]
-pub enum Loaded {
-    Held(Compound),
-    Malformed,
-}
-
 // The report block: that there is one, and its fields but for the reporter.
-fn report_in(report: MaybeReport) -> [u64; 7]
+fn report_in(report: Option<ReportBlock>) -> [u64; 7]
     ensures { result ≡ report_words report }
 {
     match report {
-        MaybeReport::Present(x) => [
+        Some(x) => [
             1,
             x.fraction as u64,
             complement(x.lost as i64),
@@ -37,16 +30,16 @@ fn report_in(report: MaybeReport) -> [u64; 7]
             x.lsr as u64,
             x.dlsr as u64,
         ],
-        MaybeReport::Absent => [0u64; 7],
+        None => [0u64; 7],
     }
 }
 
 // The ECN feedback: that there is some, and its eight fields.
-fn feedback_in(feedback: MaybeFeedback) -> [u64; 9]
+fn feedback_in(feedback: Option<Feedback>) -> [u64; 9]
     ensures { result ≡ feedback_words feedback }
 {
     match feedback {
-        MaybeFeedback::Present(x) => {
+        Some(x) => {
             let counts = x.counts;
             [
                 1,
@@ -60,16 +53,16 @@ fn feedback_in(feedback: MaybeFeedback) -> [u64; 9]
                 counts.duplicates as u64,
             ]
         }
-        MaybeFeedback::Absent => [0u64; 9],
+        None => [0u64; 9],
     }
 }
 
 // The ECN summary entry: that there is one, and its six fields.
-fn summary_in(summary: MaybeSummary) -> [u64; 7]
+fn summary_in(summary: Option<Counts>) -> [u64; 7]
     ensures { result ≡ summary_words summary }
 {
     match summary {
-        MaybeSummary::Present(counts) => [
+        Some(counts) => [
             1,
             counts.ect0 as u64,
             counts.ect1 as u64,
@@ -78,17 +71,17 @@ fn summary_in(summary: MaybeSummary) -> [u64; 7]
             counts.lost as u64,
             counts.duplicates as u64,
         ],
-        MaybeSummary::Absent => [0u64; 7],
+        None => [0u64; 7],
     }
 }
 
 // The SSRC of who sent the report block, or 0 if there is none.
-fn reporter_in(report: MaybeReport) -> u32
+fn reporter_in(report: Option<ReportBlock>) -> u32
     ensures { result ≡ reporter_of report }
 {
     match report {
-        MaybeReport::Present(x) => x.reporter,
-        MaybeReport::Absent => 0,
+        Some(x) => x.reporter,
+        None => 0,
     }
 }
 
@@ -174,16 +167,16 @@ fn counts_of(words: &[u64], ce: usize, lost: usize) -> Counts
     counters_of(marked as u16, missing as u16)
 }
 
-fn report_of(words: &[u64]) -> MaybeReport
+fn report_of(words: &[u64]) -> Option<ReportBlock>
     requires { report_fits words.now ≡ true }
     ensures { result ≡ report_of words.now }
 {
     if word_at(words, 0) != 1 {
-        return MaybeReport::Absent;
+        return None;
     }
     let fraction = word_at(words, 1);
     let highest = word_at(words, 3);
-    MaybeReport::Present(ReportBlock {
+    Some(ReportBlock {
         fraction: fraction as u8,
         lost: 0,
         highest: highest as u32,
@@ -194,31 +187,31 @@ fn report_of(words: &[u64]) -> MaybeReport
     })
 }
 
-fn feedback_of(words: &[u64]) -> MaybeFeedback
+fn feedback_of(words: &[u64]) -> Option<Feedback>
     requires { feedback_fits words.now ≡ true }
     ensures { result ≡ feedback_of words.now }
 {
     if word_at(words, 7) != 1 {
-        return MaybeFeedback::Absent;
+        return None;
     }
     let highest = word_at(words, 9);
     let counts = counts_of(words, 12, 14);
-    MaybeFeedback::Present(Feedback {
+    Some(Feedback {
         sender: 0,
         highest: highest as u32,
         counts,
     })
 }
 
-fn summary_of(words: &[u64]) -> MaybeSummary
+fn summary_of(words: &[u64]) -> Option<Counts>
     requires { summary_fits words.now ≡ true }
     ensures { result ≡ summary_of words.now }
 {
     if word_at(words, 16) != 1 {
-        return MaybeSummary::Absent;
+        return None;
     }
     let counts = counts_of(words, 19, 21);
-    MaybeSummary::Present(counts)
+    Some(counts)
 }
 
 // The compound in words that fit.
@@ -240,14 +233,14 @@ fn compound_of(words: &[u64]) -> Compound
 
 // The compound in 25 words, as far as the breaker's call looks at it: another number of words, a yes-or-no word above 1, and a word that plays a part
 // and is past its width are no compound's. What plays no part is 0.
-pub fn load(words: &[u64]) -> Loaded
+pub fn load(words: &[u64]) -> Option<Compound>
     ensures { result ≡ loaded words.now }
 {
     if words.len() != WORDS {
-        return Loaded::Malformed;
+        return None;
     }
     if !do_fit(words) {
-        return Loaded::Malformed;
+        return None;
     }
-    Loaded::Held(compound_of(words))
+    Some(compound_of(words))
 }

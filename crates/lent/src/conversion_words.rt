@@ -13,31 +13,24 @@ pub const WORDS: usize = 3;
 // An SSRC is below this.
 const NUMBERS: u64 = 0x1_0000_0000;
 
-// A conversion taken from words, or that they are no conversion's.
-#[derive(Clone, Copy)]
-pub enum Loaded {
-    Held(Conversion),
-    Malformed,
-}
-
 // The conversion in 3 words; another number of them, another form and an SSRC past 32 bits are no conversion's.
-pub fn load(words: &[u64]) -> Loaded
+pub fn load(words: &[u64]) -> Option<Conversion>
     ensures { result ≡ loaded words.now }
 {
     if words.len() != WORDS {
-        return Loaded::Malformed;
+        return None;
     }
     let number = word_at(words, 0);
     if !is_form(number) {
-        return Loaded::Malformed;
+        return None;
     }
     let ssrc = word_at(words, 1);
     if NUMBERS <= ssrc {
-        return Loaded::Malformed;
+        return None;
     }
     let form = form_of(number);
     let held = word_at(words, 2);
-    Loaded::Held(Conversion {
+    Some(Conversion {
         form,
         ssrc: ssrc as u32,
         held: held as usize,

@@ -11,17 +11,9 @@ use crate::source_words;
 use answers::Refusal;
 use convert::feeds::Upload;
 use source::Source;
-use walk::Ended;
 
 // The words of an upload.
 pub const WORDS: usize = 18;
-
-// An upload taken from words, or that they are no upload's.
-#[derive(Clone, Copy)]
-pub enum Loaded {
-    Held(Upload),
-    Malformed,
-}
 
 // Whether the form's word is an upload's that has taken so many blocks.
 fn is_form_word(blocks: u64, word: u64) -> bool
@@ -62,28 +54,28 @@ fn is_end(number: u64) -> bool
 }
 
 // No refusal, 1, 13 or 14.
-fn ended_of(number: u64) -> Ended
+fn ended_of(number: u64) -> Option<Refusal>
     ensures { result ≡ ended_of number }
 {
     if number == 0 {
-        return Ended::Going;
+        return None;
     }
     if number == 1 {
-        return Ended::Refused(Refusal::Incomplete);
+        return Some(Refusal::Incomplete);
     }
     if number == 13 {
-        return Ended::Refused(Refusal::Checksum);
+        return Some(Refusal::Checksum);
     }
-    Ended::Refused(Refusal::Contents)
+    Some(Refusal::Contents)
 }
 
 // And back.
-fn end_word(ended: Ended) -> u64
+fn end_word(ended: Option<Refusal>) -> u64
     ensures { result ≡ end_word ended }
 {
     match ended {
-        Ended::Going => 0,
-        Ended::Refused(refusal) => refusal.number() as u64,
+        None => 0,
+        Some(refusal) => refusal.number() as u64,
     }
 }
 
@@ -105,24 +97,24 @@ fn upload_with(words: &[u64], source: Source) -> Upload
 }
 
 // The upload in 18 words; another number of them, another form, an SSRC past 32 bits, another refusal and words that are no source's record are no upload's.
-pub fn load(words: &[u64]) -> Loaded
+pub fn load(words: &[u64]) -> Option<Upload>
     ensures { result ≡ loaded words.now }
 {
     if words.len() != WORDS {
-        return Loaded::Malformed;
+        return None;
     }
     if !is_form_word(word_at(words, 15), word_at(words, 0)) {
-        return Loaded::Malformed;
+        return None;
     }
     if NUMBERS <= word_at(words, 2) {
-        return Loaded::Malformed;
+        return None;
     }
     if !is_end(word_at(words, 17)) {
-        return Loaded::Malformed;
+        return None;
     }
     match source_words::load(&words[SOURCE..AFTER]) {
-        source_words::Loaded::Held(source) => Loaded::Held(upload_with(words, source)),
-        source_words::Loaded::Malformed => Loaded::Malformed,
+        Some(source) => Some(upload_with(words, source)),
+        None => None,
     }
 }
 

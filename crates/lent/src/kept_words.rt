@@ -6,17 +6,10 @@ ghost use Rattle.lent.specs.KeptWords.{numbers_fit, zeros, kept_numbers, loaded,
 
 use crate::access::{put_all, word_at};
 use crate::widths::{NUMBERS, counts_fit, is_below};
-use between::{Kept, MaybeKept};
+use between::Kept;
 
 // The words of what is kept.
 pub const WORDS: usize = 4;
-
-// What is kept, taken from words, or that they are not those of it.
-#[derive(Clone, Copy)]
-pub enum Loaded {
-    Held(MaybeKept),
-    Malformed,
-}
 
 // Whether the numbers of an ECN report have their widths.
 fn do_fit(words: &[u64]) -> bool
@@ -61,37 +54,37 @@ fn kept_in(words: &[u64]) -> Kept
 
 // What is kept in 4 words; another number of them, a first word above 1, a number past its width, and one that is not 0 where none is kept are
 // not those of it.
-pub fn load(words: &[u64]) -> Loaded
+pub fn load(words: &[u64]) -> Option<Option<Kept>>
     ensures { result ≡ loaded words.now }
 {
     if words.len() != WORDS {
-        return Loaded::Malformed;
+        return None;
     }
     if word_at(words, 0) == 1 {
         if !do_fit(words) {
-            return Loaded::Malformed;
+            return None;
         }
         let kept = kept_in(words);
-        return Loaded::Held(MaybeKept::Present(kept));
+        return Some(Some(kept));
     }
     if !are_zero(words) {
-        return Loaded::Malformed;
+        return None;
     }
-    Loaded::Held(MaybeKept::Absent)
+    Some(None)
 }
 
 // The 4 words.
-fn words_of(kept: MaybeKept) -> [u64; 4]
+fn words_of(kept: Option<Kept>) -> [u64; 4]
     ensures { result ≡ kept_words kept }
 {
     match kept {
-        MaybeKept::Present(k) => [1, k.highest as u64, k.ce as u64, k.lost as u64],
-        MaybeKept::Absent => [0u64; 4],
+        Some(k) => [1, k.highest as u64, k.ce as u64, k.lost as u64],
+        None => [0u64; 4],
     }
 }
 
 // Stores the words of what is kept, as far as there are places.
-pub fn store(kept: MaybeKept, words: &mut [u64])
+pub fn store(kept: Option<Kept>, words: &mut [u64])
     ensures { words.new ≡ sets words.old 0 (kept_words kept) }
 {
     let new = words_of(kept);

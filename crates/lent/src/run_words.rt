@@ -12,29 +12,22 @@ use convert::Run;
 // The words of a run.
 pub const WORDS: usize = 15;
 
-// A run taken from words, or that they are no run's.
-#[derive(Clone, Copy)]
-pub enum Loaded {
-    Held(Run),
-    Malformed,
-}
-
 // The run in 15 words; another number of them, another form, an SSRC past 32 bits and words that are no source's record are no run's.
-pub fn load(words: &[u64]) -> Loaded
+pub fn load(words: &[u64]) -> Option<Run>
     ensures { result ≡ loaded words.now }
 {
     if words.len() != WORDS {
-        return Loaded::Malformed;
+        return None;
     }
     if !is_form(word_at(words, 0)) {
-        return Loaded::Malformed;
+        return None;
     }
     if NUMBERS <= word_at(words, 2) {
-        return Loaded::Malformed;
+        return None;
     }
     match source_words::load(&words[SOURCE..AFTER]) {
-        source_words::Loaded::Held(source) => Loaded::Held(run_with(words, source)),
-        source_words::Loaded::Malformed => Loaded::Malformed,
+        Some(source) => Some(run_with(words, source)),
+        None => None,
     }
 }
 

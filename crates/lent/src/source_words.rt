@@ -5,7 +5,7 @@ ghost use Rattle.lent.specs.SourceWords.{remembered_in, remembered_word, source_
 
 use crate::access::{complement, number, put_all, word_at};
 use format::Wire;
-use source::{Extended, History, Remembered, Source};
+use source::{Extended, History, Source};
 
 // The words of a record.
 pub const WORDS: usize = 10;
@@ -13,36 +13,29 @@ pub const WORDS: usize = 10;
 // The greatest last word: a wire number + 1.
 const MOST_REMEMBERED: u64 = 65536;
 
-// A record taken from words, or that they are no record's.
-#[derive(Clone, Copy)]
-pub enum Loaded {
-    Held(Source),
-    Malformed,
-}
-
 // The number that a word says is remembered: 0 for none, the number + 1 otherwise.
-fn remembered_in(word: u64) -> Remembered
+fn remembered_in(word: u64) -> Option<Wire>
     requires { word ≤ 65536 }
     ensures { result ≡ remembered_in word }
 {
     if word == 0 {
-        return Remembered::Nothing;
+        return None;
     }
-    Remembered::Number(Wire((word - 1) as u16))
+    Some(Wire((word - 1) as u16))
 }
 
 // And back.
-fn word_of(remembered: Remembered) -> u64
+fn word_of(remembered: Option<Wire>) -> u64
     ensures { result ≡ remembered_word remembered }
 {
     match remembered {
-        Remembered::Nothing => 0,
-        Remembered::Number(wire) => wire.0 as u64 + 1,
+        None => 0,
+        Some(wire) => wire.0 as u64 + 1,
     }
 }
 
 // The record in the first 9 words, with what it remembers.
-fn source_with(words: &[u64], remembered: Remembered) -> Source
+fn source_with(words: &[u64], remembered: Option<Wire>) -> Source
     ensures { result ≡ source_with words.now remembered }
 {
     Source {
@@ -62,17 +55,17 @@ fn source_with(words: &[u64], remembered: Remembered) -> Source
 }
 
 // The record in 10 words; another number of them, or a last word above 65,536, is no record's.
-pub fn load(words: &[u64]) -> Loaded
+pub fn load(words: &[u64]) -> Option<Source>
     ensures { result ≡ loaded words.now }
 {
     if words.len() != WORDS {
-        return Loaded::Malformed;
+        return None;
     }
     let last = word_at(words, 9);
     if MOST_REMEMBERED < last {
-        return Loaded::Malformed;
+        return None;
     }
-    Loaded::Held(source_with(words, remembered_in(last)))
+    Some(source_with(words, remembered_in(last)))
 }
 
 // The record in the first 10 words, whatever the last is: one above 65,536 is read as 65,536.

@@ -1,16 +1,16 @@
 -- Lines that are held in two ways: what a block does to both is alike. Assumes nothing.
+use Rattle.std.specs.Prelude.{Option, Some, None}
 use mathlib.Core.Path.{◌≡◌, refl, ap}
 use mathlib.Core.Bool.{Bool, true, false, cond}
 use mathlib.Core.List.{List, [], ◌∷◌, map}
-use mathlib.Core.Option.{Option, none, some}
 use Prim.Native.Nat.{ℕ}
 use lib.Dec.{eqb, ltb}
 use Rattle.mixed.specs.Places.{found_by, renewed_by, added_by}
 
 module _ {A B : Type 0} (f : A → B) where
   abbrev pub mapped : Option A → Option B
-  mapped none = none
-  mapped (some a) = some (f a)
+  mapped None = None
+  mapped (Some a) = Some (f a)
 
   module _ (p : A → ℕ) (q : B → ℕ) (same : (a : A) → q (f a) ≡ p a) where
     pub found_alike : (ssrc : ℕ) (ls : List A) → found_by q ssrc (map f ls) ≡ mapped (found_by p ssrc ls)
@@ -18,7 +18,7 @@ module _ {A B : Type 0} (f : A → B) where
     found_alike ssrc [] = refl
     found_alike ssrc (l ∷ ls) = rw same (go (eqb (p l) ssrc) (found_alike ssrc ls))
       where
-        go : (t : Bool) → found_by q ssrc (map f ls) ≡ mapped (found_by p ssrc ls) → cond t (some (f l)) (found_by q ssrc (map f ls)) ≡ mapped (cond t (some l) (found_by p ssrc ls))
+        go : (t : Bool) → found_by q ssrc (map f ls) ≡ mapped (found_by p ssrc ls) → cond t (Some (f l)) (found_by q ssrc (map f ls)) ≡ mapped (cond t (Some l) (found_by p ssrc ls))
         go true e = refl
         go false e = e
 

@@ -1,4 +1,5 @@
 -- The run and the lent words of the calls hold the lines of the whole run. Assumes nothing.
+use Rattle.std.specs.Prelude.{Ok}
 use mathlib.Core.Path.{◌≡◌, refl, sym, ap, ap₂, ◌∙◌}
 use mathlib.Core.Bool.{true}
 use mathlib.Core.List.{List, map}
@@ -63,7 +64,7 @@ module _ {zeroth : List ℕ} {run : Run} {ws : List ℕ} {k : Kept} (h : Holds z
     good = s.0;
   }
 
-pub start_holds : (zeroth ws : List ℕ) (form : Form) (n ssrc : ℕ) → 13 * 16 ≤ length ws → block_of zeroth ≡ read.Label form n ssrc
+pub start_holds : (zeroth ws : List ℕ) (form : Form) (n ssrc : ℕ) → 13 * 16 ≤ length ws → block_of zeroth ≡ Ok (read.Label form n ssrc)
     → Holds zeroth (record { form = form; length = n; held = 0 }) ws (begun zeroth form n)
 unfolding own_label lines_in
 start_holds zeroth ws form n ssrc room e =

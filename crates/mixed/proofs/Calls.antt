@@ -1,20 +1,17 @@
 -- What a block does to a run and its lines, case by case. Assumes nothing.
+use Rattle.std.specs.Prelude.{None, Result, Ok, Err}
+use Rattle.answers.specs.declared.Unwritten.{Unwritten}
 use mathlib.Core.Path.{◌≡◌, refl, sym, ap, ◌∙◌}
 use mathlib.Core.Bool.{true, false, and-true}
-use mathlib.Core.Logic.{⊎_elim}
-use mathlib.Core.List.{List, [], ◌∷◌}
-use mathlib.Core.Option.{none}
+use mathlib.Core.List.{List, []}
 use Prim.Native.Nat.{ℕ, ◌≤◌, ◌<◌}
 use native.Mathlib.Omega.{arith}
 use borrow.Author.Tests.{leb-true, le-leb, lt-ltb, le-ltb}
-use denote.Enum.Declared.{tag_of}
 use lib.Dec.{leb}
 use lib.ListN.{length, get_or}
 use lib.Seq.{sets}
-use types.Run.{OneOf}
 use Rattle.answers.specs.declared.Refusal.{Refusal}
 use Rattle.answers.specs.declared.Refusal.TheVariants.{Malformed, Contents, Places}
-use Rattle.answers.specs.declared.Written.TheVariants.{Length, Refused}
 use Rattle.answers.proofs.Conditions.{all_true}
 use Rattle.answers.proofs.Stores.{wrote_all}
 use Rattle.source.specs.declared.Totals.{Totals}
@@ -22,15 +19,13 @@ use Rattle.source.specs.Totals.{fresh_totals}
 use Rattle.format.specs.Forms.{same_form}
 use Rattle.format.specs.declared.Form.{Form}
 use Rattle.format.proofs.Same.{same_form_lem}
-use Rattle.trace.specs.Reading.{block_of, fault_of}
+use Rattle.trace.specs.Reading.{block_of}
 use Rattle.trace.specs.declared.Block.{Block}
 use Rattle.trace.specs.declared.Block.TheVariants as read
-use Rattle.trace.specs.contracts.Block.{the_type}
 use Rattle.walk.specs.Blocks.{joined}
 use Rattle.walk.specs.Steps.{Next, goes, refuses}
 use Rattle.walk.proofs.Putting.{step_refuses}
 use Rattle.mixed.specs.declared.Run.{Run}
-use Rattle.mixed.specs.declared.Begin.TheVariants as begin
 use Rattle.mixed.specs.Lines.{lines_in, ssrc_in, totals_in, line_words, in_words}
 use Rattle.mixed.specs.Places.{added_by, place_by}
 use Rattle.mixed.specs.Blocks.{counted, new_line, held_line, settled_by, settled, next_by, next_of}
@@ -56,18 +51,10 @@ sound_last run ws h = rw (le-leb 208 (length ws) h) (sym (and-true (leb run.held
 -- ---- block 0
 
 module _ (b : List ℕ) where
-  pub start_other : (r : Block) → block_of b ≡ r → OneOf (1 ∷ 2 ∷ []) (tag_of the_type r) → start_of b ≡ begin.Refused (fault_of r)
+  -- by what it reads as
+  pub start_by_lem : {r : Result Block Refusal} → block_of b ≡ r → start_of b ≡ start_by r
   unfolding start_of
-  start_other r e h = ap start_by e ∙ go r h
-    where
-      go : (r : Block) → OneOf (1 ∷ 2 ∷ []) (tag_of the_type r) → start_by r ≡ begin.Refused (fault_of r)
-      go (read.Label form n ssrc) h = ⊎_elim (λ z. absurd (omega arith)) (λ z. absurd (omega arith)) h
-      go (read.Arrivals form n ssrc) h = refl
-      go (read.Refused refusal) h = refl
-
-  pub start_label : {form : Form} {n ssrc : ℕ} → block_of b ≡ read.Label form n ssrc → start_of b ≡ start_by (read.Label form n ssrc)
-  unfolding start_of
-  start_label e = ap start_by e
+  start_by_lem e = ap start_by e
 
 -- ---- a later block
 
@@ -80,19 +67,17 @@ module _ (run : Run) (ws b : List ℕ) where
     abbrev lines : List (List ℕ)
     lines = lines_in run.held ws
 
-    call_by : {r : Block} {next : Next (List (List ℕ))} → block_of b ≡ r → next_by in_words run.form b lines r ≡ next → call_next run ws b ≡ next
+    call_by : {r : Result Block Refusal} {next : Next (List (List ℕ))} → block_of b ≡ r → next_by in_words run.form b lines r ≡ next → call_next run ws b ≡ next
     unfolding call_next next_of
     call_by e n = rw (g, e) n
 
-    pub call_other : (r : Block) → block_of b ≡ r → OneOf (0 ∷ 2 ∷ []) (tag_of the_type r) → call_next run ws b ≡ refuses (fault_of r)
-    call_other r e h = call_by e (go r h)
-      where
-        go : (r : Block) → OneOf (0 ∷ 2 ∷ []) (tag_of the_type r) → next_by in_words run.form b lines r ≡ refuses (fault_of r)
-        go (read.Label form n ssrc) h = refl
-        go (read.Arrivals form n ssrc) h = ⊎_elim (λ z. absurd (omega arith)) (λ z. absurd (omega arith)) h
-        go (read.Refused refusal) h = refl
+    pub call_refused : {refusal : Refusal} → block_of b ≡ Err refusal → call_next run ws b ≡ refuses refusal
+    call_refused e = call_by e refl
 
-    module _ {form : Form} {n ssrc : ℕ} (e : block_of b ≡ read.Arrivals form n ssrc) where
+    pub call_label : {form : Form} {n ssrc : ℕ} → block_of b ≡ Ok (read.Label form n ssrc) → call_next run ws b ≡ refuses Contents
+    call_label e = call_by e refl
+
+    module _ {form : Form} {n ssrc : ℕ} (e : block_of b ≡ Ok (read.Arrivals form n ssrc)) where
       pub call_foreign : same_form form run.form ≡ false → call_next run ws b ≡ refuses Contents
       call_foreign h = call_by e (rw h)
 
@@ -100,8 +85,8 @@ module _ (run : Run) (ws b : List ℕ) where
       call_goes h = call_by e (rw h)
 
 -- arrivals of the trace's form
-pub of_trace : (run : Run) (form : Form) (n ssrc : ℕ) → same_form form run.form ≡ true → read.Arrivals form n ssrc ≡ read.Arrivals run.form n ssrc
-of_trace run form n ssrc h = ap (λ (f : Form). read.Arrivals f n ssrc) (same_form_lem form run.form h)
+pub of_trace : (run : Run) (form : Form) (n ssrc : ℕ) → same_form form run.form ≡ true → ◌≡◌ {A = Result Block Refusal} (Ok (read.Arrivals form n ssrc)) (Ok (read.Arrivals run.form n ssrc))
+of_trace run form n ssrc h = ap (λ (f : Form). Ok (read.Arrivals f n ssrc)) (same_form_lem form run.form h)
 
 -- ---- the lines behind the arrivals of an SSRC
 
@@ -129,12 +114,12 @@ module _ (count : Totals → Totals) (ssrc n : ℕ) (ws : List ℕ) where
 -- ---- what the call gives
 
 module _ (run : Run) (ws : List ℕ) {next : Next (List (List ℕ))} where
-  pub takes_refuses : {refusal : Refusal} → next ≡ refuses refusal → TakesBlock run ws next (record { answer = Refused refusal; run = run }) ws
+  pub takes_refuses : {refusal : Refusal} → next ≡ refuses refusal → TakesBlock run ws next (record { answer = Err (Unwritten.Refused refusal); run = run }) ws
   takes_refuses e = step_refuses (carries run ws) [] [] (ap (carried_by run ws) e) refl refl
 
   pub takes_goes : {ls : List (List ℕ)} {n : ℕ} {kept : List ℕ} → next ≡ goes ls → n ≡ length ls → kept ≡ sets ws 0 (joined ls)
-      → TakesBlock run ws next (record { answer = Length 0; run = record { form = run.form; length = run.length; held = n } }) kept
+      → TakesBlock run ws next (record { answer = Ok 0; run = record { form = run.form; length = run.length; held = n } }) kept
   takes_goes e h k = rw e (record {
-    wrote = wrote_all {fault = none} [] [] refl (omega arith) refl refl;
+    wrote = wrote_all {fault = None} [] [] refl (omega arith) refl refl;
     after = λ i. carries (record { form = run.form; length = run.length; held = h i }) (k i);
   })

@@ -1,8 +1,9 @@
 -- What a block does to lines in words is what it does to the lines by value. Assumes nothing.
+use Rattle.std.specs.Prelude.{Option, Some, None, Result, Ok, Err}
+use Rattle.answers.specs.declared.Refusal.{Refusal}
 use mathlib.Core.Path.{◌≡◌, refl, ap, ◌∙◌}
 use mathlib.Core.Bool.{Bool, true, false, cond}
 use mathlib.Core.List.{List, map}
-use mathlib.Core.Option.{Option, none, some}
 use Prim.Native.Nat.{ℕ}
 use lib.Dec.{ltb}
 use lib.ListN.{length, length-map}
@@ -45,8 +46,8 @@ module _ (count : Totals → Totals) (ssrc : ℕ) (ls : List Line) (g : Each Goo
 
       go : (found : Option Line) → found_by (λ l. l.ssrc) ssrc ls ≡ found
           → settled_by in_words count ssrc (map words_of ls) (mapped words_of found) ≡ next_words (settled_by by_value count ssrc ls found)
-      go none e = rw (length-map ls words_of) (with_room (ltb (length ls) 16) (record { ssrc = ssrc; totals = count fresh_totals }))
-      go (some l) e =
+      go None e = rw (length-map ls words_of) (with_room (ltb (length ls) 16) (record { ssrc = ssrc; totals = count fresh_totals }))
+      go (Some l) e =
           ap (held_line in_words count ssrc (map words_of ls)) (totals_back l.ssrc l.totals (found_each GoodLine (λ l. l.ssrc) ssrc ls g e).totals)
           ∙ ap goes (renewed_alike words_of (λ l. l.ssrc) ssrc_in ssrc_of_lem (record { ssrc = ssrc; totals = count l.totals }) ls)
 
@@ -59,7 +60,7 @@ next_alike own b ls g = go (block_of b)
     chosen true n ssrc = settled_alike (counted own n b) ssrc ls g
     chosen false n ssrc = refl
 
-    go : (r : Block) → next_by in_words own b (map words_of ls) r ≡ next_words (next_by by_value own b ls r)
-    go (read.Arrivals form n ssrc) = chosen (same_form form own) n ssrc
-    go (read.Label form n ssrc) = refl
-    go (read.Refused refusal) = refl
+    go : (r : Result Block Refusal) → next_by in_words own b (map words_of ls) r ≡ next_words (next_by by_value own b ls r)
+    go (Ok (read.Arrivals form n ssrc)) = chosen (same_form form own) n ssrc
+    go (Ok (read.Label form n ssrc)) = refl
+    go (Err refusal) = refl

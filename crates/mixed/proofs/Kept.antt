@@ -1,8 +1,9 @@
 -- A block keeps the lines good, and at most 16. Assumes nothing.
+use Rattle.std.specs.Prelude.{Option, Some, None, Result, Ok, Err}
+use Rattle.answers.specs.declared.Refusal.{Refusal}
 use mathlib.Core.Path.{◌≡◌, refl, ap}
 use mathlib.Core.Bool.{Bool, true, false, cond}
 use mathlib.Core.List.{List, [], ◌∷◌}
-use mathlib.Core.Option.{Option, none, some}
 use Prim.Native.Nat.{ℕ, suc, ◌+◌, ◌*◌, ◌/◌, ◌^◌, ◌≤◌, ◌<◌}
 use native.Mathlib.Omega.{arith}
 use borrow.Author.Tests.{ltb-true}
@@ -44,12 +45,12 @@ module _ {A : Type 0} (P : A → Type 0) where
   Each (l ∷ ls) = P l × Each ls
 
   module _ (ssrc_of : A → ℕ) where
-    pub found_each : (ssrc : ℕ) (ls : List A) {l : A} → Each ls → found_by ssrc_of ssrc ls ≡ some l → P l
+    pub found_each : (ssrc : ℕ) (ls : List A) {l : A} → Each ls → found_by ssrc_of ssrc ls ≡ Some l → P l
     unfolding found_by
     found_each ssrc [] h e = let z : ◌≡◌ {A = ℕ} 0 1 = cc in absurd (omega arith)
     found_each ssrc (m ∷ ls) {l} h e = go (eqb (ssrc_of m) ssrc) e (found_each ssrc ls h.1)
       where
-        go : (t : Bool) → cond t (some m) (found_by ssrc_of ssrc ls) ≡ some l → (found_by ssrc_of ssrc ls ≡ some l → P l) → P l
+        go : (t : Bool) → cond t (Some m) (found_by ssrc_of ssrc ls) ≡ Some l → (found_by ssrc_of ssrc ls ≡ Some l → P l) → P l
         go true e more = let same : m ≡ l = cc in rw same at h.0
         go false e more = more e
 
@@ -142,8 +143,8 @@ module _ (count : Totals → Totals) (keeps : (t : Totals) → Good t → Good (
       with_room false e = tt
 
       go : (found : Option Line) → found_by (λ l. l.ssrc) ssrc ls ≡ found → Keeps (settled_by by_value count ssrc ls found)
-      go none e = with_room (ltb (length ls) 16) refl
-      go (some l) e =
+      go None e = with_room (ltb (length ls) 16) refl
+      go (Some l) e =
           let new : Line = record { ssrc = ssrc; totals = count l.totals } in (
             renewed_each GoodLine (λ l. l.ssrc) new ls (record { ssrc = wide; totals = keeps l.totals (found_each GoodLine (λ l. l.ssrc) ssrc ls g e).totals }) g,
             omega (arith, length-renewed (λ (l : Line). l.ssrc) new ls),
@@ -157,7 +158,7 @@ next_keeps own b ls o g few = go (block_of b) refl
     chosen true n ssrc wide = settled_keeps (counted own n b) (λ t h. counted_good own n b t o h) ssrc wide ls g few
     chosen false n ssrc wide = tt
 
-    go : (r : Block) → block_of b ≡ r → Keeps (next_by by_value own b ls r)
-    go (read.Arrivals form n ssrc) e = chosen (same_form form own) n ssrc (omega (arith, (accepted b e).block.its_ssrc, word_lt b 4 4 o))
-    go (read.Label form n ssrc) e = tt
-    go (read.Refused refusal) e = tt
+    go : (r : Result Block Refusal) → block_of b ≡ r → Keeps (next_by by_value own b ls r)
+    go (Ok (read.Arrivals form n ssrc)) e = chosen (same_form form own) n ssrc (omega (arith, (accepted b e).block.its_ssrc, word_lt b 4 4 o))
+    go (Ok (read.Label form n ssrc)) e = tt
+    go (Err refusal) e = tt

@@ -1,7 +1,6 @@
 -- The laws that the functions' proofs cite, the laws of a run's lines, and the proofs of its theorems.
 pub mod Cuts
 pub mod Standing
-pub mod Pushes
 pub mod Stored
 pub mod Taking
 pub mod Calls

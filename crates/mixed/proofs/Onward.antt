@@ -1,4 +1,5 @@
 -- The whole run, block by block. Assumes nothing.
+use Rattle.std.specs.Prelude.{Result, Ok}
 use mathlib.Core.Path.{◌≡◌, refl, ap, ◌∙◌}
 use mathlib.Core.List.{List, [], ◌∷◌}
 use Prim.Native.Nat.{ℕ, suc}
@@ -47,17 +48,17 @@ module _ (i : ℕ) (b : List ℕ) (bs : List (List ℕ)) (k : Kept) where
 -- ---- from block 0 on
 
 -- what is printed by what block 0 is
-pub printed_by_lem : (trace : List ℕ) (r : Block) → block_of (blocks_of trace).zeroth ≡ r
+pub printed_by_lem : (trace : List ℕ) (r : Result Block Refusal) → block_of (blocks_of trace).zeroth ≡ r
     → printed trace ≡ closed ecnstreams (onward (turned 0 (begun_by (blocks_of trace).zeroth r)) (walk ecnstreams 1 (blocks_of trace).others))
 unfolding printed printed_by walked
-printed_by_lem trace r e = ap (λ (r : Block). closed ecnstreams (onward (turned 0 (begun_by (blocks_of trace).zeroth r)) (walk ecnstreams 1 (blocks_of trace).others))) e
+printed_by_lem trace r e = ap (λ (r : Result Block Refusal). closed ecnstreams (onward (turned 0 (begun_by (blocks_of trace).zeroth r)) (walk ecnstreams 1 (blocks_of trace).others))) e
 
 -- the state that a label starts
 abbrev pub begun : List ℕ → Form → ℕ → Kept
 begun zeroth form n = record { form = form; label = label_of (record { form = form; length = n; held = 0 }) zeroth; lines = [] }
 
-pub printed_started : (trace : List ℕ) (form : Form) (n ssrc : ℕ) → block_of (blocks_of trace).zeroth ≡ read.Label form n ssrc
+pub printed_started : (trace : List ℕ) (form : Form) (n ssrc : ℕ) → block_of (blocks_of trace).zeroth ≡ Ok (read.Label form n ssrc)
     → printed trace ≡ both (to_output head_bytes) (rest 1 (blocks_of trace).others (begun (blocks_of trace).zeroth form n))
 printed_started trace form n ssrc e =
-    printed_by_lem trace (read.Label form n ssrc) e
-    ∙ closed_goes ecnstreams (turned 0 (begun_by (blocks_of trace).zeroth (read.Label form n ssrc))) (walk ecnstreams 1 (blocks_of trace).others) refl
+    printed_by_lem trace (Ok (read.Label form n ssrc)) e
+    ∙ closed_goes ecnstreams (turned 0 (begun_by (blocks_of trace).zeroth (Ok (read.Label form n ssrc)))) (walk ecnstreams 1 (blocks_of trace).others) refl

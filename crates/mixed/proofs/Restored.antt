@@ -1,8 +1,8 @@
 -- A sound line and its 13 words, and lines behind one another in lent words. Assumes nothing.
+use Rattle.std.specs.Prelude.{Some}
 use mathlib.Core.Path.{◌≡◌, refl, ap, ap₂, ◌∙◌}
 use mathlib.Core.Bool.{true}
 use mathlib.Core.List.{List, [], ◌∷◌, ◌++◌, map, append_assoc}
-use mathlib.Core.Option.{some}
 use Prim.Native.Nat.{ℕ, ◌*◌, ◌≤◌}
 use native.Mathlib.Omega.{arith}
 use borrow.Author.Tests.{le-leb}
@@ -40,7 +40,7 @@ module _ (ssrc : ℕ) (t : Totals) where
   unfolding line_words source_words
   restarts_of = refl
 
-  pub totals_back : Good t → totals_in (line_words ssrc t) ≡ some t
+  pub totals_back : Good t → totals_in (line_words ssrc t) ≡ Some t
   unfolding totals_in
   totals_back g =
       let back = held (source_words t.source) (sound_back t.source g.sound.good g.number) in

@@ -1,8 +1,9 @@
 -- The lines are in rising order of SSRC, and each gives a row. Assumes nothing.
+use Rattle.std.specs.Prelude.{Option, Some, None, Result, Ok, Err}
+use Rattle.answers.specs.declared.Refusal.{Refusal}
 use mathlib.Core.Path.{◌≡◌, refl, sym, ap, ◌∙◌, subst}
 use mathlib.Core.Bool.{Bool, true, false, cond}
 use mathlib.Core.List.{List, [], ◌∷◌, map, append-nil}
-use mathlib.Core.Option.{Option, none, some}
 use Prim.Native.Nat.{ℕ, suc, ◌<◌}
 use native.Mathlib.Omega.{arith}
 use borrow.Author.Tests.{eqb-true, eqb-false, ltb-true, ltb-false}
@@ -44,16 +45,16 @@ renewed_same new (s ∷ ss) = go (eqb s new) refl (renewed_same new ss)
     go false e more = ap (λ (l : List ℕ). s ∷ l) more
 
 -- none of the first of them
-not_first : (new s : ℕ) (ss : List ℕ) → found_by self new (s ∷ ss) ≡ none → (eqb s new ≡ false) × (found_by self new ss ≡ none)
+not_first : (new s : ℕ) (ss : List ℕ) → found_by self new (s ∷ ss) ≡ None → (eqb s new ≡ false) × (found_by self new ss ≡ None)
 unfolding found_by
 not_first new s ss e = go (eqb s new) refl e
   where
-    go : (t : Bool) → eqb s new ≡ t → cond t (some s) (found_by self new ss) ≡ none → (eqb s new ≡ false) × (found_by self new ss ≡ none)
+    go : (t : Bool) → eqb s new ≡ t → cond t (Some s) (found_by self new ss) ≡ None → (eqb s new ≡ false) × (found_by self new ss ≡ None)
     go true q e = let z : ◌≡◌ {A = ℕ} 0 1 = cc in absurd (omega arith)
     go false q e = (q, e)
 
 module _ (new : ℕ) where
-  added_behind : (a : ℕ) (ss : List ℕ) → a < new → Rising (a ∷ ss) → found_by self new ss ≡ none → Rising (a ∷ added_by self new ss)
+  added_behind : (a : ℕ) (ss : List ℕ) → a < new → Rising (a ∷ ss) → found_by self new ss ≡ None → Rising (a ∷ added_by self new ss)
   unfolding added_by
   added_behind a [] less r e = (less, tt)
   added_behind a (s ∷ ss) less r e = let n = not_first new s ss e in go (ltb s new) refl n.0 (λ below. added_behind s ss below r.1 n.1)
@@ -62,12 +63,12 @@ module _ (new : ℕ) where
       go true q n more = (r.0, more (ltb-true s new q))
       go false q n more = (less, (let above = ltb-false s new q in let other = eqb-false s new n in omega arith, r.1))
 
-  added_rises : (ss : List ℕ) → Rising ss → found_by self new ss ≡ none → Rising (added_by self new ss)
+  added_rises : (ss : List ℕ) → Rising ss → found_by self new ss ≡ None → Rising (added_by self new ss)
   unfolding added_by
   added_rises [] r e = tt
   added_rises (s ∷ ss) r e = let n = not_first new s ss e in go (ltb s new) refl n.0 n.1
     where
-      go : (t : Bool) → ltb s new ≡ t → eqb s new ≡ false → found_by self new ss ≡ none → Rising (cond t (s ∷ added_by self new ss) (new ∷ s ∷ ss))
+      go : (t : Bool) → ltb s new ≡ t → eqb s new ≡ false → found_by self new ss ≡ None → Rising (cond t (s ∷ added_by self new ss) (new ∷ s ∷ ss))
       go true q n m = added_behind s ss (ltb-true s new q) r m
       go false q n m = (let above = ltb-false s new q in let other = eqb-false s new n in omega arith, r)
 
@@ -85,7 +86,7 @@ module _ (count : Totals → Totals) (ssrc : ℕ) (ls : List Line) (o : InOrder 
   unfolding settled
   settled_keeps = go (found_by ssrc_of ssrc ls) refl
     where
-      with_room : (t : Bool) (new : Line) → ltb (length ls) 16 ≡ t → found_by ssrc_of new.ssrc ls ≡ none → Keeps (cond t (goes (added_by ssrc_of new ls)) (refuses Places))
+      with_room : (t : Bool) (new : Line) → ltb (length ls) 16 ≡ t → found_by ssrc_of new.ssrc ls ≡ None → Keeps (cond t (goes (added_by ssrc_of new ls)) (refuses Places))
       with_room true new q e =
           let nowhere = found_alike ssrc_of ssrc_of self (λ l. refl) new.ssrc ls ∙ ap (mapped ssrc_of) e in
           let less = ltb-true (length ls) 16 q in
@@ -96,8 +97,8 @@ module _ (count : Totals → Totals) (ssrc : ℕ) (ls : List Line) (o : InOrder 
       with_room false new q e = tt
 
       go : (found : Option Line) → found_by ssrc_of ssrc ls ≡ found → Keeps (settled_by by_value count ssrc ls found)
-      go none e = with_room (ltb (length ls) 16) (record { ssrc = ssrc; totals = count fresh_totals }) refl e
-      go (some l) e =
+      go None e = with_room (ltb (length ls) 16) (record { ssrc = ssrc; totals = count fresh_totals }) refl e
+      go (Some l) e =
           let new : Line = record { ssrc = ssrc; totals = count l.totals } in
           let same = sym (renewed_same ssrc (map ssrc_of ls)) ∙ renewed_alike ssrc_of ssrc_of self (λ l. refl) new ls in
           record { rising = subst Rising same o.rising; few = omega (arith, length-renewed ssrc_of new ls, o.few) }
@@ -110,10 +111,10 @@ next_keeps own b ls o = go (block_of b)
     chosen true n ssrc = settled_keeps (counted own n b) ssrc ls o
     chosen false n ssrc = tt
 
-    go : (r : Block) → Keeps (next_by by_value own b ls r)
-    go (read.Arrivals form n ssrc) = chosen (same_form form own) n ssrc
-    go (read.Label form n ssrc) = tt
-    go (read.Refused refusal) = tt
+    go : (r : Result Block Refusal) → Keeps (next_by by_value own b ls r)
+    go (Ok (read.Arrivals form n ssrc)) = chosen (same_form form own) n ssrc
+    go (Ok (read.Label form n ssrc)) = tt
+    go (Err refusal) = tt
 
 -- ---- behind any blocks
 
@@ -134,10 +135,10 @@ lines_rise bs = go (block_of bs.zeroth)
     none_yet : InOrder []
     none_yet = record { rising = tt; few = omega arith }
 
-    go : (r : Block) → InOrder (onward (turned 0 (begun_by bs.zeroth r)) (walk ecnstreams 1 bs.others)).state.lines
-    go (read.Label form n ssrc) = walk_rises 1 bs.others _ none_yet
-    go (read.Arrivals form n ssrc) = none_yet
-    go (read.Refused refusal) = none_yet
+    go : (r : Result Block Refusal) → InOrder (onward (turned 0 (begun_by bs.zeroth r)) (walk ecnstreams 1 bs.others)).state.lines
+    go (Ok (read.Label form n ssrc)) = walk_rises 1 bs.others _ none_yet
+    go (Ok (read.Arrivals form n ssrc)) = none_yet
+    go (Err refusal) = none_yet
 
 -- ---- what is printed
 
@@ -155,7 +156,7 @@ pub head_then_rows : HeadThenRows
 unfolding printed_by closed walked onward
 head_then_rows bs = ap (λ (p : Printed). both p (ended (walked ecnstreams bs).state (walked ecnstreams bs).ended)) (go (block_of bs.zeroth))
   where
-    go : (r : Block) → (onward (turned 0 (begun_by bs.zeroth r)) (walk ecnstreams 1 bs.others)).printed ≡ to_output head_bytes
-    go (read.Label form n ssrc) = ap (both (to_output head_bytes)) (walk_prints 1 bs.others (record { form = form; label = _; lines = [] })) ∙ λ i. record { out = append-nil head_bytes i; err = [] }
-    go (read.Arrivals form n ssrc) = refl
-    go (read.Refused refusal) = refl
+    go : (r : Result Block Refusal) → (onward (turned 0 (begun_by bs.zeroth r)) (walk ecnstreams 1 bs.others)).printed ≡ to_output head_bytes
+    go (Ok (read.Label form n ssrc)) = ap (both (to_output head_bytes)) (walk_prints 1 bs.others (record { form = form; label = _; lines = [] })) ∙ λ i. record { out = append-nil head_bytes i; err = [] }
+    go (Ok (read.Arrivals form n ssrc)) = refl
+    go (Err refusal) = refl

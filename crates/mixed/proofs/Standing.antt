@@ -1,8 +1,8 @@
 -- Where an SSRC stands among lines, and what is found, renewed and added there. Assumes nothing.
+use Rattle.std.specs.Prelude.{Some, None}
 use mathlib.Core.Path.{◌≡◌, refl, ap}
 use mathlib.Core.Bool.{Bool, true, false, cond}
 use mathlib.Core.List.{List, [], ◌∷◌, ◌++◌}
-use mathlib.Core.Option.{none, some}
 use Prim.Native.Nat.{ℕ, suc, ◌≤◌, ◌<◌}
 use native.Mathlib.Omega.{arith}
 use borrow.Author.Tests.{eq-eqb, ne_eqb, lt-ltb, le-ltb}
@@ -40,24 +40,24 @@ module _ {A : Type 0} (ssrc_of : A → ℕ) where
 
   -- ---- what is found
 
-  pub found_none : (ssrc : ℕ) (ls : List A) → length ls ≤ place_by ssrc_of ssrc ls → found_by ssrc_of ssrc ls ≡ none
+  pub found_none : (ssrc : ℕ) (ls : List A) → length ls ≤ place_by ssrc_of ssrc ls → found_by ssrc_of ssrc ls ≡ None
   unfolding place_by found_by
   found_none ssrc [] h = refl
   found_none ssrc (l ∷ ls) h = go (found_none ssrc ls) (eqb (ssrc_of l) ssrc) h
     where
-      go : (length ls ≤ place_by ssrc_of ssrc ls → found_by ssrc_of ssrc ls ≡ none) → (b : Bool) → suc (length ls) ≤ cond b 0 (suc (place_by ssrc_of ssrc ls))
-          → cond b (some l) (found_by ssrc_of ssrc ls) ≡ none
+      go : (length ls ≤ place_by ssrc_of ssrc ls → found_by ssrc_of ssrc ls ≡ None) → (b : Bool) → suc (length ls) ≤ cond b 0 (suc (place_by ssrc_of ssrc ls))
+          → cond b (Some l) (found_by ssrc_of ssrc ls) ≡ None
       go more true h = absurd (omega arith)
       go more false h = more (omega arith)
 
-  pub found_there : (ssrc : ℕ) (d : A) (ls : List A) → place_by ssrc_of ssrc ls < length ls → found_by ssrc_of ssrc ls ≡ some (get_or ls (place_by ssrc_of ssrc ls) d)
+  pub found_there : (ssrc : ℕ) (d : A) (ls : List A) → place_by ssrc_of ssrc ls < length ls → found_by ssrc_of ssrc ls ≡ Some (get_or ls (place_by ssrc_of ssrc ls) d)
   unfolding place_by found_by
   found_there ssrc d [] h = absurd (omega arith)
   found_there ssrc d (l ∷ ls) h = go (found_there ssrc d ls) (eqb (ssrc_of l) ssrc) h
     where
-      go : (place_by ssrc_of ssrc ls < length ls → found_by ssrc_of ssrc ls ≡ some (get_or ls (place_by ssrc_of ssrc ls) d))
+      go : (place_by ssrc_of ssrc ls < length ls → found_by ssrc_of ssrc ls ≡ Some (get_or ls (place_by ssrc_of ssrc ls) d))
           → (b : Bool) → cond b 0 (suc (place_by ssrc_of ssrc ls)) < suc (length ls)
-          → cond b (some l) (found_by ssrc_of ssrc ls) ≡ some (get_or (l ∷ ls) (cond b 0 (suc (place_by ssrc_of ssrc ls))) d)
+          → cond b (Some l) (found_by ssrc_of ssrc ls) ≡ Some (get_or (l ∷ ls) (cond b 0 (suc (place_by ssrc_of ssrc ls))) d)
       go more true h = refl
       go more false h = more (omega arith)
 

@@ -1,8 +1,8 @@
 -- Of at most 16 sources no block is refused. Assumes nothing.
+use Rattle.std.specs.Prelude.{Option, Some, None, Ok}
 use mathlib.Core.Path.{◌≡◌, refl, sym, ap, ◌∙◌, subst}
 use mathlib.Core.Bool.{Bool, true, false, cond, ◌||◌}
 use mathlib.Core.List.{List, [], ◌∷◌, map}
-use mathlib.Core.Option.{Option, none, some}
 use Prim.Native.Nat.{ℕ, suc, ◌+◌, ◌≤◌}
 use native.Mathlib.Omega.{arith}
 use borrow.Author.Tests.{eqb-true, eq-eqb, lt-ltb}
@@ -31,12 +31,12 @@ use Rattle.mixed.proofs.Rises.{self, renewed_same, ssrc_of}
 -- ---- SSRCs in a list
 
 -- what stands in no place of a list is not in it
-nowhere : (ssrc : ℕ) (ss : List ℕ) → found_by self ssrc ss ≡ none → among ssrc ss ≡ false
+nowhere : (ssrc : ℕ) (ss : List ℕ) → found_by self ssrc ss ≡ None → among ssrc ss ≡ false
 unfolding found_by
 nowhere ssrc [] e = refl
 nowhere ssrc (s ∷ ss) e = go (eqb s ssrc) e (nowhere ssrc ss)
   where
-    go : (t : Bool) → cond t (some s) (found_by self ssrc ss) ≡ none → (found_by self ssrc ss ≡ none → among ssrc ss ≡ false) → (t || among ssrc ss) ≡ false
+    go : (t : Bool) → cond t (Some s) (found_by self ssrc ss) ≡ None → (found_by self ssrc ss ≡ None → among ssrc ss ≡ false) → (t || among ssrc ss) ≡ false
     go true e more = let z : ◌≡◌ {A = ℕ} 0 1 = cc in absurd (omega arith)
     go false e more = more e
 
@@ -113,7 +113,7 @@ module _ (ssrcs : List ℕ) where
         }
 
     -- it has none: it is among those left
-    module _ (e : found_by ssrc_of ssrc ls ≡ none) where
+    module _ (e : found_by ssrc_of ssrc ls ≡ None) where
       new_left : among ssrc c.left ≡ true
       new_left = rw (nowhere ssrc (map ssrc_of ls) (found_alike ssrc_of ssrc_of self (λ l. refl) ssrc ls ∙ ap (mapped ssrc_of) e)) at (c.covers ssrc in_List)
 
@@ -138,22 +138,22 @@ module _ (ssrcs : List ℕ) where
     settled_covers count = go (found_by ssrc_of ssrc ls) refl
       where
         go : (found : Option Line) → found_by ssrc_of ssrc ls ≡ found → Continues (settled_by by_value count ssrc ls found)
-        go none e = rw (lt-ltb (length ls) 16 (omega (arith, c.few, length_without ssrc c.left (new_left e)))) (added_covers e (count fresh_totals))
-        go (some l) e = renewed_covers (count l.totals)
+        go None e = rw (lt-ltb (length ls) 16 (omega (arith, c.few, length_without ssrc c.left (new_left e)))) (added_covers e (count fresh_totals))
+        go (Some l) e = renewed_covers (count l.totals)
 
-  next_covers : (form : Form) (b : List ℕ) (n ssrc : ℕ) → block_of b ≡ read.Arrivals form n ssrc → among ssrc ssrcs ≡ true → (ls : List Line) → Covered ssrcs ls
+  next_covers : (form : Form) (b : List ℕ) (n ssrc : ℕ) → block_of b ≡ Ok (read.Arrivals form n ssrc) → among ssrc ssrcs ≡ true → (ls : List Line) → Covered ssrcs ls
       → Continues (next_of by_value form b ls)
   unfolding next_of
   next_covers form b n ssrc is in_List ls c = rw (is, eq-eqb (shape_of form).label (shape_of form).label refl) (settled_covers ssrc in_List ls c (counted form n b))
 
-  walk_covers : (i : ℕ) (bs : List (List ℕ)) (k : Kept) → OfSources k.form ssrcs bs → Covered ssrcs k.lines → (walk ecnstreams i bs k).ended ≡ none
+  walk_covers : (i : ℕ) (bs : List (List ℕ)) (k : Kept) → OfSources k.form ssrcs bs → Covered ssrcs k.lines → (walk ecnstreams i bs k).ended ≡ None
   unfolding walk onward
   walk_covers i [] k o c = refl
   walk_covers i (b ∷ bs) k o c =
       go (next_of by_value k.form b k.lines) (next_covers k.form b o.0 o.1 o.2 o.3 k.lines c) (λ k. walk_covers (suc i) bs k)
     where
-      go : (next : Next (List Line)) → Continues next → ((k : Kept) → OfSources k.form ssrcs bs → Covered ssrcs k.lines → (walk ecnstreams (suc i) bs k).ended ≡ none)
-          → (onward (turned i (taken k next)) (walk ecnstreams (suc i) bs)).ended ≡ none
+      go : (next : Next (List Line)) → Continues next → ((k : Kept) → OfSources k.form ssrcs bs → Covered ssrcs k.lines → (walk ecnstreams (suc i) bs k).ended ≡ None)
+          → (onward (turned i (taken k next)) (walk ecnstreams (suc i) bs)).ended ≡ None
       go (goes ls) c later = later (record { form = k.form; label = k.label; lines = ls }) o.4 c
       go (refuses refusal) c later = absurd c
 

@@ -1,8 +1,8 @@
 -- The totals in the words of a line, case by case. Assumes nothing.
+use Rattle.std.specs.Prelude.{Option, Some, None}
 use mathlib.Core.Path.{◌≡◌, refl, sym, ap, ◌∙◌, subst}
 use mathlib.Core.Bool.{Bool, true, false, cond}
 use mathlib.Core.List.{List}
-use mathlib.Core.Option.{Option, none, some}
 use Prim.Native.Nat.{ℕ, ◌≤◌}
 use native.Mathlib.Omega.{arith}
 use borrow.Author.Tests.{le-leb, leb-true}
@@ -15,46 +15,44 @@ use Rattle.source.specs.Record.{sound}
 use Rattle.source.specs.Totals.{most_told}
 use Rattle.source.proofs.Totalled.{SoundTotals}
 use Rattle.lent.specs.SourceWords.{is_source, source_of, loaded}
-use Rattle.lent.specs.declared.source_words.Loaded.TheVariants as words
 use Rattle.lent.proofs.SourceLaws.{held}
-use Rattle.mixed.specs.declared.words.Loaded.TheVariants.{Held, Malformed}
-use Rattle.mixed.specs.Lines.{record_in, line_conditions, totals_in, loaded_by}
+use Rattle.mixed.specs.Lines.{record_in, line_conditions, totals_in}
 
 abbrev totals_with : List ℕ → Source → Totals
 totals_with line s = record { source = s; jumped = get_or line 11 0; restarts = get_or line 12 0 }
 
 -- no record's words
-pub no_record : (ws : List ℕ) → loaded ws ≡ words.Malformed → is_source ws ≡ false
+pub no_record : (ws : List ℕ) → loaded ws ≡ None → is_source ws ≡ false
 unfolding loaded
 no_record ws e = go (is_source ws) refl e
   where
-    go : (b : Bool) → is_source ws ≡ b → cond b (words.Held (source_of ws)) words.Malformed ≡ words.Malformed → is_source ws ≡ false
+    go : (b : Bool) → is_source ws ≡ b → cond b (Some (source_of ws)) None ≡ None → is_source ws ≡ false
     go true f e = let z : ◌≡◌ {A = ℕ} 0 1 = cc in absurd (omega arith)
     go false f e = f
 
 module _ (line : List ℕ) where
   abbrev totals_by : Bool → Option Totals
-  totals_by b = cond b (some (totals_with line (source_of (record_in line)))) none
+  totals_by b = cond b (Some (totals_with line (source_of (record_in line)))) None
 
-  pub totals_none : false ≡ all (line_conditions line) → Malformed ≡ loaded_by (totals_in line)
+  pub totals_none : false ≡ all (line_conditions line) → None ≡ totals_in line
   unfolding totals_in
-  totals_none e = ap (λ (b : Bool). loaded_by (totals_by b)) e
+  totals_none e = ap totals_by e
 
-  pub totals_some : (s : Source) → loaded (record_in line) ≡ words.Held s → sound s ≡ true → get_or line 11 0 ≤ most_told → get_or line 12 0 ≤ most_told
-      → Held (totals_with line s) ≡ loaded_by (totals_in line)
+  pub totals_some : (s : Source) → loaded (record_in line) ≡ Some s → sound s ≡ true → get_or line 11 0 ≤ most_told → get_or line 12 0 ≤ most_told
+      → Some (totals_with line s) ≡ totals_in line
   unfolding totals_in
   totals_some s e g j r =
       let h = held (record_in line) e in
       let good : sound (source_of (record_in line)) ≡ true = ap sound (sym h.2) ∙ g in
       let ok : all (line_conditions line) ≡ true = rw (h.1, good, le-leb (get_or line 11 0) most_told j, le-leb (get_or line 12 0) most_told r) in
-      ap (λ (s : Source). Held (totals_with line s)) h.2 ∙ ap (λ (b : Bool). loaded_by (totals_by b)) (sym ok)
+      ap (λ (s : Source). Some (totals_with line s)) h.2 ∙ ap totals_by (sym ok)
 
   -- totals that are taken are sound
-  pub taken_sound : (t : Totals) → totals_in line ≡ some t → SoundTotals t
+  pub taken_sound : (t : Totals) → totals_in line ≡ Some t → SoundTotals t
   unfolding totals_in
   taken_sound t e = go (all (line_conditions line)) refl e
     where
-      go : (b : Bool) → all (line_conditions line) ≡ b → totals_by b ≡ some t → SoundTotals t
+      go : (b : Bool) → all (line_conditions line) ≡ b → totals_by b ≡ Some t → SoundTotals t
       go true f e =
           let same : totals_with line (source_of (record_in line)) ≡ t = cc in
           subst SoundTotals same
@@ -64,13 +62,3 @@ module _ (line : List ℕ) where
             restarts = leb-true (get_or line 12 0) most_told (all_true (line_conditions line) 3 f);
           })
       go false f e = let z : ◌≡◌ {A = ℕ} 0 1 = cc in absurd (omega arith)
-
--- ---- from what was loaded
-
-pub loaded_held : (o : Option Totals) (t : Totals) → loaded_by o ≡ Held t → o ≡ some t
-loaded_held (some u) t e = let same : u ≡ t = cc in ap some same
-loaded_held none t e = let z : ◌≡◌ {A = ℕ} 0 1 = cc in absurd (omega arith)
-
-pub loaded_malformed : (o : Option Totals) → loaded_by o ≡ Malformed → o ≡ none
-loaded_malformed (some u) e = let z : ◌≡◌ {A = ℕ} 0 1 = cc in absurd (omega arith)
-loaded_malformed none e = refl

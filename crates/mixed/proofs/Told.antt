@@ -1,8 +1,8 @@
 -- The row of a line, case by case. Assumes nothing.
+use Rattle.std.specs.Prelude.{Some, None}
 use mathlib.Core.Path.{◌≡◌, sym, ap, ◌∙◌}
 use mathlib.Core.Bool.{Bool, true, false, cond, and-true}
 use mathlib.Core.List.{List}
-use mathlib.Core.Option.{none, some}
 use Prim.Native.Nat.{ℕ, ◌*◌, ◌^◌, ◌≤◌, ◌<◌}
 use native.Mathlib.Omega.{arith}
 use borrow.Author.Tests.{eqb-true, leb-true, eq-eqb, le-leb, lt-leb, lt-ltb, le-ltb}
@@ -52,17 +52,17 @@ module _ (run : Run) (zeroth : List ℕ) where
 -- ---- the refusals in their order
 
 module _ (run : Run) (i : ℕ) (ws zeroth : List ℕ) where
-  pub row_malformed : sound_run run ws ≡ false → row_fault run i ws zeroth ≡ some Malformed
+  pub row_malformed : sound_run run ws ≡ false → row_fault run i ws zeroth ≡ Some Malformed
   unfolding row_fault
   row_malformed s = rw s
 
   module _ (s : sound_run run ws ≡ true) where
-    pub row_foreign : own_label run zeroth ≡ false → row_fault run i ws zeroth ≡ some Malformed
+    pub row_foreign : own_label run zeroth ≡ false → row_fault run i ws zeroth ≡ Some Malformed
     unfolding row_fault
     row_foreign o = rw (s, o)
 
     module _ (o : own_label run zeroth ≡ true) where
-      pub row_behind : run.held ≤ i → row_fault run i ws zeroth ≡ some Limits
+      pub row_behind : run.held ≤ i → row_fault run i ws zeroth ≡ Some Limits
       unfolding row_fault
       row_behind h = rw (s, o, le-leb run.held i h)
 
@@ -74,24 +74,24 @@ module _ (run : Run) (i : ℕ) (ws zeroth : List ℕ) where
         unfolding row_fault
         by_totals = rw (s, o, lt-leb run.held i h) (ap (λ (l : List ℕ). fault_by (totals_at l)) (line_at_lem i run.held ws h))
 
-        pub row_wide : 0xffff_ffff < get_or ws (13 * i) 0 → row_fault run i ws zeroth ≡ some Malformed
+        pub row_wide : 0xffff_ffff < get_or ws (13 * i) 0 → row_fault run i ws zeroth ≡ Some Malformed
         row_wide w =
             let wide : 2 ^ 32 ≤ ssrc_in line = omega (arith, ssrc_at_lem i ws) in
-            by_totals ∙ ap (λ (b : Bool). fault_by (cond b (totals_in line) none)) (le-ltb (ssrc_in line) (2 ^ 32) wide)
+            by_totals ∙ ap (λ (b : Bool). fault_by (cond b (totals_in line) None)) (le-ltb (ssrc_in line) (2 ^ 32) wide)
 
         module _ (w : get_or ws (13 * i) 0 ≤ 0xffff_ffff) where
           narrow : totals_at line ≡ totals_in line
           narrow =
               let few : ssrc_in line < 2 ^ 32 = omega (arith, ssrc_at_lem i ws) in
-              ap (λ (b : Bool). cond b (totals_in line) none) (lt-ltb (ssrc_in line) (2 ^ 32) few)
+              ap (λ (b : Bool). cond b (totals_in line) None) (lt-ltb (ssrc_in line) (2 ^ 32) few)
 
-          pub row_no_line : totals_in line ≡ none → row_fault run i ws zeroth ≡ some Malformed
+          pub row_no_line : totals_in line ≡ None → row_fault run i ws zeroth ≡ Some Malformed
           row_no_line e = by_totals ∙ ap fault_by (narrow ∙ e)
 
-          pub row_goes : (t : Totals) → totals_in line ≡ some t → row_fault run i ws zeroth ≡ none
+          pub row_goes : (t : Totals) → totals_in line ≡ Some t → row_fault run i ws zeroth ≡ None
           row_goes t e = by_totals ∙ ap fault_by (narrow ∙ e)
 
-          pub row_is : (t : Totals) → totals_in line ≡ some t → row_of run i ws zeroth ≡ row_bytes (label_of run zeroth) (get_or ws (13 * i) 0) t
+          pub row_is : (t : Totals) → totals_in line ≡ Some t → row_of run i ws zeroth ≡ row_bytes (label_of run zeroth) (get_or ws (13 * i) 0) t
           unfolding row_of
           row_is t e =
               ap (λ (l : List ℕ). row_by (label_of run zeroth) (ssrc_in l) (totals_at l)) (line_at_lem i run.held ws h)

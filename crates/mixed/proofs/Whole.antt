@@ -1,7 +1,7 @@
 -- The calls for one block each, and then for the rows, give what the whole run prints. Assumes nothing.
+use Rattle.std.specs.Prelude.{Option, Some, None, Result, Ok, Err}
 use mathlib.Core.Path.{◌≡◌, refl, sym, ap, ap₂, ◌∙◌, subst⁻¹}
 use mathlib.Core.List.{List, [], ◌∷◌, ◌++◌, map}
-use mathlib.Core.Option.{Option, none, some}
 use Prim.Native.Nat.{ℕ, zero, suc, ◌+◌, ◌*◌, ◌^◌, ◌≤◌, ◌<◌}
 use native.Mathlib.Nat.{add-zero}
 use native.Mathlib.Numerals.{add-one}
@@ -50,10 +50,10 @@ module _ {zeroth : List ℕ} {run : Run} {ws : List ℕ} {k : Kept} (h : Holds z
         ∙ sym (get_or-drop i (map words_of k.lines) 0 [])
         ∙ ap (λ (ls : List (List ℕ)). get_or ls 0 []) (map-drop i k.lines ∙ ap (map words_of) here)
 
-    totals_at_lem : totals_at (line_at run i ws) ≡ some l.totals
+    totals_at_lem : totals_at (line_at run i ws) ≡ Some l.totals
     totals_at_lem = ap totals_at line_at_lem ∙ rw (ssrc_of_lem l, lt-ltb l.ssrc (2 ^ 32) g.ssrc) (totals_back l.ssrc l.totals g.totals)
 
-    no_fault : i < run.held → row_fault run i ws zeroth ≡ none
+    no_fault : i < run.held → row_fault run i ws zeroth ≡ None
     unfolding row_fault
     no_fault less = rw (sound h, h.own, lt-leb run.held i less, totals_at_lem)
 
@@ -78,16 +78,16 @@ module _ (h : Lent) (k : Kept) (s : Stands h k) where
       ap₂ (λ (s t : List ℕ). s ++ t) (row_at_lem i l back here g.0 (omega arith)) (rows_from_lem (suc i) back next (omega arith) g.1)
 
   ends : (e : Option Ending) → end_on h e ≡ ended k e
-  ends none = ap to_output (ap (rows_from h 0) s.held ∙ rows_from_lem 0 k.lines refl (omega (arith, s.held)) s.good)
-  ends (some e) = refl
+  ends None = ap to_output (ap (rows_from h 0) s.held ∙ rows_from_lem 0 k.lines refl (omega (arith, s.held)) s.good)
+  ends (Some e) = refl
 
 -- ---- the blocks
 
-starts : (ws b : List ℕ) → 13 * most_lines ≤ length ws → (r : Block) → block_of b ≡ r
+starts : (ws b : List ℕ) → 13 * most_lines ≤ length ws → (r : Result Block Refusal) → block_of b ≡ r
     → Starts Stands (block_calls ws) ecnstreams (begun_by b r) (started_on ws b (start_by r)) × ((begun_by b r).printed ≡ to_output head_bytes)
-starts ws b room (read.Label form n ssrc) e = ((start_holds b ws form n ssrc room e, refl), refl)
-starts ws b room (read.Arrivals form n ssrc) e = ((refl, refl), refl)
-starts ws b room (read.Refused refusal) e = ((refl, refl), refl)
+starts ws b room (Ok (read.Label form n ssrc)) e = ((start_holds b ws form n ssrc room e, refl), refl)
+starts ws b room (Ok (read.Arrivals form n ssrc)) e = ((refl, refl), refl)
+starts ws b room (Err refusal) e = ((refl, refl), refl)
 
 turns : (h : Lent) (k : Kept) → Stands h k → (n : Next (List Line)) → Keeps n
     → Turns Stands h k [] (taken k n) (next_on h.zeroth (carried_by h.run h.words (next_words n)))
@@ -95,9 +95,9 @@ turns h k s (goes ls) keeps = (still_holds s ls keeps, refl, refl)
 turns h k s (refuses refusal) keeps = refl
 
 -- a part of a block is refused with 1
-short_turn : (i : ℕ) (k : Kept) (b : List ℕ) → length b < block_bytes → ecnstreams.step i k b ≡ record { state = k; printed = nothing; refusal = some Incomplete }
+short_turn : (i : ℕ) (k : Kept) (b : List ℕ) → length b < block_bytes → ecnstreams.step i k b ≡ record { state = k; printed = nothing; refusal = Some Incomplete }
 unfolding next_of
-short_turn i k b less = ap (λ (r : Block). taken k (next_by by_value k.form b k.lines r)) (sym (not_whole b (λ e. omega (arith, e))))
+short_turn i k b less = ap (λ (r : Result Block Refusal). taken k (next_by by_value k.form b k.lines r)) (sym (not_whole b (λ e. omega (arith, e))))
 
 pub mirrors : (ws : List ℕ) → 13 * most_lines ≤ length ws → Mirrors (block_calls ws) ecnstreams
 unfolding start_of

@@ -1,4 +1,5 @@
 -- The hypotheses are met, and each theorem is used where they are. Assumes nothing.
+use Rattle.std.specs.Prelude.{Ok}
 use mathlib.Core.Path.{◌≡◌, refl}
 use mathlib.Core.List.{List, [], ◌∷◌}
 use Prim.Native.Nat.{ℕ}
@@ -66,7 +67,7 @@ session = (
       (more took_2.state (drop block_bytes (drop block_bytes blocks)) [] 0 _ (done took_3.state [] (omega arith))))),
 )
 
-label_reads : block_of (blocks_of some.trace).zeroth ≡ Label One 1 9
+label_reads : block_of (blocks_of some.trace).zeroth ≡ Ok (Label One 1 9)
 unfolding label_block arrivals_block records_of record_bytes records_bytes header filled checked bytes words ones_add ones_sum word block_of right_check contents_of label_body label_byte every cut blocks_of
 label_reads = refl
 

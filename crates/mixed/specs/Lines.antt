@@ -1,14 +1,11 @@
 -- A line by value, and in the words that a caller lends: 13 to a line, the SSRC, the 10 of the source's record, jumped and restarts.
-use Rattle.std.specs.Prelude.{ℕ, zero, suc, Bool, cond, List, [], ◌∷◌, ◌++◌, leb, take, drop, get_or}
-use Rattle.std.proofs.Math.Option.{Option, none, some}
+use Rattle.std.specs.Prelude.{ℕ, zero, suc, Bool, cond, List, [], ◌∷◌, ◌++◌, leb, take, drop, get_or, Option, Some, None}
 use Rattle.answers.specs.Conditions.{all}
 use Rattle.source.specs.declared.Totals.{Totals}
 use Rattle.source.specs.Record.{sound}
 use Rattle.source.specs.Totals.{most_told}
 use Rattle.lent.specs.SourceWords.{is_source, source_of, source_words}
 use Rattle.mixed.specs.declared.Line.{Line}
-use Rattle.mixed.specs.declared.words.Loaded.{Loaded}
-use Rattle.mixed.specs.declared.words.Loaded.TheVariants.{Held, Malformed}
 
 -- how a line is held: its SSRC, its totals unless it is malformed, and the line of given ones
 pub record Holding (A : Type 0) : Type 0 where
@@ -19,7 +16,7 @@ pub record Holding (A : Type 0) : Type 0 where
 -- ---- by value
 
 abbrev pub by_value : Holding Line
-by_value = record { ssrc_of = λ l. l.ssrc; totals = λ l. some l.totals; line = λ ssrc t. record { ssrc = ssrc; totals = t } }
+by_value = record { ssrc_of = λ l. l.ssrc; totals = λ l. Some l.totals; line = λ ssrc t. record { ssrc = ssrc; totals = t } }
 
 -- ---- in words
 
@@ -45,16 +42,11 @@ line_conditions line =
 
 unfoldable pub totals_in : List ℕ → Option Totals
 totals_in line =
-    cond (all (line_conditions line)) (some (record { source = source_of (record_in line); jumped = get_or line 11 0; restarts = get_or line 12 0 }))
-    none
+    cond (all (line_conditions line)) (Some (record { source = source_of (record_in line); jumped = get_or line 11 0; restarts = get_or line 12 0 }))
+    None
 
 unfoldable pub line_words : ℕ → Totals → List ℕ
 line_words ssrc t = ssrc ∷ source_words t.source ++ (t.jumped ∷ t.restarts ∷ [])
 
 abbrev pub in_words : Holding (List ℕ)
 in_words = record { ssrc_of = ssrc_in; totals = totals_in; line = line_words }
-
--- the totals taken from words, as the code answers
-abbrev pub loaded_by : Option Totals → Loaded
-loaded_by (some t) = Held t
-loaded_by none = Malformed

@@ -1,11 +1,10 @@
 -- Lines in rising order of SSRC, each line something that has one (document 02, L1: "in rising order of SSRC with no SSRC twice").
-use Rattle.std.specs.Prelude.{ℕ, suc, cond, List, [], ◌∷◌, eqb, ltb}
-use Rattle.std.proofs.Math.Option.{Option, none, some}
+use Rattle.std.specs.Prelude.{ℕ, suc, cond, List, [], ◌∷◌, eqb, ltb, Option, Some, None}
 
 -- the line of an SSRC, if there is one
 unfoldable pub found_by : {A : Type 0} → (A → ℕ) → ℕ → List A → Option A
-found_by ssrc_of ssrc [] = none
-found_by ssrc_of ssrc (l ∷ ls) = cond (eqb (ssrc_of l) ssrc) (some l) (found_by ssrc_of ssrc ls)
+found_by ssrc_of ssrc [] = None
+found_by ssrc_of ssrc (l ∷ ls) = cond (eqb (ssrc_of l) ssrc) (Some l) (found_by ssrc_of ssrc ls)
 
 -- a line in the place of the one that has its SSRC
 unfoldable pub renewed_by : {A : Type 0} → (A → ℕ) → A → List A → List A

@@ -1,6 +1,5 @@
 -- The call that writes the row of a line. `ws` are the lent words, `zeroth` is block 0.
-use Rattle.std.specs.Prelude.{ℕ, ◌^◌, Bool, cond, not, ◌&&◌, List, [], ◌∷◌, eqb, leb, ltb, length, take, drop, get_or}
-use Rattle.std.proofs.Math.Option.{Option, none, some}
+use Rattle.std.specs.Prelude.{ℕ, ◌^◌, Bool, cond, not, ◌&&◌, List, [], ◌∷◌, eqb, leb, ltb, length, take, drop, get_or, Option, Some, None}
 use Rattle.answers.specs.Conditions.{all}
 use Rattle.answers.specs.declared.Refusal.{Refusal}
 use Rattle.answers.specs.declared.Refusal.TheVariants.{Malformed, Limits}
@@ -37,23 +36,23 @@ line_at run i ws = get_or (lines_in run.held ws) i []
 
 -- its totals, where its SSRC has 32 bits
 abbrev pub totals_at : List ℕ → Option Totals
-totals_at line = cond (ltb (ssrc_in line) (2 ^ 32)) (totals_in line) none
+totals_at line = cond (ltb (ssrc_in line) (2 ^ 32)) (totals_in line) None
 
 -- 9 where there are none
 abbrev pub fault_by : Option Totals → Option Refusal
-fault_by (some t) = none
-fault_by none = some Malformed
+fault_by (Some t) = None
+fault_by None = Some Malformed
 
 -- 9 for the run, its words or block 0; 10 for no such line; 9 for a malformed one
 unfoldable pub row_fault : Run → ℕ → List ℕ → List ℕ → Option Refusal
 row_fault run i ws zeroth =
-    cond (not (sound_run run ws && own_label run zeroth)) (some Malformed)
-    (cond (leb run.held i) (some Limits)
+    cond (not (sound_run run ws && own_label run zeroth)) (Some Malformed)
+    (cond (leb run.held i) (Some Limits)
     (fault_by (totals_at (line_at run i ws))))
 
 abbrev pub row_by : List ℕ → ℕ → Option Totals → List ℕ
-row_by label ssrc (some t) = row_bytes label ssrc t
-row_by label ssrc none = []
+row_by label ssrc (Some t) = row_bytes label ssrc t
+row_by label ssrc None = []
 
 unfoldable pub row_of : Run → ℕ → List ℕ → List ℕ → List ℕ
 row_of run i ws zeroth = row_by (label_of run zeroth) (ssrc_in (line_at run i ws)) (totals_at (line_at run i ws))

@@ -1,6 +1,6 @@
 -- The whole run (document 02, L1): what ecnstreams prints for a trace.
-use Rattle.std.specs.Prelude.{ℕ, List, [], map, take, drop}
-use Rattle.std.proofs.Math.Option.{Option, none, some}
+use Rattle.answers.specs.declared.Refusal.{Refusal}
+use Rattle.std.specs.Prelude.{ℕ, List, [], map, take, drop, Option, Some, None, Result, Ok, Err}
 use Rattle.answers.specs.Refusals.{number_of}
 use Rattle.answers.specs.declared.Refusal.TheVariants.{Contents}
 use Rattle.format.specs.Blocks.{body_at}
@@ -24,27 +24,27 @@ pub record Kept : Type 0 where
   pub lines : List Line
 
 -- block 0: the head line always; a label starts a run, 14 for arrivals
-abbrev pub begun_by : List ℕ → Block → Turn Kept
-begun_by zeroth (read.Label form n ssrc) = record {
+abbrev pub begun_by : List ℕ → Result Block Refusal → Turn Kept
+begun_by zeroth (Ok (read.Label form n ssrc)) = record {
   state = record { form = form; label = take n (drop body_at zeroth); lines = [] };
   printed = to_output head_bytes;
-  refusal = none;
+  refusal = None;
 }
-begun_by zeroth (read.Arrivals form n ssrc) = record { state = record { form = One; label = []; lines = [] }; printed = to_output head_bytes; refusal = some Contents }
-begun_by zeroth (read.Refused refusal) = record { state = record { form = One; label = []; lines = [] }; printed = to_output head_bytes; refusal = some refusal }
+begun_by zeroth (Ok (read.Arrivals form n ssrc)) = record { state = record { form = One; label = []; lines = [] }; printed = to_output head_bytes; refusal = Some Contents }
+begun_by zeroth (Err refusal) = record { state = record { form = One; label = []; lines = [] }; printed = to_output head_bytes; refusal = Some refusal }
 
 -- nothing is printed after an arrivals block
 abbrev pub taken : Kept → Next (List Line) → Turn Kept
-taken k (goes ls) = record { state = record { form = k.form; label = k.label; lines = ls }; printed = nothing; refusal = none }
-taken k (refuses refusal) = record { state = k; printed = nothing; refusal = some refusal }
+taken k (goes ls) = record { state = record { form = k.form; label = k.label; lines = ls }; printed = nothing; refusal = None }
+taken k (refuses refusal) = record { state = k; printed = nothing; refusal = Some refusal }
 
 -- after the last block, one row for each source in rising order of SSRC; the first refused block prints `refused N block I` and no row
 unfoldable pub rows_of : List ℕ → List Line → List ℕ
 rows_of label ls = joined (map (λ l. row_bytes label l.ssrc l.totals) ls)
 
 abbrev pub ended : Kept → Option Ending → Printed
-ended k none = to_output (rows_of k.label k.lines)
-ended k (some e) = to_output (refused_line (number_of e.refusal) e.block)
+ended k None = to_output (rows_of k.label k.lines)
+ended k (Some e) = to_output (refused_line (number_of e.refusal) e.block)
 
 abbrev pub ecnstreams : Program Kept
 ecnstreams = record {

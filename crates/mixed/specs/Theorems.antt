@@ -1,6 +1,5 @@
 -- What holds between the calls and the whole run.
-use Rattle.std.specs.Prelude.{◌≡◌, Bool, true, false, ◌||◌, List, [], ◌∷◌, ◌++◌, map, ℕ, zero, suc, ◌*◌, ◌^◌, ◌≤◌, ◌<◌, eqb, length}
-use Rattle.std.proofs.Math.Option.{Option, none, some}
+use Rattle.std.specs.Prelude.{◌≡◌, Bool, true, false, ◌||◌, List, [], ◌∷◌, ◌++◌, map, ℕ, zero, suc, ◌*◌, ◌^◌, ◌≤◌, ◌<◌, eqb, length, Option, Some, None, Result, Ok, Err}
 use Rattle.answers.specs.Refusals.{number_of}
 use Rattle.answers.specs.declared.Refusal.{Refusal}
 use Rattle.format.specs.Blocks.{block_bytes}
@@ -16,8 +15,6 @@ use Rattle.walk.specs.Machines.{Session}
 use Rattle.walk.specs.Singles.{Singles, singly}
 use Rattle.mixed.specs.declared.Line.{Line}
 use Rattle.mixed.specs.declared.Run.{Run}
-use Rattle.mixed.specs.declared.Begin.{Begin}
-use Rattle.mixed.specs.declared.Begin.TheVariants as begin
 use Rattle.mixed.specs.Blocks.{most_lines}
 use Rattle.mixed.specs.Runs.{start_of, call_next, Carried, carried_by}
 use Rattle.mixed.specs.Rows.{row_fault, row_of}
@@ -31,9 +28,9 @@ pub record Lent : Type 0 where
   pub words : List ℕ
   pub zeroth : List ℕ
 
-abbrev pub started_on : List ℕ → List ℕ → Begin → Next Lent
-started_on ws zeroth (begin.Started run) = goes (record { run = run; words = ws; zeroth = zeroth })
-started_on ws zeroth (begin.Refused refusal) = refuses refusal
+abbrev pub started_on : List ℕ → List ℕ → Result Run Refusal → Next Lent
+started_on ws zeroth (Ok run) = goes (record { run = run; words = ws; zeroth = zeroth })
+started_on ws zeroth (Err refusal) = refuses refusal
 
 abbrev pub next_on : List ℕ → Next Carried → Next Lent
 next_on zeroth (goes k) = goes (record { run = k.run; words = k.words; zeroth = zeroth })
@@ -41,8 +38,8 @@ next_on zeroth (refuses refusal) = refuses refusal
 
 -- what the call for line i writes, if it has room
 abbrev pub row_in : Option Refusal → List ℕ → List ℕ
-row_in none row = row
-row_in (some refusal) row = []
+row_in None row = row
+row_in (Some refusal) row = []
 
 abbrev pub row_at : Lent → ℕ → List ℕ
 row_at h i = row_in (row_fault h.run i h.words h.zeroth) (row_of h.run i h.words h.zeroth)
@@ -57,8 +54,8 @@ abbrev pub line_of : Ending → Printed
 line_of e = to_output (refused_line (number_of e.refusal) e.block)
 
 abbrev pub end_on : Lent → Option Ending → Printed
-end_on h none = to_output (rows_from h 0 h.run.held)
-end_on h (some e) = line_of e
+end_on h None = to_output (rows_from h 0 h.run.held)
+end_on h (Some e) = line_of e
 
 abbrev pub block_calls : List ℕ → Singles Lent
 block_calls ws = record {
@@ -108,10 +105,10 @@ among ssrc (s ∷ ss) = eqb s ssrc || among ssrc ss
 abbrev pub OfSources : Form → List ℕ → List (List ℕ) → Type 0
 OfSources form ssrcs [] = Unit {0}
 OfSources form ssrcs (b ∷ bs) =
-    (n : ℕ) × (ssrc : ℕ) × (block_of b ≡ Arrivals form n ssrc) × (among ssrc ssrcs ≡ true) × OfSources form ssrcs bs
+    (n : ℕ) × (ssrc : ℕ) × (block_of b ≡ Ok (Arrivals form n ssrc)) × (among ssrc ssrcs ≡ true) × OfSources form ssrcs bs
 
 -- behind a label of that form, and with at most 16 in the list, no block is refused
 abbrev pub SixteenSuffice : Type 0
 SixteenSuffice =
-    (trace ssrcs : List ℕ) (form : Form) (n ssrc : ℕ) → block_of (blocks_of trace).zeroth ≡ Label form n ssrc
-    → OfSources form ssrcs (blocks_of trace).others → length ssrcs ≤ most_lines → (walked ecnstreams (blocks_of trace)).ended ≡ none
+    (trace ssrcs : List ℕ) (form : Form) (n ssrc : ℕ) → block_of (blocks_of trace).zeroth ≡ Ok (Label form n ssrc)
+    → OfSources form ssrcs (blocks_of trace).others → length ssrcs ≤ most_lines → (walked ecnstreams (blocks_of trace)).ended ≡ None

@@ -1,5 +1,5 @@
 -- The hypotheses of the theorems can be met: a trace of two sources, and lent words, that meet them all.
-use Rattle.std.specs.Prelude.{◌≡◌, List, [], ◌∷◌, ◌++◌, ℕ, ◌*◌, ◌^◌, ◌≤◌, ◌<◌, length, replicate}
+use Rattle.std.specs.Prelude.{◌≡◌, List, [], ◌∷◌, ◌++◌, ℕ, ◌*◌, ◌^◌, ◌≤◌, ◌<◌, length, replicate, Ok}
 use Rattle.format.specs.Blocks.{block_bytes}
 use Rattle.format.specs.Forms.{shape_of}
 use Rattle.format.specs.declared.Form.TheVariants.{One}
@@ -37,5 +37,5 @@ pub record Met : Type 0 where
   pub room : 13 * most_lines ≤ length words
   pub session : (q : Printed) × Session single trace q
   -- SixteenSuffice
-  pub label : block_of (blocks_of trace).zeroth ≡ Label One 1 9
+  pub label : block_of (blocks_of trace).zeroth ≡ Ok (Label One 1 9)
   pub sources : OfSources One (1 ∷ 2 ∷ []) (blocks_of trace).others

@@ -11,14 +11,12 @@ pub fn find(lines: &[u64], n: usize, ssrc: u32) -> usize
     ensures { (result ≡ place_by ssrc_in ssrc (lines_in n lines.now)) × (result ≤ n) }
 {
     let sought = ssrc as u64;
-    let mut i: usize = 0;
-    while i < n {
+    for i in 0..n {
         if lines[WORDS * i] == sought {
             return i;
         }
-        i += 1;
     }
-    i
+    n
 }
 
 // How many of n lines, in front, have a lower SSRC.
@@ -27,12 +25,10 @@ pub fn lower(lines: &[u64], n: usize, ssrc: u32) -> usize
     ensures { (result ≡ lower_by ssrc_in ssrc (lines_in n lines.now)) × (result ≤ n) }
 {
     let sought = ssrc as u64;
-    let mut i: usize = 0;
-    while i < n {
+    for i in 0..n {
         if sought <= lines[WORDS * i] {
             return i;
         }
-        i += 1;
     }
-    i
+    n
 }

@@ -7,11 +7,11 @@ ghost use Rattle.answers.specs.Writers.{Wrote};
 ghost use Rattle.mixed.specs.Runs.{start_of, call_next, TakesBlock};
 ghost use Rattle.mixed.specs.Rows.{row_fault, row_of};
 
-use answers::{Refusal, Written};
+use answers::{Refusal, Unwritten};
 use format::Form;
 use source::Totals;
 use trace::Block;
-use trace::read::{fault_of, read_block};
+use trace::read::read_block;
 
 mod counting;
 mod finding;
@@ -34,17 +34,10 @@ pub struct Run {
     pub held: usize,
 }
 
-// The answer to block 0: the run, or why it is refused.
-#[derive(Clone, Copy)]
-pub enum Begin {
-    Started(Run),
-    Refused(Refusal),
-}
-
 // The answer to a later block: a writer's that has no bytes to write, and the next run, or with a refusal the run that was given.
 #[derive(Clone, Copy)]
 pub struct Step {
-    pub answer: Written,
+    pub answer: Result<usize, Unwritten>,
     pub run: Run,
 }
 
@@ -55,23 +48,18 @@ impl Run {
     pub const WORDS: usize = 208;
 
     // Takes block 0, which must be a label block; its SSRC binds nothing. Refusals: 1, 13 and 14, as `read_block` gives them, and 14 for arrivals.
-    pub fn start(zeroth: &[u8]) -> Begin
+    pub fn start(zeroth: &[u8]) -> Result<Run, Refusal>
         ensures { result ≡ start_of zeroth.now }
     {
-        let read = read_block(zeroth);
-        let Block::Label {
-            form,
-            length,
-            ssrc: _,
-        } = read
-        else {
-            return Begin::Refused(fault_of(read));
-        };
-        Begin::Started(Run {
-            form,
-            length,
-            held: 0,
-        })
+        let read = read_block(zeroth)?;
+        match read {
+            Block::Label { form, length, .. } => Ok(Run {
+                form,
+                length,
+                held: 0,
+            }),
+            Block::Arrivals { .. } => Err(Refusal::Contents),
+        }
     }
 
     // Takes a later block, which must hold arrivals of the label's form: they are counted in the line of their SSRC. Refusals: 9 a malformed run or too few
@@ -79,32 +67,34 @@ impl Run {
     pub fn block(self, lines: &mut [u64], block: &[u8]) -> Step
         ensures { TakesBlock self lines.old (call_next self lines.old block.now) result lines.new }
     {
-        if !soundness::is_sound(self, lines) {
-            return counting::refused(self, Refusal::Malformed);
+        match counting::next(self, lines, block) {
+            Ok(run) => Step { answer: Ok(0), run },
+            Err(refusal) => Step {
+                answer: Err(Unwritten::Refused(refusal)),
+                run: self,
+            },
         }
-        let read = read_block(block);
-        let Block::Arrivals { form, count, ssrc } = read else {
-            return counting::refused(self, fault_of(read));
-        };
-        if !soundness::is_of_trace(self, form) {
-            return counting::refused(self, Refusal::Contents);
-        }
-        counting::arrivals(self, count, ssrc, lines, block)
     }
 
     // Writes the row of line i at the front of out. `zeroth` is block 0. Refusals: 9 a malformed run, too few words, a block 0 that is not its own or a
     // malformed line; 10 no such line; 12 output too small, with the row's length.
-    pub fn row(self, i: usize, lines: &[u64], zeroth: &[u8], out: &mut [u8]) -> Written
+    pub fn row(
+        self,
+        i: usize,
+        lines: &[u64],
+        zeroth: &[u8],
+        out: &mut [u8],
+    ) -> Result<usize, Unwritten>
         ensures { Wrote (row_fault self i lines.now zeroth.now) (row_of self i lines.now zeroth.now) out.old result out.new }
     {
         if !soundness::is_sound(self, lines) {
-            return Written::Refused(Refusal::Malformed);
+            return Err(Unwritten::Refused(Refusal::Malformed));
         }
         if !soundness::is_own(self, zeroth) {
-            return Written::Refused(Refusal::Malformed);
+            return Err(Unwritten::Refused(Refusal::Malformed));
         }
         if self.held <= i {
-            return Written::Refused(Refusal::Limits);
+            return Err(Unwritten::Refused(Refusal::Limits));
         }
         rows::write(self, i, lines, zeroth, out)
     }

@@ -24,28 +24,25 @@ pub fn is_sound(run: Run, lines: &[u64]) -> bool
 pub fn is_of_trace(run: Run, form: Form) -> bool
     ensures { result ≡ same_form form run.form }
 {
-    let own = run.form;
-    form.label() == own.label()
+    form.label() == run.form.label()
 }
 
 // Whether block 0 is the run's own. (Its header says so: no checksum is taken per call.)
 pub fn is_own(run: Run, zeroth: &[u8]) -> bool
     ensures { result ≡ own_label run zeroth.now }
 {
-    let length = run.length;
     if zeroth.len() != BLOCK {
         return false;
     }
-    let form = run.form;
-    if read16(zeroth, KIND) != form.label() {
+    if read16(zeroth, KIND) != run.form.label() {
         return false;
     }
-    if read16(zeroth, COUNT) as usize != length {
+    if read16(zeroth, COUNT) as usize != run.length {
         return false;
     }
-    if BODY_BYTES < length {
+    if BODY_BYTES < run.length {
         return false;
     }
-    let end = BODY + length;
+    let end = BODY + run.length;
     is_label(&zeroth[BODY..end])
 }

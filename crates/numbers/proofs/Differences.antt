@@ -1,7 +1,8 @@
 -- What came between two reports, over the width. Assumes nothing.
-use Rattle.std.proofs.Common.{◌≡◌, ℕ, zero, suc, ◌+◌, ◌-◌, ◌%◌, ◌^◌, ◌<◌, ◌≤◌, ℤ, pos, negsuc, ◌-ℤ◌, neg_ℤ, ◌≤ℤ◌, ◌<ℤ◌, sym, ap, ◌∙◌, mod-eq_of_lt, pow-suc, arith, ltb→lt, leb→le, pow_pos, le-ltb, lt-ltb}
+use Rattle.std.proofs.Common.{w16, to_z, ◌≡◌, ℕ, zero, suc, ◌+◌, ◌-◌, ◌%◌, ◌^◌, ◌<◌, ◌≤◌, ℤ, pos, negsuc, ◌-ℤ◌, neg_ℤ, ◌≤ℤ◌, ◌<ℤ◌, sym, ap, ◌∙◌, mod-eq_of_lt, pow-suc, arith, ltb→lt, leb→le, pow_pos, le-ltb, lt-ltb}
 use native.Mathlib.Nat.{mod-eq-sub-mod}
 use native.Mathlib.Decide.{dec_le}
+use mir.ValLaws.{to_z_pos}
 use Rattle.numbers.specs.Integers.{modulo}
 use Rattle.numbers.specs.Since.{since, signed, carried, SinceExact, SignedExact}
 use Rattle.numbers.proofs.Integers.{minus_pos, minus_neg, modulo_add, modulo_sub}
@@ -64,6 +65,14 @@ module _ (w : ℕ) where
       below : (m n : ℕ) → 0 < m → neg_ℤ (pos m) ≤ℤ negsuc n → n < m
       below zero n h l = absurd (omega arith)
       below (suc m) n h l = let q : n ≤ m = leb→le n m l.le in omega arith
+
+-- what `cast_signed` gives of 16 bits
+pub signed_cast : (n : ℕ) → n < 2 ^ 16 → to_z w16 n ≡ signed 16 n
+signed_cast n h = go (dec_le (2 ^ 15) n)
+  where
+    go : Dec (2 ^ 15 ≤ n) → to_z w16 n ≡ signed 16 n
+    go (no g) = to_z_pos w16 n (omega arith) ∙ sym (signed_low 15 n (omega arith))
+    go (yes g) = rw (le-ltb n (2 ^ 15) g) (sym (signed_high 15 n g ∙ minus_neg n (2 ^ 16) h))
 
 pub signed_exact : SignedExact
 signed_exact w later earlier l u = ap (signed (suc w)) (since_true (suc w) later earlier) ∙ signed_within w (later -ℤ earlier) l u

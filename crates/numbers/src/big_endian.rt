@@ -1,4 +1,6 @@
 // Big-endian numbers of 16, 32 and 48 bits. A byte past the end reads as 0, and is not written.
+// Byte by byte: with a match on `&s[at.min(s.len())..]`, `from_be_bytes` and `put_bytes(&n.to_be_bytes(), ..)`, which prove, ecnforms takes 16 % more
+// instructions of its own.
 ghost use Rattle.std.specs.Prelude.{◌≡◌, [], ◌∷◌};
 ghost use Rattle.std.proofs.lemmas.List.Edits.{sets};
 ghost use Rattle.numbers.specs.BigEndian.{word, bytes};

@@ -1,6 +1,5 @@
 -- The two ECN reports as bytes (RFC 6679, sections 5.1 and 5.2; document 01, "Packets").
-use Rattle.std.specs.Prelude.{ℕ, ◌+◌, ◌*◌, cond, List, [], ◌∷◌, ◌++◌}
-use Rattle.std.proofs.Math.Option.{Option, none, some}
+use Rattle.std.specs.Prelude.{ℕ, ◌+◌, ◌*◌, cond, List, [], ◌∷◌, ◌++◌, Option, Some, None}
 use Rattle.numbers.specs.BigEndian.{bytes}
 use Rattle.answers.specs.declared.Refusal.{Refusal}
 use Rattle.answers.specs.declared.Refusal.TheVariants.{Malformed}
@@ -27,7 +26,7 @@ summary_of media c = bytes 1 13 ++ bytes 1 0 ++ bytes 2 5 ++ bytes 4 media ++ co
 
 -- refusal 9
 unfoldable pub fault : Source → Option Refusal
-fault s = cond (sound s) none (some Malformed)
+fault s = cond (sound s) None (Some Malformed)
 
 abbrev pub feedback_bytes : ℕ → ℕ → Source → List ℕ
 feedback_bytes sender media s = feedback_of sender media (highest_of s) (counts_of s)

@@ -1,11 +1,10 @@
 // The reports as 32-bit words.
 ghost use Rattle.std.specs.Prelude.{◌≡◌, ◌+◌, ◌*◌, ◌≤◌, length};
-ghost use Rattle.std.proofs.Math.Option.{none};
 ghost use Rattle.std.proofs.lemmas.List.Edits.{sets};
 ghost use Rattle.answers.specs.Writers.{Wrote};
 ghost use Rattle.report.specs.Reports.{feedback_of, summary_of, words_bytes};
 
-use answers::Written;
+use answers::Unwritten;
 use format::Counts;
 use numbers::big_endian::write32;
 
@@ -21,10 +20,8 @@ fn put_words(words: &[u32], out: &mut [u8])
     requires { 4 * length words.now ≤ length out.old }
     ensures { out.new ≡ sets out.old 0 (words_bytes words.now) }
 {
-    let mut i: usize = 0;
-    while i < words.len() {
-        write32(words[i], out, 4 * i);
-        i += 1;
+    for (i, word) in words.iter().enumerate() {
+        write32(*word, out, 4 * i);
     }
 }
 
@@ -35,11 +32,17 @@ const FEEDBACK: u32 = 0x88CD_0007;
 const SUMMARY: u32 = 0x0D00_0005;
 
 // Writes the feedback packet.
-pub fn feedback(sender: u32, media: u32, highest: u32, c: Counts, out: &mut [u8]) -> Written
-    ensures { Wrote none (feedback_of sender media highest c) out.old result out.new }
+pub fn feedback(
+    sender: u32,
+    media: u32,
+    highest: u32,
+    c: Counts,
+    out: &mut [u8],
+) -> Result<usize, Unwritten>
+    ensures { Wrote None (feedback_of sender media highest c) out.old result out.new }
 {
     if out.len() < 32 {
-        return Written::Room(32);
+        return Err(Unwritten::Room(32));
     }
     let marked = pair(c.ce, c.notect);
     let missed = pair(c.lost, c.duplicates);
@@ -47,19 +50,19 @@ pub fn feedback(sender: u32, media: u32, highest: u32, c: Counts, out: &mut [u8]
         FEEDBACK, sender, media, highest, c.ect0, c.ect1, marked, missed,
     ];
     put_words(&words, out);
-    Written::Length(32)
+    Ok(32)
 }
 
 // Writes the summary block.
-pub fn summary(media: u32, c: Counts, out: &mut [u8]) -> Written
-    ensures { Wrote none (summary_of media c) out.old result out.new }
+pub fn summary(media: u32, c: Counts, out: &mut [u8]) -> Result<usize, Unwritten>
+    ensures { Wrote None (summary_of media c) out.old result out.new }
 {
     if out.len() < 24 {
-        return Written::Room(24);
+        return Err(Unwritten::Room(24));
     }
     let marked = pair(c.ce, c.notect);
     let missed = pair(c.lost, c.duplicates);
     let words = [SUMMARY, media, c.ect0, c.ect1, marked, missed];
     put_words(&words, out);
-    Written::Length(24)
+    Ok(24)
 }

@@ -9,14 +9,14 @@
 // Any other line is a heading.
 #![tactic(auto)]
 
-use answers::Written;
+use answers::Unwritten;
 use cases::record;
 use report::{write_feedback, write_summary};
 use source::Source;
 use std::io::Stdout;
 
 // A writer's answer and its output.
-fn show_answer(to: Stdout, written: Written, out: &[u8]) {
+fn show_answer(to: Stdout, written: Result<usize, Unwritten>, out: &[u8]) {
     show::text(to, b" :");
     show::written(to, written);
     show::bytes(to, out);

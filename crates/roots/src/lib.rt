@@ -12,21 +12,11 @@ mod tables;
 // The last n of the tables: p = 1. A greater n is taken as this.
 const MOST: u64 = 1024;
 
-// n, or the last one of the tables.
-fn within(n: u64) -> u64
-    ensures { result ≡ min n 1024 }
-{
-    if MOST < n {
-        return MOST;
-    }
-    n
-}
-
 // The entry for n. The tables begin with n = 1; for n = 0 the root is 0.
 fn entry(table: [u32; 1024], n: u64) -> u64
     ensures { GivesRoot table n result }
 {
-    let m = within(n);
+    let m = n.min(MOST);
     if m == 0 {
         return 0;
     }
@@ -50,10 +40,11 @@ pub fn timeout_root(n: u64) -> u64
 
 // The equation's denominator for a round trip of 1, times 2^50: √(2p/3) + 12 · √(3p/8) · p · (1 + 32 · p²) with these roots. 0x4000_0000 is
 // 2^30, and 0x10_0000 is 2^20.
+#[tactic(auto, using(crate::proofs::Sizes::parts_of_lem))]
 pub fn scaled_denominator(n: u64) -> u64
     ensures { result ≡ scaled_denominator (min n 1024) }
 {
-    let m = within(n);
+    let m = n.min(MOST);
     let a = round_trip_root(m);
     let b = timeout_root(m);
     a * 0x4000_0000 + 12 * b * m * (0x10_0000 + 32 * m * m)

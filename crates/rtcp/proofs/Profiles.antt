@@ -1,4 +1,5 @@
 -- The two profiles agree but for refusal 3. Assumes nothing.
+use Rattle.std.specs.Prelude.{Result, Ok, Err}
 use Prim.Native.Nat.{ℕ, ◌+◌, ◌≤◌}
 use mathlib.Core.Path.{◌≡◌, refl, sym, ap, ◌∙◌}
 use mathlib.Core.Bool.{Bool, true, false}
@@ -14,25 +15,24 @@ use Rattle.answers.specs.declared.Refusal.{Refusal}
 use Rattle.answers.specs.declared.Refusal.TheVariants.{FirstPacket, BlockSize}
 use Rattle.rtcp.specs.declared.Compound.{Compound}
 use Rattle.rtcp.specs.declared.Profile.{Profile}
-use Rattle.rtcp.specs.declared.Reading.{Reading}
-use Rattle.rtcp.specs.declared.Verdict.{Verdict}
 use Rattle.rtcp.specs.Header.{size, header_at}
 use Rattle.rtcp.specs.Packets.{Check, must, first_fault, is_report, may_stand, body_end}
 use Rattle.rtcp.specs.Compound.{begins, any, unless_faulty, packets, blocks, size_checks, block_check, checks_of, found, reading}
 use Rattle.rtcp.specs.Theorems.{ProfilesAgree}
 use Rattle.rtcp.proofs.Begins.{begins_next}
 use Rattle.rtcp.proofs.Whole.{tests, passed}
+use Rattle.rtcp.proofs.Left.{verdict_of, read_of}
 
 -- ---- lists of tests that differ in those for 3, which the second has not
 
 record Alike (xs ys : List Check) : Type 0 where
-  same : (first_fault xs ≡ first_fault ys) ⊎ (first_fault xs ≡ Verdict.Faulty FirstPacket)
-  never : first_fault ys ≡ Verdict.Faulty FirstPacket → ⊥
+  same : (first_fault xs ≡ first_fault ys) ⊎ (first_fault xs ≡ Err FirstPacket)
+  never : first_fault ys ≡ Err FirstPacket → ⊥
 
 none : Alike [] []
 none = record { same = inl refl; never = λ e. let z : ◌≡◌ {A = ℕ} 0 1 = cc in absurd (omega arith) }
 
-not_three : (r : Refusal) → eqb (number_of r) 3 ≡ false → Verdict.Faulty r ≡ Verdict.Faulty FirstPacket → ⊥
+not_three : (r : Refusal) → eqb (number_of r) 3 ≡ false → ◌≡◌ {A = Result Unit Refusal} (Err r) (Err FirstPacket) → ⊥
 not_three r n e =
     let is : r ≡ FirstPacket = cc in
     let t : true ≡ false = sym (ap (λ (r : Refusal). eqb (number_of r) 3) is) ∙ n in
@@ -73,17 +73,8 @@ module _ (b : List ℕ) where
 
 -- ---- what is read
 
-verdict_of : (v : Verdict) (found : Compound) (r : Refusal) → unless_faulty v found ≡ Reading.Refused r → v ≡ Verdict.Faulty r
-verdict_of Verdict.Sound found r e = let z : ◌≡◌ {A = ℕ} 0 1 = cc in absurd (omega arith)
-verdict_of (Verdict.Faulty q) found r e = let is : q ≡ r = cc in ap Verdict.Faulty is
-
--- a compound that is read has passed all tests
-read_of : (v : Verdict) (found c : Compound) → unless_faulty v found ≡ Reading.Read c → (v ≡ Verdict.Sound) × (found ≡ c)
-read_of Verdict.Sound found c e = (refl, cc)
-read_of (Verdict.Faulty r) found c e = let z : ◌≡◌ {A = ℕ} 0 1 = cc in absurd (omega arith)
-
 -- the old profile reads no compound without an SR or an RR: the packet at the front is one
-has_report : (b : List ℕ) (media : ℕ) → first_fault (tests_of b Profile.Compound (packets b)) ≡ Verdict.Sound → (found b media).reporting ≡ true
+has_report : (b : List ℕ) (media : ℕ) → first_fault (tests_of b Profile.Compound (packets b)) ≡ (Ok tt) → (found b media).reporting ≡ true
 unfolding flat_map may_stand
 has_report b media e =
     let all = tests_of b Profile.Compound (packets b) in
@@ -97,8 +88,8 @@ pub profiles_agree : ProfilesAgree
 unfolding reading
 profiles_agree b media =
     let tests = all_alike b in
-    let out : Verdict → Reading = λ v. unless_faulty v (found b media) in
-    let alike : (reading b media Profile.Compound ≡ reading b media Profile.ReducedSize) ⊎ (reading b media Profile.Compound ≡ Reading.Refused FirstPacket) =
+    let out : Result Unit Refusal → (Result Compound Refusal) = λ v. unless_faulty v (found b media) in
+    let alike : (reading b media Profile.Compound ≡ reading b media Profile.ReducedSize) ⊎ (reading b media Profile.Compound ≡ Err FirstPacket) =
     ⊎_elim (λ e. inl (ap out e)) (λ e. inr (ap out e)) tests.same in
     record {
       alike = alike;

@@ -1,4 +1,5 @@
 -- A packet without a fault is whole, with its padding and its body inside. Assumes nothing.
+use Rattle.std.specs.Prelude.{Ok}
 use Prim.Native.Nat.{ℕ, ◌+◌, ◌-◌, ◌*◌, ◌≤◌}
 use mathlib.Core.Path.{◌≡◌, refl, ◌∙◌}
 use mathlib.Core.Bool.{Bool, true, false, cond}
@@ -10,7 +11,6 @@ use lib.ListN.{length}
 use Rattle.answers.specs.Conditions.{all}
 use Rattle.answers.proofs.Conditions.{cond_ends, all_true, and_left}
 use Rattle.rtcp.specs.declared.Profile.{Profile}
-use Rattle.rtcp.specs.declared.Verdict.{Verdict}
 use Rattle.rtcp.specs.Layout.{sr, rtpfb, xr, ecn_feedback, sr_head, rr_head, report_size, feedback_size}
 use Rattle.rtcp.specs.declared.header.Header.{Header}
 use Rattle.rtcp.specs.Header.{padding}
@@ -22,7 +22,7 @@ abbrev pub tests : List Check → List Bool
 tests [] = []
 tests (must test refusal ∷ rest) = test ∷ tests rest
 
-pub passed : (checks : List Check) → first_fault checks ≡ Verdict.Sound → all (tests checks) ≡ true
+pub passed : (checks : List Check) → first_fault checks ≡ (Ok tt) → all (tests checks) ≡ true
 passed [] e = refl
 passed (must true refusal ∷ rest) e = passed rest e
 passed (must false refusal ∷ rest) e = let z : ◌≡◌ {A = ℕ} 0 1 = cc in absurd (omega arith)
@@ -62,7 +62,7 @@ module _ (h : Header) (b : List ℕ) (at : ℕ) where
 
   -- ---- the packet
 
-  module _ (profile : Profile) (e : packet_verdict profile h b at ≡ Verdict.Sound) where
+  module _ (profile : Profile) (e : packet_verdict profile h b at ≡ (Ok tt)) where
     pub sound : Sound h b at
     unfolding packet_verdict
     sound =

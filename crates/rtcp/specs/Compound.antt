@@ -1,15 +1,14 @@
 -- The compound reader (document 01, "Packets" and the order of refusals; document 02, L4). `b` is the compound, asked about the source `media`
 -- under a profile.
-use Rattle.std.specs.Prelude.{ℕ, zero, suc, ◌+◌, ◌-◌, ◌≡◌, Bool, false, cond, ◌||◌, ltb, leb, eqb, length}
+use Rattle.rtcp.specs.declared.ReportBlock.{ReportBlock}
+use Rattle.rtcp.specs.declared.Feedback.{Feedback}
+use Rattle.format.specs.declared.Counts.{Counts}
+use Rattle.answers.specs.declared.Refusal.{Refusal}
+use Rattle.std.specs.Prelude.{ℕ, zero, suc, ◌+◌, ◌-◌, ◌≡◌, Bool, false, cond, ◌||◌, ltb, leb, eqb, length, Option, Some, None, Result, Ok, Err}
 use mathlib.Core.List.{List, [], ◌∷◌, ◌++◌, map, flat_map}
 use Rattle.answers.specs.declared.Refusal.TheVariants.{Incomplete, BlockSize, Limits}
-use Rattle.rtcp.specs.declared.MaybeReport.{MaybeReport}
-use Rattle.rtcp.specs.declared.MaybeFeedback.{MaybeFeedback}
-use Rattle.rtcp.specs.declared.MaybeSummary.{MaybeSummary}
 use Rattle.rtcp.specs.declared.Compound.{Compound}
 use Rattle.rtcp.specs.declared.Profile.{Profile}
-use Rattle.rtcp.specs.declared.Reading.{Reading}
-use Rattle.rtcp.specs.declared.Verdict.{Verdict}
 use Rattle.rtcp.specs.Layout.{xr, xr_head, compound_most}
 use Rattle.rtcp.specs.Header.{size, header_at}
 use Rattle.rtcp.specs.Packets.{Check, must, first_fault, is_report, body_end, packet_checks}
@@ -29,20 +28,19 @@ abbrev pub BeginsFollow : Type 0
 BeginsFollow = (b : List ℕ) (from end : ℕ) → begins b from end ≡ cond (ltb from end) (from ∷ begins b (from + size b from) end) []
 
 -- the first that is present
-abbrev pub first_report : List MaybeReport → MaybeReport
-first_report [] = MaybeReport.Absent
-first_report (MaybeReport.Present r ∷ rest) = MaybeReport.Present r
-first_report (MaybeReport.Absent ∷ rest) = first_report rest
+abbrev pub first_of : {T : Type 0} → List (Option T) → Option T
+first_of [] = None
+first_of (Some x ∷ rest) = Some x
+first_of (None ∷ rest) = first_of rest
 
-abbrev pub first_feedback : List MaybeFeedback → MaybeFeedback
-first_feedback [] = MaybeFeedback.Absent
-first_feedback (MaybeFeedback.Present f ∷ rest) = MaybeFeedback.Present f
-first_feedback (MaybeFeedback.Absent ∷ rest) = first_feedback rest
+abbrev pub first_report : List (Option ReportBlock) → Option ReportBlock
+first_report = first_of
 
-abbrev pub first_summary : List MaybeSummary → MaybeSummary
-first_summary [] = MaybeSummary.Absent
-first_summary (MaybeSummary.Present c ∷ rest) = MaybeSummary.Present c
-first_summary (MaybeSummary.Absent ∷ rest) = first_summary rest
+abbrev pub first_feedback : List (Option Feedback) → Option Feedback
+first_feedback = first_of
+
+abbrev pub first_summary : List (Option Counts) → Option Counts
+first_summary = first_of
 
 -- whether one of them is so
 abbrev pub any : List Bool → Bool
@@ -50,9 +48,9 @@ any [] = false
 any (t ∷ rest) = t || any rest
 
 -- what is refused gives nothing else
-abbrev pub unless_faulty : Verdict → Compound → Reading
-unless_faulty Verdict.Sound found = Reading.Read found
-unless_faulty (Verdict.Faulty refusal) found = Reading.Refused refusal
+abbrev pub unless_faulty : {T : Type 0} → Result Unit Refusal → T → Result T Refusal
+unless_faulty (Ok tt) found = Ok found
+unless_faulty (Err refusal) found = Err refusal
 
 module _ (b : List ℕ) where
   abbrev pub packets : List ℕ
@@ -89,5 +87,5 @@ module _ (b : List ℕ) where
         }
 
     -- 1 if empty, 10, then packet by packet; the first fault ends it
-    unfoldable pub reading : Profile → Reading
+    unfoldable pub reading : Profile → Result Compound Refusal
     reading profile = unless_faulty (first_fault (size_checks ++ flat_map (checks_of profile) packets)) found

@@ -1,11 +1,8 @@
 -- ECN feedback packets and ECN summary blocks (RFC 6679, sections 5.1 and 5.2).
-use Rattle.std.specs.Prelude.{ℕ, ◌+◌, ◌/◌, ◌%◌, Bool, cond, ◌&&◌, List, eqb, get_or}
+use Rattle.std.specs.Prelude.{ℕ, ◌+◌, ◌/◌, ◌%◌, Bool, cond, ◌&&◌, List, eqb, get_or, Option, Some, None}
 use Rattle.numbers.specs.BigEndian.{word}
 use Rattle.format.specs.declared.Counts.{Counts}
 use Rattle.rtcp.specs.declared.Feedback.{Feedback}
-use Rattle.rtcp.specs.declared.MaybeFeedback.{MaybeFeedback}
-use Rattle.rtcp.specs.declared.MaybeSummary.{MaybeSummary}
-use Rattle.rtcp.specs.declared.Place.{Place}
 use Rattle.rtcp.specs.declared.header.Header.{Header}
 use Rattle.rtcp.specs.declared.header.XrBlock.{XrBlock}
 use Rattle.rtcp.specs.Layout.{ecn_summary, header, entry_size, entry_words}
@@ -29,9 +26,9 @@ unfoldable pub feedback : List ℕ → ℕ → Feedback
 feedback b at = record { sender = word 4 b (at + 4); highest = word 4 b (at + 12); counts = counts b (at + 16) }
 
 -- the packet at `at`, with the header `h`, where it is ECN feedback about `media`
-unfoldable pub feedback_in : Header → List ℕ → ℕ → ℕ → MaybeFeedback
+unfoldable pub feedback_in : Header → List ℕ → ℕ → ℕ → Option Feedback
 feedback_in h b at media =
-    cond (is_feedback h && eqb (word 4 b (at + 8)) media) (MaybeFeedback.Present (feedback b at)) MaybeFeedback.Absent
+    cond (is_feedback h && eqb (word 4 b (at + 8)) media) (Some (feedback b at)) None
 
 -- the XR block at `at`: its type, and its length in words without its first
 unfoldable pub block_at : List ℕ → ℕ → XrBlock
@@ -42,11 +39,11 @@ unfoldable pub is_summary : XrBlock → Bool
 is_summary block = eqb block.kind ecn_summary && eqb (block.words % entry_words) 0
 
 -- an entry is its SSRC and the counters
-abbrev pub summary_at : List ℕ → Place → MaybeSummary
-summary_at b (Place.At at) = MaybeSummary.Present (counts b (at + 4))
-summary_at b Place.Absent = MaybeSummary.Absent
+abbrev pub summary_at : List ℕ → Option ℕ → Option Counts
+summary_at b (Some at) = Some (counts b (at + 4))
+summary_at b None = None
 
 -- the first entry about `media` in this XR block at `at`
-unfoldable pub summary_in : XrBlock → List ℕ → ℕ → ℕ → MaybeSummary
+unfoldable pub summary_in : XrBlock → List ℕ → ℕ → ℕ → Option Counts
 summary_in block b at media =
-    cond (is_summary block) (summary_at b (entry_for entry_size (block.words / entry_words) b (at + header) media)) MaybeSummary.Absent
+    cond (is_summary block) (summary_at b (entry_for entry_size (block.words / entry_words) b (at + header) media)) None

@@ -1,11 +1,10 @@
 -- Which packets are refused (document 01, "Packets" and the order of refusals). `b` is the compound, and a packet with the header `h` begins
 -- at `at`.
-use Rattle.std.specs.Prelude.{ℕ, ◌+◌, ◌-◌, ◌*◌, ◌%◌, ◌≤◌, ◌≡◌, Bool, true, cond, ◌&&◌, ◌||◌, not, List, [], ◌∷◌, leb, eqb, length}
+use Rattle.std.specs.Prelude.{ℕ, ◌+◌, ◌-◌, ◌*◌, ◌%◌, ◌≤◌, ◌≡◌, Bool, true, cond, ◌&&◌, ◌||◌, not, List, [], ◌∷◌, leb, eqb, length, Result, Ok, Err}
 use Rattle.answers.specs.Conditions.{all}
 use Rattle.answers.specs.declared.Refusal.{Refusal}
 use Rattle.answers.specs.declared.Refusal.TheVariants.{Incomplete, Version, FirstPacket, PacketSize, Padding}
 use Rattle.rtcp.specs.declared.Profile.{Profile}
-use Rattle.rtcp.specs.declared.Verdict.{Verdict}
 use Rattle.rtcp.specs.declared.header.Header.{Header}
 use Rattle.rtcp.specs.Layout.{sr, rr, rtpfb, xr, ecn_feedback, header, sr_head, rr_head, xr_head, report_size, feedback_size}
 use Rattle.rtcp.specs.Header.{padding}
@@ -15,9 +14,9 @@ pub data Check : Type 0 where
   must : Bool → Refusal → Check
 
 -- the refusal of the first test that is not passed
-abbrev pub first_fault : List Check → Verdict
-first_fault [] = Verdict.Sound
-first_fault (must test refusal ∷ rest) = cond test (first_fault rest) (Verdict.Faulty refusal)
+abbrev pub first_fault : List Check → Result Unit Refusal
+first_fault [] = (Ok tt)
+first_fault (must test refusal ∷ rest) = cond test (first_fault rest) (Err refusal)
 
 module _ (h : Header) where
   -- an SR or an RR, and what stands before its report blocks
@@ -70,7 +69,7 @@ packet_checks profile h b at =
     ∷ must (body_right h (h.size - padding h b at)) PacketSize
     ∷ []
 
-unfoldable pub packet_verdict : Profile → Header → List ℕ → ℕ → Verdict
+unfoldable pub packet_verdict : Profile → Header → List ℕ → ℕ → Result Unit Refusal
 packet_verdict profile h b at = first_fault (packet_checks profile h b at)
 
 -- what a packet without a fault is: whole, with its padding and its body inside

@@ -1,10 +1,8 @@
 -- Report blocks (RFC 3550, sections 6.4.1 and 6.4.2).
-use Rattle.std.specs.Prelude.{ℕ, ◌+◌, cond, List, get_or}
+use Rattle.std.specs.Prelude.{ℕ, ◌+◌, cond, List, get_or, Option, Some, None}
 use Rattle.numbers.specs.BigEndian.{word}
 use Rattle.numbers.specs.Since.{signed}
 use Rattle.rtcp.specs.declared.ReportBlock.{ReportBlock}
-use Rattle.rtcp.specs.declared.MaybeReport.{MaybeReport}
-use Rattle.rtcp.specs.declared.Place.{Place}
 use Rattle.rtcp.specs.declared.header.Header.{Header}
 use Rattle.rtcp.specs.Layout.{sender, report_size}
 use Rattle.rtcp.specs.Packets.{is_report, blocks_from}
@@ -24,11 +22,11 @@ report_block b packet at =
       reporter = word 4 b (packet + sender);
     }
 
-abbrev pub report_at : List ℕ → ℕ → Place → MaybeReport
-report_at b packet (Place.At at) = MaybeReport.Present (report_block b packet at)
-report_at b packet Place.Absent = MaybeReport.Absent
+abbrev pub report_at : List ℕ → ℕ → Option ℕ → Option ReportBlock
+report_at b packet (Some at) = Some (report_block b packet at)
+report_at b packet None = None
 
 -- the first report block about `media` in the packet at `at`, with the header `h`
-unfoldable pub report_in : Header → List ℕ → ℕ → ℕ → MaybeReport
+unfoldable pub report_in : Header → List ℕ → ℕ → ℕ → Option ReportBlock
 report_in h b at media =
-    cond (is_report h) (report_at b at (entry_for report_size h.count b (at + blocks_from h) media)) MaybeReport.Absent
+    cond (is_report h) (report_at b at (entry_for report_size h.count b (at + blocks_from h) media)) None

@@ -16,9 +16,7 @@ pub fn number16(b: &[u8], at: usize) -> u16
     requires { at + 2 ≤ length b.now }
     ensures { result ≡ word 2 b.now at }
 {
-    let high = b[at];
-    let next = at + 1;
-    join16(high, b[next])
+    join16(b[at], b[at + 1])
 }
 
 // The number in the four bytes from `at` on.
@@ -26,7 +24,5 @@ pub fn number32(b: &[u8], at: usize) -> u32
     requires { at + 4 ≤ length b.now }
     ensures { result ≡ word 4 b.now at }
 {
-    let high = number16(b, at);
-    let low = number16(b, at + 2);
-    high as u32 * 65536 + low as u32
+    number16(b, at) as u32 * 65536 + number16(b, at + 2) as u32
 }

@@ -6,7 +6,8 @@ ghost use Rattle.rtcp.specs.EcnReports.{block_at};
 use crate::fields::byte;
 use numbers::big_endian::read16;
 
-// The header of a packet; the size is the packet's, in bytes.
+// The header of a packet; the size is the packet's, in bytes. (It goes beside the bytes and the place, and not with them in one struct: the definitions in
+// specs take the three one by one, so each contract and proof would only take the struct apart again.)
 #[derive(Clone, Copy)]
 pub struct Header {
     pub version: u8,
@@ -27,13 +28,11 @@ pub struct XrBlock {
 fn byte_at(b: &[u8], i: usize) -> u8
     ensures { result ≡ get_or b.now i 0 }
 {
-    if i < b.len() {
-        return b[i];
-    }
-    0
+    b.get(i).copied().unwrap_or(0)
 }
 
 // The header of the packet at `at`; what is cut off reads as 0.
+#[tactic(auto, unfolding(crate::specs::Header::header_at))]
 pub fn header_at(b: &[u8], at: usize) -> Header
     requires { at ≤ length b.now }
     ensures value { result ≡ header_at b.now at }
@@ -52,18 +51,21 @@ pub fn header_at(b: &[u8], at: usize) -> Header
 }
 
 // The bytes of padding that end the packet at `at`.
+#[tactic(auto, unfolding(crate::specs::Header::padding))]
 pub fn padding_at(b: &[u8], at: usize, header: Header) -> usize
     requires { (1 ≤ header.size) × (at + header.size ≤ length b.now) }
     ensures value { result ≡ padding header b.now at }
     ensures bounded { result ≤ 255 }
 {
-    if !header.padded {
-        return 0;
+    if header.padded {
+        byte(b, at + header.size - 1) as usize
+    } else {
+        0
     }
-    byte(b, at + header.size - 1) as usize
 }
 
 // The header of the XR block at `at`; what is cut off reads as 0.
+#[tactic(auto, unfolding(crate::specs::EcnReports::block_at))]
 pub fn block_at(b: &[u8], at: usize) -> XrBlock
     requires { at ≤ length b.now }
     ensures value { result ≡ block_at b.now at }

@@ -2,17 +2,18 @@
 // and its ECN summary entry (RFC 6679, section 5).
 #![tactic(auto)]
 
-ghost use Rattle.std.specs.Prelude.{◌≡◌};
-ghost use mathlib.Core.List.{flat_map};
+ghost use Rattle.std.specs.Prelude.{◌≡◌, ◌∷◌, ◌≤◌, length};
+ghost use mathlib.Core.List.{map, flat_map};
 ghost use Rattle.rtcp.specs.Packets.{first_fault};
-ghost use Rattle.rtcp.specs.Compound.{packets, checks_of, found, unless_faulty, reading};
+ghost use Rattle.rtcp.specs.EcnReports.{block_at, summary_in};
+ghost use Rattle.rtcp.specs.Compound.{begins, block_check, first_summary, packets, checks_of, found, unless_faulty, reading};
 ghost use Rattle.rtcp.specs.Numbered.{reading_as};
 
-use crate::ecn::{first_feedback, first_summary};
+use crate::ecn::{feedback_in, summary_in};
 use crate::header::{block_at, header_at, padding_at};
 use crate::layout::{COMPOUND_MOST, XR, XR_HEAD};
-use crate::packet::{or_report, packet_verdict};
-use crate::reports::first_report;
+use crate::packet::{is_report, packet_verdict};
+use crate::reports::report_in;
 use answers::Refusal;
 use format::Counts;
 
@@ -45,28 +46,9 @@ pub struct Feedback {
     pub counts: Counts,
 }
 
-#[derive(Clone, Copy)]
-pub enum MaybeReport {
-    Present(ReportBlock),
-    Absent,
-}
-
-#[derive(Clone, Copy)]
-pub enum MaybeFeedback {
-    Present(Feedback),
-    Absent,
-}
-
-// The entry of an ECN summary block (RFC 6679, section 5.2).
-#[derive(Clone, Copy)]
-pub enum MaybeSummary {
-    Present(Counts),
-    Absent,
-}
-
 // Which compounds are taken: those that begin with an SR or an RR (RFC 3550, section 6.1), or reduced-size ones too, which need not have one
 // (RFC 5506).
-#[derive(Clone, Copy)]
+#[derive(Clone, Copy, PartialEq, Eq)]
 pub enum Profile {
     Compound,
     ReducedSize,
@@ -76,101 +58,79 @@ pub enum Profile {
 // the source.
 #[derive(Clone, Copy)]
 pub struct Compound {
-    pub report: MaybeReport,
-    pub feedback: MaybeFeedback,
-    pub summary: MaybeSummary,
+    pub report: Option<ReportBlock>,
+    pub feedback: Option<Feedback>,
+    pub summary: Option<Counts>,
     pub reporting: bool,
 }
 
-// What reading a compound gives: all of it, or why it is refused.
-#[derive(Clone, Copy)]
-pub enum Reading {
-    Read(Compound),
-    Refused(Refusal),
-}
-
-// Whether a packet has a fault.
-#[derive(Clone, Copy)]
-enum Verdict {
-    Sound,
-    Faulty(Refusal),
-}
-
-// Where an entry stands.
-#[derive(Clone, Copy)]
-enum Place {
-    At(usize),
-    Absent,
-}
-
-// What is refused gives nothing else.
-fn unless_faulty(verdict: Verdict, found: Compound) -> Reading
-    ensures { result ≡ unless_faulty verdict found }
+// What was found of a summary before the XR blocks from `from` up to `end`, or is in them; or the fault of a block that passes the end.
+fn summary_behind(
+    old: Option<Counts>,
+    bytes: &[u8],
+    from: usize,
+    end: usize,
+    media: u32,
+) -> Result<Option<Counts>, Refusal>
+    requires { end ≤ length bytes.now }
+    ensures { result ≡ unless_faulty (first_fault (map (block_check bytes.now end) (begins bytes.now from end))) (first_summary (old ∷ map (λ at. summary_in (block_at bytes.now at) bytes.now at media) (begins bytes.now from end))) }
 {
-    match verdict {
-        Verdict::Sound => Reading::Read(found),
-        Verdict::Faulty(refusal) => Reading::Refused(refusal),
+    let mut summary = old;
+    let mut at = from;
+    while at < end {
+        let block = block_at(bytes, at);
+        let next = at + (block.words + 1) * 4;
+        if end < next {
+            return Err(Refusal::BlockSize);
+        }
+        summary = summary.or_else(|| summary_in(bytes, at, block, media));
+        at = next;
     }
+    Ok(summary)
 }
 
 // What the packets in `bytes` say of the source `media`, or their first fault.
-fn read_packets(bytes: &[u8], media: u32, profile: Profile) -> Reading
+fn read_packets(bytes: &[u8], media: u32, profile: Profile) -> Result<Compound, Refusal>
     ensures { result ≡ unless_faulty (first_fault (flat_map (checks_of bytes.now profile) (packets bytes.now))) (found bytes.now media) }
 {
-    let total = bytes.len();
-    let mut report = MaybeReport::Absent;
-    let mut feedback = MaybeFeedback::Absent;
-    let mut summary = MaybeSummary::Absent;
+    let mut report = None;
+    let mut feedback = None;
+    let mut summary = None;
     let mut reporting = false;
-    let mut verdict = Verdict::Sound;
     let mut at = 0;
-    'packets: while at < total {
+    while at < bytes.len() {
         let header = header_at(bytes, at);
-        verdict = packet_verdict(bytes, at, header, profile);
-        if let Verdict::Faulty(_) = verdict {
-            break 'packets;
-        }
+        packet_verdict(bytes, at, header, profile)?;
         let next = at + header.size;
         if header.kind == XR {
             let end = next - padding_at(bytes, at, header);
-            let mut place = at + XR_HEAD;
-            while place < end {
-                let block = block_at(bytes, place);
-                let size = (block.words + 1) * 4;
-                let after = place + size;
-                if end < after {
-                    verdict = Verdict::Faulty(Refusal::BlockSize);
-                    break 'packets;
-                }
-                summary = first_summary(summary, bytes, place, block, media);
-                place = after;
-            }
+            summary = summary_behind(summary, bytes, at + XR_HEAD, end, media)?;
         } else {
-            report = first_report(report, bytes, at, header, media);
-            feedback = first_feedback(feedback, bytes, at, header, media);
-            reporting = or_report(reporting, header);
+            report = report.or_else(|| report_in(bytes, at, header, media));
+            feedback = feedback.or_else(|| feedback_in(bytes, at, header, media));
+            reporting |= is_report(header);
         }
         at = next;
     }
-    let found = Compound {
+    Ok(Compound {
         report,
         feedback,
         summary,
         reporting,
-    };
-    unless_faulty(verdict, found)
+    })
 }
 
 // What the compound in `bytes` says of the source `media`, or its first fault.
-pub fn read_compound(bytes: &[u8], media: u32, profile: Profile) -> Reading
+#[tactic(auto, unfolding(crate::specs::Compound::reading))]
+pub fn read_compound(bytes: &[u8], media: u32, profile: Profile) -> Result<Compound, Refusal>
     ensures value { result ≡ reading bytes.now media profile }
     ensures numbered { reading_as result ≡ reading_as (reading bytes.now media profile) }
 {
     if bytes.len() == 0 {
-        return Reading::Refused(Refusal::Incomplete);
+        return Err(Refusal::Incomplete);
     }
     if COMPOUND_MOST < bytes.len() {
-        return Reading::Refused(Refusal::Limits);
+        return Err(Refusal::Limits);
     }
     read_packets(bytes, media, profile)
 }

@@ -1,17 +1,16 @@
 // Report blocks of SR and RR packets (RFC 3550, sections 6.4.1 and 6.4.2).
-ghost use Rattle.std.specs.Prelude.{◌≡◌, [], ◌∷◌, ◌+◌, ◌≤◌, length};
+ghost use Rattle.std.specs.Prelude.{◌≡◌, ◌+◌, ◌≤◌, length};
 ghost use Rattle.numbers.specs.BigEndian.{word};
 ghost use Rattle.numbers.specs.Since.{signed};
 ghost use Rattle.rtcp.specs.Packets.{Sound};
 ghost use Rattle.rtcp.specs.ReportBlocks.{report_block, report_in};
-ghost use Rattle.rtcp.specs.Compound.{first_report};
 
+use crate::ReportBlock;
 use crate::entries::find_entry;
 use crate::fields::{byte, number16, number32};
 use crate::header::Header;
 use crate::layout::{REPORT_BLOCK, SENDER};
 use crate::packet::{blocks_from, is_report};
-use crate::{MaybeReport, Place, ReportBlock};
 
 // The signed number in the three bytes from `at` on.
 fn signed24(b: &[u8], at: usize) -> i32
@@ -42,34 +41,14 @@ fn report_block_at(b: &[u8], packet: usize, at: usize) -> ReportBlock
 }
 
 // The first report block about `media` in the packet at `at`.
-fn report_in(b: &[u8], at: usize, header: Header, media: u32) -> MaybeReport
+pub fn report_in(b: &[u8], at: usize, header: Header, media: u32) -> Option<ReportBlock>
     requires { Sound header b.now at }
     ensures { result ≡ report_in header b.now at media }
 {
     if !is_report(header) {
-        return MaybeReport::Absent;
+        return None;
     }
     let from = at + blocks_from(header);
-    let place = find_entry(b, from, REPORT_BLOCK, header.count as usize, media);
-    match place {
-        Place::At(entry) => MaybeReport::Present(report_block_at(b, at, entry)),
-        Place::Absent => MaybeReport::Absent,
-    }
-}
-
-// The report block found before the packet at `at`, or its own.
-pub fn first_report(
-    old: MaybeReport,
-    b: &[u8],
-    at: usize,
-    header: Header,
-    media: u32,
-) -> MaybeReport
-    requires { Sound header b.now at }
-    ensures { result ≡ first_report (old ∷ report_in header b.now at media ∷ []) }
-{
-    match old {
-        MaybeReport::Present(x) => MaybeReport::Present(x),
-        MaybeReport::Absent => report_in(b, at, header, media),
-    }
+    let entry = find_entry(b, from, REPORT_BLOCK, header.count as usize, media)?;
+    Some(report_block_at(b, at, entry))
 }

@@ -5,10 +5,9 @@
 // Any other line is a heading.
 #![tactic(auto)]
 
+use answers::Refusal;
 use format::Counts;
-use rtcp::{
-    MaybeFeedback, MaybeReport, MaybeSummary, Profile, Reading, ReportBlock, read_compound,
-};
+use rtcp::{Compound, Feedback, Profile, ReportBlock, read_compound};
 use std::io::Stdout;
 
 // The counts of a report.
@@ -21,14 +20,9 @@ fn show_counts(to: Stdout, c: Counts) {
     show::number(to, c.duplicates as u64);
 }
 
-// The cumulative lost of a report block.
-fn show_lost(to: Stdout, lost: i32) {
-    show::signed(to, lost as i64);
-}
-
 fn show_block(to: Stdout, r: ReportBlock) {
     show::number(to, r.fraction as u64);
-    show_lost(to, r.lost);
+    show::signed(to, i64::from(r.lost));
     show::number(to, r.highest as u64);
     show::number(to, r.jitter as u64);
     show::number(to, r.lsr as u64);
@@ -36,57 +30,49 @@ fn show_block(to: Stdout, r: ReportBlock) {
     show::number(to, r.reporter as u64);
 }
 
-fn show_report(to: Stdout, report: MaybeReport) {
+fn show_report(to: Stdout, report: Option<ReportBlock>) {
     show::text(to, b" : report");
     match report {
-        MaybeReport::Present(r) => show_block(to, r),
-        MaybeReport::Absent => show::text(to, b" absent"),
+        Some(r) => show_block(to, r),
+        None => show::text(to, b" absent"),
     }
 }
 
-fn show_feedback(to: Stdout, feedback: MaybeFeedback) {
+fn show_feedback(to: Stdout, feedback: Option<Feedback>) {
     show::text(to, b", feedback");
     match feedback {
-        MaybeFeedback::Present(f) => {
-            let counts = f.counts;
+        Some(f) => {
             show::number(to, f.sender as u64);
             show::number(to, f.highest as u64);
-            show_counts(to, counts);
+            show_counts(to, f.counts);
         }
-        MaybeFeedback::Absent => show::text(to, b" absent"),
+        None => show::text(to, b" absent"),
     }
 }
 
-fn show_summary(to: Stdout, summary: MaybeSummary) {
+fn show_summary(to: Stdout, summary: Option<Counts>) {
     show::text(to, b", summary");
     match summary {
-        MaybeSummary::Present(counts) => show_counts(to, counts),
-        MaybeSummary::Absent => show::text(to, b" absent"),
+        Some(counts) => show_counts(to, counts),
+        None => show::text(to, b" absent"),
     }
 }
 
 fn show_reporting(to: Stdout, reporting: bool) {
     show::text(to, b", SR or RR");
-    if reporting {
-        show::text(to, b" present");
-    } else {
-        show::text(to, b" absent");
-    }
+    show::text(to, if reporting { b" present" } else { b" absent" });
 }
 
 // What reading gives.
-fn show_reading(to: Stdout, reading: Reading) {
+fn show_reading(to: Stdout, reading: Result<Compound, Refusal>) {
     match reading {
-        Reading::Read(found) => {
-            let report = found.report;
-            let feedback = found.feedback;
-            let summary = found.summary;
-            show_report(to, report);
-            show_feedback(to, feedback);
-            show_summary(to, summary);
+        Ok(found) => {
+            show_report(to, found.report);
+            show_feedback(to, found.feedback);
+            show_summary(to, found.summary);
             show_reporting(to, found.reporting);
         }
-        Reading::Refused(refusal) => {
+        Err(refusal) => {
             show::text(to, b" :");
             show::refused(to, refusal);
         }
@@ -116,6 +102,7 @@ fn done(to: Stdout, line: &[u8]) {
 
 // All lines in turn.
 fn run(to: Stdout, text: &[u8]) {
+    // A loop with a step of its own: `split` would give one line more, an empty one behind the last line feed.
     let mut at = 0;
     while at < text.len() {
         let line = cases::line(text, at);

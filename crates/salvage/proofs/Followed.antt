@@ -1,7 +1,8 @@
 -- The calls over a trace follow the program ecnsalvage. Assumes nothing.
+use Rattle.std.specs.Prelude.{Option, Some, None, Result, Ok, Err}
+use Rattle.answers.specs.declared.Unwritten.{Unwritten}
 use mathlib.Core.Path.{◌≡◌, refl, sym, ap, ◌∙◌, subst, subst⁻¹}
 use mathlib.Core.List.{List, []}
-use mathlib.Core.Option.{Option, none, some}
 use Prim.Native.Nat.{ℕ, ◌+◌, ◌*◌, ◌^◌, ◌≤◌, ◌<◌}
 use native.Mathlib.Omega.{arith}
 use borrow.Author.Tests.{le-ltb}
@@ -10,21 +11,16 @@ use lib.Seq.{take_all}
 use Rattle.answers.specs.Refusals.{number_of}
 use Rattle.answers.specs.Writers.{written}
 use Rattle.answers.specs.declared.Refusal.{Refusal}
-use Rattle.answers.specs.declared.Written.{Written}
-use Rattle.answers.specs.declared.Written.TheVariants.{Length, Room, Refused}
 use Rattle.format.specs.Blocks.{block_bytes}
 use Rattle.table.specs.Lines.{refused_line}
 use Rattle.trace.specs.Places.{zeroth_of}
 use Rattle.trace.specs.declared.Zeroth.{Zeroth}
-use Rattle.trace.specs.declared.Zeroth.TheVariants as zeroth
 use Rattle.walk.specs.Blocks.{joined}
 use Rattle.walk.specs.Programs.{nothing, to_output, Ending}
 use Rattle.walk.specs.Pieces.{wholes, whole_in}
 use Rattle.walk.specs.Fitting.{Took, front}
-use Rattle.walk.specs.Endings.{refusal_in, is_going}
+use Rattle.walk.specs.Endings.{is_going}
 use Rattle.walk.specs.Machines.{Standing, begun_by, took_by, ending_by, goes_on, Gives, Follows}
-use Rattle.walk.specs.declared.Ended.{Ended}
-use Rattle.walk.specs.declared.Ended.TheVariants as ended
 use Rattle.walk.proofs.Pieces.{whole_many, whole_long, wholes_fit}
 use Rattle.walk.proofs.Standing.{number_small}
 use Rattle.walk.proofs.Sessions.{session_prints}
@@ -39,7 +35,7 @@ use Rattle.salvage.proofs.Turns.{turn_part, took_sound, took_listed}
 
 -- how the program's run stands
 abbrev standing : Progress → Standing Kept
-standing p = record { state = record { form = p.form; ssrc = p.ssrc }; block = p.block; refusal = refusal_in p.ended }
+standing p = record { state = record { form = p.form; ssrc = p.ssrc }; block = p.block; refusal = p.ended }
 
 abbrev StandsFor : Progress → Standing Kept → Type 0
 StandsFor p s = standing p ≡ s
@@ -50,10 +46,10 @@ begins : (b : List ℕ) → StandsFor (calls.begin b).state (begun_by (ecnsalvag
 unfolding begun_of
 begins b = go (zeroth_of b) refl
   where
-    go : (r : Zeroth) → zeroth_of b ≡ r
+    go : (r : Result Zeroth Refusal) → zeroth_of b ≡ r
         → StandsFor (answer_by r).progress (begun_by (turn_by b r)) × (to_output (take (answer_by r).copied b) ≡ (turn_by b r).printed)
-    go (zeroth.Label form n ssrc) e = (refl, ap to_output (take_all block_bytes b (omega (arith, label_long b e))))
-    go (zeroth.Refused refusal) e = (refl, refl)
+    go (Ok label) e = (refl, ap to_output (take_all block_bytes b (omega (arith, label_long b e))))
+    go (Err refusal) e = (refl, refl)
 
 -- ---- a piece
 
@@ -65,24 +61,24 @@ module _ (p : Progress) (piece : List ℕ) (few : p.block + wholes piece < 2 ^ 6
   abbrev sound : Sound
   sound = sound_in p.form p.ssrc (whole_in piece)
 
-  abbrev Given : Portion → Option Refusal → Written → ℕ → Type 0
+  abbrev Given : Portion → Option Refusal → Result ℕ Unwritten → ℕ → Type 0
   Given q o w most = Gives StandsFor here (took_by ecnsalvage here o piece most) (gave_by q piece (TakenBy p q w))
 
   -- nothing
-  given_none : (o : Option Refusal) → refusal_in p.ended ≡ o
+  given_none : (o : Option Refusal) → p.ended ≡ o
       → Gives StandsFor here (took_by ecnsalvage here o piece 0) (record { state = p; taken = 0; printed = nothing })
   unfolding front
-  given_none none e =
+  given_none None e =
       let same : p.block ≡ p.block + 0 = omega arith in
       record { stands = λ i. record { state = here.state; block = same i; refusal = e i }; taken = refl; printed = refl }
-  given_none (some refusal) e =
+  given_none (Some refusal) e =
       let same : p.block ≡ p.block + 0 = omega arith in
       record { stands = λ i. record { state = here.state; block = same i; refusal = e i }; taken = refl; printed = refl }
 
   -- so many blocks, if the program takes them too
-  given_all : (q : Portion) {w : Took Kept} (n : ℕ) → refusal_in p.ended ≡ none
-      → w ≡ record { state = here.state; taken = q.taken; printed = record { out = take (q.copied * block_bytes) piece; err = q.line }; refusal = none }
-      → q.taken ≤ wholes piece → Gives StandsFor here w (gave_by q piece (TakenBy p q (Length n)))
+  given_all : (q : Portion) {w : Took Kept} (n : ℕ) → p.ended ≡ None
+      → w ≡ record { state = here.state; taken = q.taken; printed = record { out = take (q.copied * block_bytes) piece; err = q.line }; refusal = None }
+      → q.taken ≤ wholes piece → Gives StandsFor here w (gave_by q piece (TakenBy p q (Ok n)))
   given_all q n going e inside =
       let number = number_small p.block q.taken (omega (arith, few, inside)) in
       let bytes : q.taken * block_bytes ≡ block_bytes * q.taken = omega arith in
@@ -95,15 +91,15 @@ module _ (p : Progress) (piece : List ℕ) (few : p.block + wholes piece < 2 ^ 6
       let inside : block_bytes * sound.many ≤ length piece = omega (arith, (front_is_sound p.form p.ssrc (whole_in piece)).inside, whole_many piece, wholes_fit piece) in
       ap (λ (n : ℕ). take n piece) e ∙ sym (first_bytes sound.many piece inside)
 
-  given_going : (o : Option Refusal) (w : Written) → refusal_in p.ended ≡ none → sound.refusal ≡ o → (most : ℕ) × Given (portion_by p.block sound.many o) none w most
-  given_going none (Length n) going r =
+  given_going : (o : Option Refusal) (w : Result ℕ Unwritten) → p.ended ≡ None → sound.refusal ≡ o → (most : ℕ) × Given (portion_by p.block sound.many o) None w most
+  given_going None (Ok n) going r =
       let same = sym copied_bytes in (
         sound.many,
-        given_all (portion_by p.block sound.many none) n going
-            (took_sound p.block here.state (whole_in piece) ∙ (λ i. record { state = here.state; taken = sound.many; printed = to_output (same i); refusal = none }))
+        given_all (portion_by p.block sound.many None) n going
+            (took_sound p.block here.state (whole_in piece) ∙ (λ i. record { state = here.state; taken = sound.many; printed = to_output (same i); refusal = None }))
             (omega (arith, (front_is_sound p.form p.ssrc (whole_in piece)).inside, whole_many piece)),
       )
-  given_going (some refusal) (Length n) going r =
+  given_going (Some refusal) (Ok n) going r =
       let same = sym copied_bytes in
       let f = front_is_sound p.form p.ssrc (whole_in piece) in
       let next = subst (λ (o : Option Refusal). NextHas p.form p.ssrc o (drop sound.many (whole_in piece))) r f.next in
@@ -111,35 +107,32 @@ module _ (p : Progress) (piece : List ℕ) (few : p.block + wholes piece < 2 ^ 6
       let inside : sound.many + 1 ≤ wholes piece = omega (arith, some_left, length-drop sound.many (whole_in piece), whole_many piece) in
       let number = sym (number_small p.block sound.many (omega (arith, few, inside))) in (
         sound.many + 1,
-        given_all (portion_by p.block sound.many (some refusal)) n going
+        given_all (portion_by p.block sound.many (Some refusal)) n going
             (took_listed p.block here.state (whole_in piece) (whole_long piece) r
             ∙ (λ i. record {
               state = here.state;
               taken = sound.many + 1;
               printed = record { out = same i; err = refused_line (number_of refusal) (number i) };
-              refusal = none;
+              refusal = None;
             })) inside,
       )
-  given_going none (Room n) going r = (0, given_none none going)
-  given_going (some refusal) (Room n) going r = (0, given_none none going)
-  given_going none (Refused other) going r = (0, given_none none going)
-  given_going (some refusal) (Refused other) going r = (0, given_none none going)
+  given_going o (Err why) going r = (0, given_none None going)
 
   -- a line of no bytes has room
-  no_line_lem : (room : ℕ) → written none [] (replicate room 0) ≡ Length 0
+  no_line_lem : (room : ℕ) → written None [] (replicate room 0) ≡ Ok 0
   unfolding written
   no_line_lem room = rw (le-ltb (length {A = ℕ} (replicate room 0)) 0 (omega arith))
 
-  given_by : (e : Ended) (room : ℕ) → p.ended ≡ e
-      → (most : ℕ) × Gives StandsFor here (took_by ecnsalvage here (refusal_in e) piece most) (gave_of p piece (portion_in p sound e) room)
-  given_by ended.Going room e =
-      given_going sound.refusal (written none (portion_by p.block sound.many sound.refusal).line (replicate room 0)) (ap refusal_in e) refl
-  given_by (ended.Refused refusal) room e =
+  given_by : (e : Option Refusal) (room : ℕ) → p.ended ≡ e
+      → (most : ℕ) × Gives StandsFor here (took_by ecnsalvage here e piece most) (gave_of p piece (portion_in p sound e) room)
+  given_by None room e =
+      given_going sound.refusal (written None (portion_by p.block sound.many sound.refusal).line (replicate room 0)) e refl
+  given_by (Some refusal) room e =
       let q : Portion = record { copied = 0; taken = 0; line = [] } in
       let number = number_small p.block 0 (omega (arith, few)) in (
         0,
         rw (no_line_lem room)
-            (record { stands = λ i. record { state = here.state; block = number i; refusal = refusal_in (e i) }; taken = refl; printed = refl }),
+            (record { stands = λ i. record { state = here.state; block = number i; refusal = e i }; taken = refl; printed = refl }),
       )
 
   given : (room : ℕ) → (most : ℕ) × Gives StandsFor here (took_by ecnsalvage here here.refusal piece most) (calls.blocks p piece room)
@@ -148,17 +141,17 @@ module _ (p : Progress) (piece : List ℕ) (few : p.block + wholes piece < 2 ^ 6
 
 -- ---- the calls
 
-going_by : (e : Ended) → is_going e ≡ goes_on (refusal_in e)
-going_by ended.Going = refl
-going_by (ended.Refused refusal) = refl
+going_by : (e : Option Refusal) → is_going e ≡ goes_on e
+going_by None = refl
+going_by (Some refusal) = refl
 
 closing_quiet : (o : Option Ending) → record { out = []; err = (closing o).err } ≡ closing o
-closing_quiet none = refl
-closing_quiet (some e) = refl
+closing_quiet None = refl
+closing_quiet (Some e) = refl
 
-ends_as : (p : Progress) (rest : List ℕ) → calls.end p rest ≡ ecnsalvage.close (standing p).state (ending_by p.block (refusal_in p.ended) rest)
+ends_as : (p : Progress) (rest : List ℕ) → calls.end p rest ≡ ecnsalvage.close (standing p).state (ending_by p.block p.ended rest)
 unfolding end_of
-ends_as p rest = closing_quiet (ending_by p.block (refusal_in p.ended) rest)
+ends_as p rest = closing_quiet (ending_by p.block p.ended rest)
 
 pub follows : Follows calls ecnsalvage
 follows = record {

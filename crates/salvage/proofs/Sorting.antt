@@ -1,7 +1,7 @@
 -- What ecnsalvage prints for a trace's blocks. Assumes nothing.
+use Rattle.std.specs.Prelude.{Some, None, Result, Ok, Err}
 use mathlib.Core.Path.{◌≡◌, refl, sym, ap, ◌∙◌}
 use mathlib.Core.List.{List, [], ◌∷◌, append-nil}
-use mathlib.Core.Option.{none, some}
 use Prim.Native.Nat.{ℕ, suc, ◌+◌}
 use native.Mathlib.Omega.{arith}
 use native.Mathlib.Decide.{ℕ_discrete}
@@ -14,9 +14,6 @@ use Rattle.format.specs.declared.Form.{Form}
 use Rattle.table.specs.Lines.{refused_line}
 use Rattle.trace.specs.Places.{zeroth_of, later_of}
 use Rattle.trace.specs.declared.Zeroth.{Zeroth}
-use Rattle.trace.specs.declared.Zeroth.TheVariants as zeroth
-use Rattle.trace.specs.declared.Later.{Later}
-use Rattle.trace.specs.declared.Later.TheVariants as later
 use Rattle.trace.proofs.Placed.{later_short}
 use Rattle.walk.specs.Blocks.{blocks_of, joined}
 use Rattle.walk.specs.Programs.{Printed, to_output, both, Turn, Ending, turned, onward, walk, walked, closed, printed_by}
@@ -39,15 +36,15 @@ module _ (i : ℕ) (b : List ℕ) (bs : List (List ℕ)) (k : Kept) where
   unfolding walk
   rest_by e = ap (λ (t : Turn Kept). closed ecnsalvage (onward (turned i t) (walk ecnsalvage (suc i) bs))) e
 
-  rest_own : fault_of k.form k.ssrc b ≡ none → rest i (b ∷ bs) k ≡ both (to_output b) (rest (suc i) bs k)
+  rest_own : fault_of k.form k.ssrc b ≡ None → rest i (b ∷ bs) k ≡ both (to_output b) (rest (suc i) bs k)
   rest_own e =
-      rest_by (turn_own i k b e) ∙ closed_goes ecnsalvage (turned i (record { state = k; printed = to_output b; refusal = none })) (walk ecnsalvage (suc i) bs) refl
+      rest_by (turn_own i k b e) ∙ closed_goes ecnsalvage (turned i (record { state = k; printed = to_output b; refusal = None })) (walk ecnsalvage (suc i) bs) refl
 
-  rest_listed : {refusal : Refusal} → length b ≡ block_bytes → fault_of k.form k.ssrc b ≡ some refusal
+  rest_listed : {refusal : Refusal} → length b ≡ block_bytes → fault_of k.form k.ssrc b ≡ Some refusal
       → rest i (b ∷ bs) k ≡ both (to_errors (refused_line (number_of refusal) i)) (rest (suc i) bs k)
   rest_listed {refusal} long e =
       rest_by (turn_listed i k b long e)
-      ∙ closed_goes ecnsalvage (turned i (record { state = k; printed = to_errors (refused_line (number_of refusal) i); refusal = none })) (walk ecnsalvage (suc i) bs) refl
+      ∙ closed_goes ecnsalvage (turned i (record { state = k; printed = to_errors (refused_line (number_of refusal) i); refusal = None })) (walk ecnsalvage (suc i) bs) refl
 
   rest_part : (length b ≡ block_bytes → ⊥) → rest i (b ∷ bs) k ≡ to_errors (refused_line (number_of Incomplete) i)
   unfolding closed
@@ -83,7 +80,7 @@ sorts i (b ∷ bs) k h = go (later_of k.form k.ssrc b) refl (sorts (suc i) bs k 
     }
     short part (c ∷ bs) h = absurd (part h.0)
 
-    by_length : (refusal : Refusal) → later_of k.form k.ssrc b ≡ later.Refused refusal → Sorts (suc i) bs k → Dec (length b ≡ block_bytes) → Sorts i (b ∷ bs) k
+    by_length : (refusal : Refusal) → later_of k.form k.ssrc b ≡ Err refusal → Sorts (suc i) bs k → Dec (length b ≡ block_bytes) → Sorts i (b ∷ bs) k
     by_length refusal e s (yes long) = record {
       copied = s.copied;
       listed = record { refusal = refusal; block = i } ∷ s.listed;
@@ -93,28 +90,28 @@ sorts i (b ∷ bs) k h = go (later_of k.form k.ssrc b) refl (sorts (suc i) bs k 
     }
     by_length refusal e s (no part) = short part bs h
 
-    go : (r : Later) → later_of k.form k.ssrc b ≡ r → Sorts (suc i) bs k → Sorts i (b ∷ bs) k
-    go (later.Arrivals n) e s = record {
+    go : (r : Result ℕ Refusal) → later_of k.form k.ssrc b ≡ r → Sorts (suc i) bs k → Sorts i (b ∷ bs) k
+    go (Ok n) e s = record {
       copied = b ∷ s.copied;
       listed = s.listed;
       sorted = copy n e s.sorted;
       add_up = omega (arith, s.add_up);
       prints = rest_own i b bs k (fault_by_lem k.form k.ssrc b e) ∙ ap (both (to_output b)) s.prints;
     }
-    go (later.Refused refusal) e s = by_length refusal e s (ℕ_discrete (length b) block_bytes)
+    go (Err refusal) e s = by_length refusal e s (ℕ_discrete (length b) block_bytes)
 
 -- ---- all of a trace, by its label
 
-salvaged_by : (trace : List ℕ) {r : Zeroth} → zeroth_of (blocks_of trace).zeroth ≡ r
+salvaged_by : (trace : List ℕ) {r : Result Zeroth Refusal} → zeroth_of (blocks_of trace).zeroth ≡ r
     → salvaged trace ≡ closed ecnsalvage (onward (turned 0 (begun_by (blocks_of trace).zeroth r)) (walk ecnsalvage 1 (blocks_of trace).others))
 unfolding salvaged printed_by walked
-salvaged_by trace e = ap (λ (r : Zeroth). closed ecnsalvage (onward (turned 0 (begun_by (blocks_of trace).zeroth r)) (walk ecnsalvage 1 (blocks_of trace).others))) e
+salvaged_by trace e = ap (λ (r : Result Zeroth Refusal). closed ecnsalvage (onward (turned 0 (begun_by (blocks_of trace).zeroth r)) (walk ecnsalvage 1 (blocks_of trace).others))) e
 
-pub salvaged_labelled : (trace : List ℕ) {form : Form} {n ssrc : ℕ} → zeroth_of (blocks_of trace).zeroth ≡ zeroth.Label form n ssrc
+pub salvaged_labelled : (trace : List ℕ) {form : Form} {n ssrc : ℕ} → zeroth_of (blocks_of trace).zeroth ≡ Ok (record { form = form; length = n; ssrc = ssrc })
     → salvaged trace ≡ both (to_output (blocks_of trace).zeroth) (rest 1 (blocks_of trace).others (record { form = form; ssrc = ssrc }))
 salvaged_labelled trace {form} {n} {ssrc} e =
     salvaged_by trace e
-    ∙ closed_goes ecnsalvage (turned 0 (begun_by (blocks_of trace).zeroth (zeroth.Label form n ssrc))) (walk ecnsalvage 1 (blocks_of trace).others) refl
+    ∙ closed_goes ecnsalvage (turned 0 (begun_by (blocks_of trace).zeroth (Ok (record { form = form; length = n; ssrc = ssrc })))) (walk ecnsalvage 1 (blocks_of trace).others) refl
 
 pub salvage_sorts : SalvageSorts
 salvage_sorts trace form n ssrc e =
@@ -131,7 +128,7 @@ pub wrong_label : WrongLabel
 unfolding closed
 wrong_label trace refusal e =
     salvaged_by trace e
-    ∙ closed_ends ecnsalvage (turned 0 (begun_by (blocks_of trace).zeroth (zeroth.Refused refusal))) (walk ecnsalvage 1 (blocks_of trace).others) (record { refusal = refusal; block = 0 }) refl
+    ∙ closed_ends ecnsalvage (turned 0 (begun_by (blocks_of trace).zeroth (Err refusal))) (walk ecnsalvage 1 (blocks_of trace).others) (record { refusal = refusal; block = 0 }) refl
 
 -- ---- blocks that are all a trace's own
 

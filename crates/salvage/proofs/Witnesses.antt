@@ -1,14 +1,13 @@
 -- The witnesses, computed; each theorem is used with what meets its hypotheses. Assumes nothing.
+use Rattle.std.specs.Prelude.{Some, Ok, Err}
 use mathlib.Core.Path.{◌≡◌, refl, subst}
 use mathlib.Core.List.{List, [], ◌++◌, append-nil}
-use mathlib.Core.Option.{some}
 use Prim.Native.Nat.{ℕ, ◌<◌}
 use native.Mathlib.Omega.{arith}
 use lib.ListN.{length, take, drop, replicate, length-append, length-drop}
 use Rattle.answers.specs.Writers.{written}
 use Rattle.answers.specs.Texts.{codes}
 use Rattle.answers.specs.declared.Refusal.TheVariants.{Incomplete, Checksum, FormTwo}
-use Rattle.answers.specs.declared.Written.TheVariants.{Length}
 use Rattle.answers.proofs.Stores.{wrote_all}
 use Rattle.numbers.specs.BigEndian.{word, bytes}
 use Rattle.format.specs.Blocks.{block_bytes}
@@ -20,8 +19,6 @@ use Rattle.trace.specs.Contents.{every, label_byte, label_body, count_ok, good_r
 use Rattle.trace.specs.Layout.{record_bytes, records_bytes, record_at, header, filled, checked, label_block, arrivals_block}
 use Rattle.trace.specs.Places.{zeroth_of, later_of}
 use Rattle.trace.specs.Reading.{right_check, contents_of, block_of}
-use Rattle.trace.specs.declared.Zeroth.TheVariants.{Label, Refused}
-use Rattle.trace.specs.declared.Later.TheVariants as later
 use Rattle.trace.proofs.Limits.{below}
 use Rattle.walk.specs.Blocks.{cut, blocks_of}
 use Rattle.walk.specs.Programs.{Printed, both, onward, walk, walked, closed, printed_by}
@@ -67,23 +64,23 @@ empty_err : (salvaged []).err ≡ codes "refused 1 block 0" ++ line_end
 unfolding block_of cut blocks_of zeroth_of salvaged printed_by walked walk onward closed refused_line decimal digits_of
 empty_err = refl
 
-labelled : zeroth_of (blocks_of damaged).zeroth ≡ Label One 4 1
+labelled : zeroth_of (blocks_of damaged).zeroth ≡ Ok (record { form = One; length = 4; ssrc = 1 })
 unfolding label_block header filled checked bytes words ones_add ones_sum word block_of right_check contents_of label_body label_byte every blocks_of zeroth_of
 labelled = refl
 
-late_labelled : zeroth_of (blocks_of late).zeroth ≡ Label Two 0 1
+late_labelled : zeroth_of (blocks_of late).zeroth ≡ Ok (record { form = Two; length = 0; ssrc = 1 })
 unfolding label_block header filled checked bytes words ones_add ones_sum word block_of right_check contents_of label_body every blocks_of zeroth_of
 late_labelled = refl
 
-late_refused : (walked ecnforms (blocks_of (salvaged late).out)).ended ≡ some (record { refusal = FormTwo; block = 1 })
+late_refused : (walked ecnforms (blocks_of (salvaged late).out)).ended ≡ Some (record { refusal = FormTwo; block = 1 })
 unfolding label_block arrivals_block record_bytes records_bytes header filled checked bytes words ones_add ones_sum word block_of right_check contents_of label_body label_byte every arrivals_body count_ok good_records records_in record_at list_of cut blocks_of zeroth_of later_of fault_of turn_of salvaged printed_by walked walk onward closed timed next_of
 late_refused = refl
 
-wrong : zeroth_of (blocks_of []).zeroth ≡ Refused Incomplete
+wrong : zeroth_of (blocks_of []).zeroth ≡ Err Incomplete
 unfolding block_of blocks_of zeroth_of
 wrong = refl
 
-zeros_read : later_of One 1 unread ≡ later.Refused Checksum
+zeros_read : later_of One 1 unread ≡ Err Checksum
 unfolding word words ones_add ones_sum block_of right_check later_of
 zeros_read = refl
 
@@ -95,7 +92,7 @@ arrival_taken : portion_of begun (arrival 1 7) ≡ record { copied = 1; taken = 
 unfolding arrivals_block record_bytes records_bytes header filled checked bytes words ones_add ones_sum word block_of right_check contents_of every arrivals_body count_ok good_records cut wholes whole_in later_of fault_of sound_in portion_of
 arrival_taken = refl
 
-taken : Takes begun (arrival 1 7) (replicate 64 0) (record { copied = 512; bytes = 512; answer = Length 0; progress = moved_by begun 1 }) (replicate 64 0)
+taken : Takes begun (arrival 1 7) (replicate 64 0) (record { copied = 512; bytes = 512; answer = Ok 0; progress = moved_by begun 1 }) (replicate 64 0)
 taken = rw arrival_taken (record { wrote = wrote_all [] (replicate 64 0) refl (omega arith) refl refl; taken = refl })
 
 octets : Octets tailed
@@ -160,7 +157,7 @@ used =
     let refused = listed_is_refused (record { form = One; length = 4; ssrc = 1; totals = fresh_totals }) unread Checksum met.zeros in
     let line-room = line_has_room begun (arrival 1 7) (omega arith) in
     let end-room = end_has_room begun [] (omega arith) in
-    let goes_on_lem = blocks_go_on begun (arrival 1 7) (replicate 64 0) (record { copied = 512; bytes = 512; answer = Length 0; progress = moved_by begun 1 }) (replicate 64 0) refl (omega arith) met.long (omega arith) met.taken in
+    let goes_on_lem = blocks_go_on begun (arrival 1 7) (replicate 64 0) (record { copied = 512; bytes = 512; answer = Ok 0; progress = moved_by begun 1 }) (replicate 64 0) refl (omega arith) met.long (omega arith) met.taken in
     let same = accepted_is_same whole (copies.met).accepted in
     let prints = trace_prints tailed met.session.0 met.octets met.few met.session.1 in
     tt

@@ -1,23 +1,18 @@
 -- The three calls of a run of ecnsalvage over pieces of a trace: what each gives, and what they print together.
-use Rattle.std.specs.Prelude.{◌≡◌, List, [], ℕ, ◌+◌, ◌*◌, ◌^◌, ◌≤◌, ◌<◌, length, take, replicate}
-use Rattle.std.proofs.Math.Option.{Option, none, some}
+use Rattle.answers.specs.declared.Unwritten.{Unwritten}
+use Rattle.std.specs.Prelude.{◌≡◌, List, [], ℕ, ◌+◌, ◌*◌, ◌^◌, ◌≤◌, ◌<◌, length, take, replicate, Option, Some, None, Result, Ok, Err}
 use Rattle.answers.specs.Refusals.{number_of}
 use Rattle.answers.specs.Writers.{written, Wrote}
 use Rattle.answers.specs.declared.Refusal.{Refusal}
-use Rattle.answers.specs.declared.Written.{Written}
-use Rattle.answers.specs.declared.Written.TheVariants.{Length, Room, Refused}
 use Rattle.format.specs.Blocks.{block_bytes}
 use Rattle.format.specs.declared.Form.TheVariants.{One}
 use Rattle.table.specs.Lines.{refused_line}
 use Rattle.trace.specs.Places.{zeroth_of}
 use Rattle.trace.specs.declared.Zeroth.{Zeroth}
-use Rattle.trace.specs.declared.Zeroth.TheVariants as zeroth
 use Rattle.walk.specs.Programs.{Printed, to_output}
 use Rattle.walk.specs.Pieces.{Octets, whole_in}
-use Rattle.walk.specs.Endings.{refusal_in, is_going, number_after}
+use Rattle.walk.specs.Endings.{is_going, number_after}
 use Rattle.walk.specs.Machines.{ending_by, Gave, Machine, Session}
-use Rattle.walk.specs.declared.Ended.{Ended}
-use Rattle.walk.specs.declared.Ended.TheVariants as ended
 use Rattle.copies.specs.Fronts.{Sound, sound_in}
 use Rattle.salvage.specs.declared.Progress.{Progress}
 use Rattle.salvage.specs.declared.Begun.{Begun}
@@ -26,9 +21,9 @@ use Rattle.salvage.specs.Salvaged.{closing, salvaged}
 
 -- ---- block 0
 
-abbrev pub begun_by : Zeroth → Begun
-begun_by (zeroth.Label form n ssrc) = record { copied = block_bytes; progress = record { form = form; ssrc = ssrc; block = 1; ended = ended.Going } }
-begun_by (zeroth.Refused refusal) = record { copied = 0; progress = record { form = One; ssrc = 0; block = 0; ended = ended.Refused refusal } }
+abbrev pub begun_by : Result Zeroth Refusal → Begun
+begun_by (Ok label) = record { copied = block_bytes; progress = record { form = label.form; ssrc = label.ssrc; block = 1; ended = None } }
+begun_by (Err refusal) = record { copied = 0; progress = record { form = One; ssrc = 0; block = 0; ended = Some refusal } }
 
 unfoldable pub begun_of : List ℕ → Begun
 begun_of b = begun_by (zeroth_of b)
@@ -43,13 +38,13 @@ pub record Portion : Type 0 where
 
 -- the sound blocks at the front, and the block after them, if that is refused
 abbrev pub portion_by : ℕ → ℕ → Option Refusal → Portion
-portion_by block many none = record { copied = many; taken = many; line = [] }
-portion_by block many (some refusal) = record { copied = many; taken = many + 1; line = refused_line (number_of refusal) (number_after block many) }
+portion_by block many None = record { copied = many; taken = many; line = [] }
+portion_by block many (Some refusal) = record { copied = many; taken = many + 1; line = refused_line (number_of refusal) (number_after block many) }
 
 -- nothing after an end
-abbrev pub portion_in : Progress → Sound → Ended → Portion
-portion_in p s ended.Going = portion_by p.block s.many s.refusal
-portion_in p s (ended.Refused refusal) = record { copied = 0; taken = 0; line = [] }
+abbrev pub portion_in : Progress → Sound → Option Refusal → Portion
+portion_in p s None = portion_by p.block s.many s.refusal
+portion_in p s (Some refusal) = record { copied = 0; taken = 0; line = [] }
 
 unfoldable pub portion_of : Progress → List ℕ → Portion
 portion_of p piece = portion_in p (sound_in p.form p.ssrc (whole_in piece)) p.ended
@@ -59,13 +54,12 @@ abbrev pub moved_by : Progress → ℕ → Progress
 moved_by p many = record { form = p.form; ssrc = p.ssrc; block = number_after p.block many; ended = p.ended }
 
 -- the call's answer, by its line's: if the line has no room, 12, nothing is taken
-abbrev pub TakenBy : Progress → Portion → Written → Taken
-TakenBy p q (Length n) = record { copied = q.copied * block_bytes; bytes = q.taken * block_bytes; answer = Length n; progress = moved_by p q.taken }
-TakenBy p q (Room n) = record { copied = 0; bytes = 0; answer = Room n; progress = p }
-TakenBy p q (Refused refusal) = record { copied = 0; bytes = 0; answer = Refused refusal; progress = p }
+abbrev pub TakenBy : Progress → Portion → Result ℕ Unwritten → Taken
+TakenBy p q (Ok n) = record { copied = q.copied * block_bytes; bytes = q.taken * block_bytes; answer = Ok n; progress = moved_by p q.taken }
+TakenBy p q (Err why) = record { copied = 0; bytes = 0; answer = Err why; progress = p }
 
 pub record TakesBy (p : Progress) (q : Portion) (old : List ℕ) (r : Taken) (err : List ℕ) : Type 0 where
-  pub wrote : Wrote none q.line old r.answer err
+  pub wrote : Wrote None q.line old r.answer err
   pub taken : r ≡ TakenBy p q r.answer
 
 abbrev pub Takes : Progress → List ℕ → List ℕ → Taken → List ℕ → Type 0
@@ -74,15 +68,14 @@ Takes p piece old r err = TakesBy p (portion_of p piece) old r err
 -- ---- the end: what is left is a part of a block, which is refused with 1, or nothing
 
 unfoldable pub end_of : Progress → List ℕ → List ℕ
-end_of p rest = (closing (ending_by p.block (refusal_in p.ended) rest)).err
+end_of p rest = (closing (ending_by p.block p.ended rest)).err
 
 -- ---- the calls over a trace, and what they print: bytes of a piece as they stand, and lines
 
 -- the line, if it was written
-abbrev pub line_in : List ℕ → Written → List ℕ
-line_in line (Length n) = line
-line_in line (Room n) = []
-line_in line (Refused refusal) = []
+abbrev pub line_in : List ℕ → Result ℕ Unwritten → List ℕ
+line_in line (Ok n) = line
+line_in line (Err why) = []
 
 abbrev pub gave_by : Portion → List ℕ → Taken → Gave Progress
 gave_by q piece r = record {
@@ -93,7 +86,7 @@ gave_by q piece r = record {
 
 -- with an output of so many bytes for the line
 abbrev pub gave_of : Progress → List ℕ → Portion → ℕ → Gave Progress
-gave_of p piece q room = gave_by q piece (TakenBy p q (written none q.line (replicate room 0)))
+gave_of p piece q room = gave_by q piece (TakenBy p q (written None q.line (replicate room 0)))
 
 abbrev pub calls : Machine Progress
 calls = record {
@@ -117,5 +110,5 @@ EndHasRoom = (p : Progress) (rest : List ℕ) → p.block < 2 ^ 64 → length (e
 -- and with them a call on a piece of a block or more takes a block or more, so that the run comes to its end
 abbrev pub BlocksGoOn : Type 0
 BlocksGoOn =
-    (p : Progress) (piece old : List ℕ) (r : Taken) (err : List ℕ) → p.ended ≡ ended.Going → p.block < 2 ^ 64 → block_bytes ≤ length piece → 64 ≤ length old
+    (p : Progress) (piece old : List ℕ) (r : Taken) (err : List ℕ) → p.ended ≡ None → p.block < 2 ^ 64 → block_bytes ≤ length piece → 64 ≤ length old
     → Takes p piece old r err → block_bytes ≤ r.bytes

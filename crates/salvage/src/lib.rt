@@ -3,21 +3,19 @@
 #![tactic(auto)]
 
 ghost use Rattle.std.specs.Prelude.{◌≡◌, [], ◌+◌, ◌*◌, ◌<◌};
-ghost use Rattle.std.proofs.Math.Option.{none};
 ghost use Rattle.answers.specs.Refusals.{number_of};
 ghost use Rattle.answers.specs.Writers.{Wrote};
 ghost use Rattle.table.specs.Lines.{refused_line};
 ghost use Rattle.walk.specs.Endings.{number_after};
 ghost use Rattle.salvage.specs.Pieces.{begun_of, moved_by, TakesBy, Takes, end_of};
 
-use answers::{Refusal, Written};
+use answers::{Refusal, Unwritten};
 use copies::sound_front;
 use format::Form;
 use format::block::BLOCK;
 use table::write_refused;
-use trace::Zeroth;
 use trace::places::read_label;
-use walk::{Ended, number_after};
+use walk::number_after;
 
 // How far a run has come: the form and the SSRC of its trace, the number of the next block, and whether that ended the run. Every such state is sound.
 #[derive(Clone, Copy)]
@@ -25,7 +23,7 @@ pub struct Progress {
     pub form: Form,
     pub ssrc: u32,
     pub block: u64,
-    pub ended: Ended,
+    pub ended: Option<Refusal>,
 }
 
 // The answer to block 0: how many bytes of it are copied, and the progress.
@@ -40,12 +38,12 @@ pub struct Begun {
 pub struct Taken {
     pub copied: usize,
     pub bytes: usize,
-    pub answer: Written,
+    pub answer: Result<usize, Unwritten>,
     pub progress: Progress,
 }
 
 // A piece of which nothing is taken.
-fn none_taken(progress: Progress, answer: Written) -> Taken
+fn none_taken(progress: Progress, answer: Result<usize, Unwritten>) -> Taken
     ensures { result ≡ record { copied = 0; bytes = 0; answer = answer; progress = progress } }
 {
     Taken {
@@ -62,34 +60,24 @@ impl Progress {
         ensures { result ≡ begun_of zeroth.now }
     {
         match read_label(zeroth) {
-            Zeroth::Label {
-                form,
-                length: _,
-                ssrc,
-            } => {
-                let progress = Progress {
-                    form,
-                    ssrc,
+            Ok(label) => Begun {
+                copied: BLOCK,
+                progress: Progress {
+                    form: label.form,
+                    ssrc: label.ssrc,
                     block: 1,
-                    ended: Ended::Going,
-                };
-                Begun {
-                    copied: BLOCK,
-                    progress,
-                }
-            }
-            Zeroth::Refused(refusal) => {
-                let progress = Progress {
+                    ended: None,
+                },
+            },
+            Err(refusal) => Begun {
+                copied: 0,
+                progress: Progress {
                     form: Form::One,
                     ssrc: 0,
                     block: 0,
-                    ended: Ended::Refused(refusal),
-                };
-                Begun {
-                    copied: 0,
-                    progress,
-                }
-            }
+                    ended: Some(refusal),
+                },
+            },
         }
     }
 
@@ -97,14 +85,8 @@ impl Progress {
     fn moved(self, many: usize) -> Progress
         ensures { result ≡ moved_by self many }
     {
-        let form = self.form;
-        let ended = self.ended;
-        Progress {
-            form,
-            ssrc: self.ssrc,
-            block: number_after(self.block, many as u64),
-            ended,
-        }
+        let block = number_after(self.block, many as u64);
+        Progress { block, ..self }
     }
 
     // Takes so many blocks, which are copied, and the next one, which is left out: its line is written at the front of err.
@@ -114,7 +96,7 @@ impl Progress {
     {
         let at = self.moved(many);
         let answer = write_refused(refusal.number(), at.block, err);
-        let Written::Length(_) = answer else {
+        let Ok(_) = answer else {
             return none_taken(self, answer);
         };
         let front = many * BLOCK;
@@ -133,36 +115,32 @@ impl Progress {
     pub fn blocks(self, piece: &[u8], err: &mut [u8]) -> Taken
         ensures { Takes self piece.now err.old result err.new }
     {
-        let before = self.ended;
-        let form = self.form;
-        let Ended::Going = before else {
-            return none_taken(self, Written::Length(0));
+        let None = self.ended else {
+            return none_taken(self, Ok(0));
         };
-        let front = sound_front(form, self.ssrc, piece);
+        let front = sound_front(self.form, self.ssrc, piece);
         let many = front.bytes / BLOCK;
-        let next = front.ended;
-        match next {
-            Ended::Going => Taken {
+        match front.ended {
+            None => Taken {
                 copied: many * BLOCK,
                 bytes: many * BLOCK,
-                answer: Written::Length(0),
+                answer: Ok(0),
                 progress: self.moved(many),
             },
-            Ended::Refused(refusal) => self.without(refusal, many, err),
+            Some(refusal) => self.without(refusal, many, err),
         }
     }
 
     // Ends the run. `rest` is what is left: 1 byte or more is a block that is refused with 1. Writes the line of the block that ended the run, if there is one, at
     // the front of err. 12 with the line's length.
-    pub fn end(self, rest: &[u8], err: &mut [u8]) -> Written
-        ensures { Wrote none (end_of self rest.now) err.old result err.new }
+    pub fn end(self, rest: &[u8], err: &mut [u8]) -> Result<usize, Unwritten>
+        ensures { Wrote None (end_of self rest.now) err.old result err.new }
     {
-        let ended = self.ended;
-        match ended {
-            Ended::Refused(refusal) => write_refused(refusal.number(), self.block, err),
-            Ended::Going => {
+        match self.ended {
+            Some(refusal) => write_refused(refusal.number(), self.block, err),
+            None => {
                 if rest.len() == 0 {
-                    return Written::Length(0);
+                    return Ok(0);
                 }
                 write_refused(Refusal::Incomplete.number(), self.block, err)
             }

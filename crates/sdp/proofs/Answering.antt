@@ -1,16 +1,16 @@
 -- The reader's answer as a function, and that it is what the definitions say. Assumes nothing.
+use Rattle.std.specs.Prelude.{Option, Some, None, Result, Ok}
 use mathlib.Core.Path.{◌≡◌, refl, sym, ap, ◌∙◌}
 use mathlib.Core.Bool.{Bool, true, false, cond, false≢true}
 use mathlib.Core.List.{List}
-use mathlib.Core.Option.{Option, none, some}
 use Prim.Native.Nat.{ℕ, ◌≤◌, ◌<◌}
 use native.Mathlib.Omega.{arith}
 use borrow.Author.Tests.{ltb-true, ltb-false, lt-ltb, le-ltb}
 use lib.Dec.{ltb}
 use lib.ListN.{length}
+use Rattle.answers.specs.declared.Refusal.{Refusal}
 use Rattle.answers.specs.declared.Refusal.TheVariants as why
-use Rattle.sdp.specs.declared.Reading.{Reading}
-use Rattle.sdp.specs.declared.Verdict.TheVariants.{Read}
+use Rattle.sdp.specs.declared.Attribute.{Attribute}
 use Rattle.sdp.specs.declared.steps.Part.TheVariants as part
 use Rattle.sdp.specs.declared.reader.Tally.{Tally}
 use Rattle.sdp.specs.Grammar.{Line, Derives}
@@ -23,9 +23,9 @@ use Rattle.sdp.proofs.Derivations.{items, line_of, derives_items, items_derives,
 use Rattle.sdp.proofs.Counting.{tallied, counts, kept_all}
 
 -- what is answered to the items that are left, with those passed
-unfoldable pub outcome : Tally → Option (List Entry) → Reading
-outcome t none = refused_by why.Attribute
-outcome t (some xs) = finished (tallied t xs)
+unfoldable pub outcome : Tally → Option (List Entry) → Result Attribute Refusal
+outcome t None = refused_by why.Attribute
+outcome t (Some xs) = finished (tallied t xs)
 
 abbrev pub items_in : List ℕ → Option (List Entry)
 items_in s = items (length s) part.Methods s 19
@@ -35,7 +35,7 @@ module _ (s : List ℕ) (fits : length s ≤ 255) where
   pub reads_unnamed : begins s ≡ false → Reads s (refused_by why.Attribute)
   reads_unnamed b = Reads.malformed fits (λ x h. false≢true (sym b ∙ (derives_items h.derived).0))
 
-  reads_none : items_in s ≡ none → Reads s (refused_by why.Attribute)
+  reads_none : items_in s ≡ None → Reads s (refused_by why.Attribute)
   reads_none e =
       Reads.malformed fits (λ x h. let (b, l, (xs, i, p)) = derives_items h.derived in let z : ◌≡◌ {A = ℕ} 0 1 = cc in omega arith)
 
@@ -63,23 +63,23 @@ module _ (s : List ℕ) (fits : length s ≤ 255) where
   reads_outcome b = go (items_in s) refl
     where
       go : (w : Option (List Entry)) → items_in s ≡ w → Reads s (outcome no_tally w)
-      go none e = reads_none e
-      go (some xs) e = reads_some xs (items_derives s xs b e)
+      go None e = reads_none e
+      go (Some xs) e = reads_some xs (items_derives s xs b e)
 
 -- ---- the line fixes the answer
 
 -- what is answered to a well_formed line
-said : Line → Reading
+said : Line → Result Attribute Refusal
 said x =
     cond (ltb 8 (length x.methods)) (refused_by why.Limits)
-    (cond (ltb 8 (length x.parms)) (refused_by why.Limits) (record { verdict = Read; attribute = kept x }))
+    (cond (ltb 8 (length x.parms)) (refused_by why.Limits) (Ok (kept x)))
 
-data View (s : List ℕ) (r : Reading) : Type 0 where
+data View (s : List ℕ) (r : Result Attribute Refusal) : Type 0 where
   long : 255 < length s → r ≡ refused_by why.Limits → View s r
   malformed : length s ≤ 255 → ((x : Line) → Says s x → ⊥) → r ≡ refused_by why.Attribute → View s r
   formed : (x : Line) → length s ≤ 255 → Says s x → r ≡ said x → View s r
 
-view : {s : List ℕ} {r : Reading} → Reads s r → View s r
+view : {s : List ℕ} {r : Result Attribute Refusal} → Reads s r → View s r
 unfolding said
 view (Reads.long h) = View.long h refl
 view (Reads.malformed h f) = View.malformed h f refl
@@ -87,7 +87,7 @@ view (Reads.methods {x} h w l) = View.formed x h w (rw (lt-ltb 8 (length x.metho
 view (Reads.parms {x} h w l) = View.formed x h w (go (ltb 8 (length x.methods)))
   where
     go : (b : Bool) → refused_by why.Limits
-        ≡ cond b (refused_by why.Limits) (cond (ltb 8 (length x.parms)) (refused_by why.Limits) (record { verdict = Read; attribute = kept x }))
+        ≡ cond b (refused_by why.Limits) (cond (ltb 8 (length x.parms)) (refused_by why.Limits) (Ok (kept x)))
     go true = refl
     go false = rw (lt-ltb 8 (length x.parms) l)
 view (Reads.given {x} h w l k) = View.formed x h w (rw (le-ltb 8 (length x.methods) l, le-ltb 8 (length x.parms) k))
@@ -108,7 +108,7 @@ reads_once s r q a b = go (view a) (view b)
 
 -- ---- every line has an answer
 
-unfoldable pub read_of : List ℕ → Reading
+unfoldable pub read_of : List ℕ → Result Attribute Refusal
 read_of s = cond (ltb 255 (length s)) (refused_by why.Limits) (cond (begins s) (outcome no_tally (items_in s)) (refused_by why.Attribute))
 
 pub reads_of : (s : List ℕ) → Reads s (read_of s)

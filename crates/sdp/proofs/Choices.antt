@@ -1,4 +1,5 @@
 -- What is answered: the first common method of ours, left out where there is none. Assumes nothing.
+use Rattle.std.specs.Prelude.{Option, Some, None, Result, Ok, Err}
 use mathlib.Core.Path.{◌≡◌, refl, sym, ap, ◌∙◌}
 use mathlib.Core.Bool.{Bool, true, false, cond, ◌||◌, false≢true}
 use mathlib.Core.Logic.{◌⊎◌, inl, inr, ⊎_elim}
@@ -7,16 +8,14 @@ use Prim.Native.Nat.{ℕ}
 use native.Mathlib.Omega.{arith}
 use borrow.Author.Tests.{le-ltb}
 use lib.Dec.{ltb}
+use Rattle.answers.specs.declared.Refusal.{Refusal}
 use Rattle.answers.specs.declared.Refusal.TheVariants.{Limits}
 use Rattle.sdp.specs.declared.Method.{Method}
 use Rattle.sdp.specs.declared.Method.TheVariants.{Rtp, Ice, Leap}
 use Rattle.sdp.specs.declared.Mode.{Mode}
 use Rattle.sdp.specs.declared.Mode.TheVariants.{SetOnly, SetRead, ReadOnly}
-use Rattle.sdp.specs.declared.MaybeMode.{MaybeMode}
-use Rattle.sdp.specs.declared.MaybeMode.TheVariants.{Absent, Present}
 use Rattle.sdp.specs.declared.Attribute.{Attribute}
 use Rattle.sdp.specs.declared.Chosen.{Chosen}
-use Rattle.sdp.specs.declared.Negotiated.TheVariants.{Included, LeftOut, Refused}
 use Rattle.sdp.specs.Reading.{attribute_of}
 use Rattle.sdp.specs.Writing.{methods_in, write_fault}
 use Rattle.sdp.specs.Answers.{same_method, names, capability, both_one_way, first_in, answered, answer_of}
@@ -59,13 +58,13 @@ module _ (offered : List Method) (ours : Attribute) where
     mode : c.mode ≡ ours.mode
     ect : c.ect ≡ ours.ect
 
-  first_is : (l : List Method) (c : Chosen) → first_in offered l ours ≡ Included c → Here l c
+  first_is : (l : List Method) (c : Chosen) → first_in offered l ours ≡ Some c → Here l c
   unfolding first_in names
   first_is [] c e = let z : ◌≡◌ {A = ℕ} 0 1 = cc in absurd (omega arith)
   first_is (x ∷ l) c e = go (names offered x) refl e (first_is l c)
     where
-      go : (b : Bool) → names offered x ≡ b → cond b (Included (record { method = x; mode = ours.mode; ect = ours.ect })) (first_in offered l ours) ≡ Included c
-          → (first_in offered l ours ≡ Included c → Here l c) → Here (x ∷ l) c
+      go : (b : Bool) → names offered x ≡ b → cond b (Some (record { method = x; mode = ours.mode; ect = ours.ect })) (first_in offered l ours) ≡ Some c
+          → (first_in offered l ours ≡ Some c → Here l c) → Here (x ∷ l) c
       go true h t f =
           let r : record { method = x; mode = ours.mode; ect = ours.ect } ≡ c = cc in
           record {
@@ -89,17 +88,17 @@ module _ (offered : List Method) (ours : Attribute) where
             ect = g.ect;
           }
 
-  first_none : (l : List Method) → first_in offered l ours ≡ LeftOut → (m : Method) → names l m ≡ true → names offered m ≡ true → ⊥
+  first_none : (l : List Method) → first_in offered l ours ≡ None → (m : Method) → names l m ≡ true → names offered m ≡ true → ⊥
   unfolding first_in names
   first_none [] e m h k = false≢true h
   first_none (x ∷ l) e m h k = go (names offered x) refl e (first_none l)
     where
-      go : (b : Bool) → names offered x ≡ b → cond b (Included (record { method = x; mode = ours.mode; ect = ours.ect })) (first_in offered l ours) ≡ LeftOut
-          → (first_in offered l ours ≡ LeftOut → (m : Method) → names l m ≡ true → names offered m ≡ true → ⊥) → ⊥
+      go : (b : Bool) → names offered x ≡ b → cond b (Some (record { method = x; mode = ours.mode; ect = ours.ect })) (first_in offered l ours) ≡ None
+          → (first_in offered l ours ≡ None → (m : Method) → names l m ≡ true → names offered m ≡ true → ⊥) → ⊥
       go true q t f = let z : ◌≡◌ {A = ℕ} 0 1 = cc in omega arith
       go false q t f = names_cases x l m h ⊥ (λ i. false≢true (sym q ∙ ap (names offered) i ∙ k)) (λ n. f t m n k)
 
-  none_first : (l : List Method) → ((m : Method) → names l m ≡ true → names offered m ≡ true → ⊥) → first_in offered l ours ≡ LeftOut
+  none_first : (l : List Method) → ((m : Method) → names l m ≡ true → names offered m ≡ true → ⊥) → first_in offered l ours ≡ None
   unfolding first_in names
   none_first [] f = refl
   none_first (x ∷ l) f = go (names offered x) refl (none_first l (λ m h k. f m (behind (same_method x m) (names l m) h) k))
@@ -108,23 +107,23 @@ module _ (offered : List Method) (ours : Attribute) where
       behind true b e = refl
       behind false b e = e
 
-      go : (b : Bool) → names offered x ≡ b → first_in offered l ours ≡ LeftOut
-          → cond b (Included (record { method = x; mode = ours.mode; ect = ours.ect })) (first_in offered l ours) ≡ LeftOut
+      go : (b : Bool) → names offered x ≡ b → first_in offered l ours ≡ None
+          → cond b (Some (record { method = x; mode = ours.mode; ect = ours.ect })) (first_in offered l ours) ≡ None
       go true q t = absurd (f x (rw (same_self x)) q)
       go false q t = t
 
 -- ---- the answer's chain
 
-included_first : (offer ours : Attribute) (c : Chosen) → answer_of offer ours ≡ Included c → first_in (methods_in offer) (methods_in ours) ours ≡ Included c
+included_first : (offer ours : Attribute) (c : Chosen) → answer_of offer ours ≡ Ok (Some c) → first_in (methods_in offer) (methods_in ours) ours ≡ Some c
 unfolding answer_of
 included_first offer ours c e = go (ltb 8 offer.used) (ltb 8 ours.used) (both_one_way (capability offer.mode) (capability ours.mode)) e
   where
-    go : (a b d : Bool) → cond a (Refused Limits) (cond b (Refused Limits) (cond d LeftOut (first_in (methods_in offer) (methods_in ours) ours))) ≡ Included c
-        → first_in (methods_in offer) (methods_in ours) ours ≡ Included c
+    go : (a b d : Bool) → cond a (Err Limits) (cond b (Err Limits) (cond d (Ok None) (Ok (first_in (methods_in offer) (methods_in ours) ours)))) ≡ Ok (Some c)
+        → first_in (methods_in offer) (methods_in ours) ours ≡ Some c
     go true b d t = let z : ◌≡◌ {A = ℕ} 0 1 = cc in absurd (omega arith)
     go false true d t = let z : ◌≡◌ {A = ℕ} 0 1 = cc in absurd (omega arith)
     go false false true t = let z : ◌≡◌ {A = ℕ} 0 1 = cc in absurd (omega arith)
-    go false false false t = t
+    go false false false t = cc
 
 pub chosen_first : ChosenFirst
 chosen_first offer ours c e =
@@ -160,29 +159,32 @@ left_out offer ours h k = rw (le-ltb 8 offer.used h, le-ltb 8 ours.used k) (ther
     own : Mode
     own = capability ours.mode
 
-    there : (b : Bool) → both_one_way theirs own ≡ b → cond b LeftOut (first_in (methods_in offer) (methods_in ours) ours) ≡ LeftOut → NoAnswer offer ours
-    there true e t = ⊎_elim (λ w. NoAnswer.set w.0 w.1) (λ w. NoAnswer.read w.0 w.1) (one_way theirs own e)
-    there false e t = NoAnswer.apart (first_none (methods_in offer) ours (methods_in ours) t)
+    met : Result (Option Chosen) Refusal
+    met = Ok (first_in (methods_in offer) (methods_in ours) ours)
 
-    back : NoAnswer offer ours → cond (both_one_way theirs own) LeftOut (first_in (methods_in offer) (methods_in ours) ours) ≡ LeftOut
+    there : (b : Bool) → both_one_way theirs own ≡ b → cond b (Ok None) met ≡ Ok None → NoAnswer offer ours
+    there true e t = ⊎_elim (λ w. NoAnswer.set w.0 w.1) (λ w. NoAnswer.read w.0 w.1) (one_way theirs own e)
+    there false e t = let n : first_in (methods_in offer) (methods_in ours) ours ≡ None = cc in NoAnswer.apart (first_none (methods_in offer) ours (methods_in ours) n)
+
+    back : NoAnswer offer ours → cond (both_one_way theirs own) (Ok None) met ≡ Ok None
     back (NoAnswer.set a b) = rw (a, b)
     back (NoAnswer.read a b) = rw (a, b)
     back (NoAnswer.apart f) = either (both_one_way theirs own) (none_first (methods_in offer) ours (methods_in ours) f)
       where
-        either : (b : Bool) → first_in (methods_in offer) (methods_in ours) ours ≡ LeftOut → cond b LeftOut (first_in (methods_in offer) (methods_in ours) ours) ≡ LeftOut
+        either : (b : Bool) → first_in (methods_in offer) (methods_in ours) ours ≡ None → cond b (Ok None) met ≡ Ok None
         either true e = refl
-        either false e = e
+        either false e = ap Ok e
 
 -- our mode decides neither the method nor whether there is one
-modeless_first : (offered l : List Method) (ours : Attribute) (o n : MaybeMode)
-    → modeless (first_in offered l (mode_set o ours)) ≡ modeless (first_in offered l (mode_set n ours))
+modeless_first : (offered l : List Method) (ours : Attribute) (o n : Option Mode)
+    → modeless (Ok (first_in offered l (mode_set o ours))) ≡ modeless (Ok (first_in offered l (mode_set n ours)))
 unfolding first_in
 modeless_first offered [] ours o n = refl
 modeless_first offered (x ∷ l) ours o n = go (names offered x) (modeless_first offered l ours o n)
   where
-    go : (b : Bool) → modeless (first_in offered l (mode_set o ours)) ≡ modeless (first_in offered l (mode_set n ours))
-        → modeless (cond b (Included (record { method = x; mode = o; ect = ours.ect })) (first_in offered l (mode_set o ours)))
-        ≡ modeless (cond b (Included (record { method = x; mode = n; ect = ours.ect })) (first_in offered l (mode_set n ours)))
+    go : (b : Bool) → modeless (Ok (first_in offered l (mode_set o ours))) ≡ modeless (Ok (first_in offered l (mode_set n ours)))
+        → modeless (Ok (cond b (Some (record { method = x; mode = o; ect = ours.ect })) (first_in offered l (mode_set o ours))))
+        ≡ modeless (Ok (cond b (Some (record { method = x; mode = n; ect = ours.ect })) (first_in offered l (mode_set n ours))))
     go true e = refl
     go false e = e
 
@@ -191,14 +193,14 @@ unfolding answer_of
 absent_is_setread offer ours = (
   refl,
   go (ltb 8 offer.used) (ltb 8 ours.used) (both_one_way (capability offer.mode) SetRead)
-      (modeless_first (methods_in offer) (methods_in ours) ours Absent (Present SetRead)),
+      (modeless_first (methods_in offer) (methods_in ours) ours None (Some SetRead)),
 )
   where
     go : (a b d : Bool)
-        → modeless (first_in (methods_in offer) (methods_in ours) (mode_set Absent ours))
-        ≡ modeless (first_in (methods_in offer) (methods_in ours) (mode_set (Present SetRead) ours))
-        → modeless (cond a (Refused Limits) (cond b (Refused Limits) (cond d LeftOut (first_in (methods_in offer) (methods_in ours) (mode_set Absent ours)))))
-        ≡ modeless (cond a (Refused Limits) (cond b (Refused Limits) (cond d LeftOut (first_in (methods_in offer) (methods_in ours) (mode_set (Present SetRead) ours)))))
+        → modeless (Ok (first_in (methods_in offer) (methods_in ours) (mode_set None ours)))
+        ≡ modeless (Ok (first_in (methods_in offer) (methods_in ours) (mode_set (Some SetRead) ours)))
+        → modeless (cond a (Err Limits) (cond b (Err Limits) (cond d (Ok None) (Ok (first_in (methods_in offer) (methods_in ours) (mode_set None ours))))))
+        ≡ modeless (cond a (Err Limits) (cond b (Err Limits) (cond d (Ok None) (Ok (first_in (methods_in offer) (methods_in ours) (mode_set (Some SetRead) ours))))))
     go true b d e = refl
     go false true d e = refl
     go false false true e = refl

@@ -1,19 +1,17 @@
 -- What is kept of the items passed, against the line that they make. Assumes nothing.
+use Rattle.std.specs.Prelude.{Option, Some, None}
 use mathlib.Core.Path.{◌≡◌, refl, sym, ap, ◌∙◌}
-use mathlib.Core.List.{List, [], ◌∷◌, ◌++◌, append_assoc, append-nil, map, map-append}
+use mathlib.Core.List.{List, [], ◌∷◌, ◌++◌, append_assoc, append-nil}
 use Prim.Native.Nat.{ℕ, suc, ◌+◌, ◌-◌, ◌≤◌, ◌<◌}
 use native.Mathlib.Nat.{add-zero}
 use native.Mathlib.Omega.{arith}
 use borrow.Author.Tests.{lt-leb}
-use lib.ListN.{length, set, replicate, length-append, length-map}
+use lib.ListN.{length, set, replicate, length-append}
 use lib.Seq.{set-append_seam}
 use Rattle.sdp.specs.declared.Method.{Method}
 use Rattle.sdp.specs.declared.Method.TheVariants.{Rtp}
 use Rattle.sdp.specs.declared.Mode.{Mode}
 use Rattle.sdp.specs.declared.Ect.{Ect}
-use Rattle.sdp.specs.declared.MaybeMode.{MaybeMode}
-use Rattle.sdp.specs.declared.MaybeEct.{MaybeEct}
-use Rattle.sdp.specs.declared.Listed.{Listed}
 use Rattle.sdp.specs.declared.Attribute.{Attribute}
 use Rattle.sdp.specs.declared.steps.Part.{Part}
 use Rattle.sdp.specs.declared.steps.Part.TheVariants as part
@@ -21,7 +19,7 @@ use Rattle.sdp.specs.declared.steps.Item.{Item}
 use Rattle.sdp.specs.declared.steps.Item.TheVariants as item
 use Rattle.sdp.specs.declared.reader.Tally.{Tally}
 use Rattle.sdp.specs.Grammar.{Init, Parm, Line}
-use Rattle.sdp.specs.Reading.{methods_of, modes_of, ects_of, maybe_mode, maybe_ect, listed, attribute_of, kept}
+use Rattle.sdp.specs.Reading.{methods_of, modes_of, ects_of, maybe_mode, maybe_ect, attribute_of, kept}
 use Rattle.sdp.specs.Answers.{with_method}
 use Rattle.sdp.specs.Steps.{Entry, item_of}
 use Rattle.sdp.specs.Tallies.{in_methods, in_parms, is_mode, is_ect, or_mode, or_ect, with_item, no_tally, noted, Small}
@@ -99,46 +97,44 @@ counts (Entry.parm (Parm.other n v) ∷ xs) t =
 -- ---- the record
 
 -- one method more at the end
-pub with_one_more : (ms : List Method) (m : Method) (o : MaybeMode) (e : MaybeEct) → length ms < 8
+pub with_one_more : (ms : List Method) (m : Method) (o : Option Mode) (e : Option Ect) → length ms < 8
     → with_method (attribute_of ms o e) m ≡ attribute_of (ms ++ (m ∷ [])) o e
 unfolding with_method attribute_of
 with_one_more ms m o e h =
     let n : length (ms ++ (m ∷ [])) ≡ length ms + 1 = length-append ms (m ∷ []) in
     let k : 8 - length ms ≡ suc (8 - length (ms ++ (m ∷ []))) = omega arith in
-    let rest = replicate (8 - length (ms ++ (m ∷ []))) (listed Rtp) in
-    let q : set (map listed ms ++ replicate (8 - length ms) (listed Rtp)) (length ms) (listed m) ≡ map listed (ms ++ (m ∷ [])) ++ rest =
-    rw (k, ← length-map ms listed)
-    (set-append_seam (map listed ms) (listed Rtp) rest (listed m) ∙ sym (ap (λ (l : List Listed). l ++ rest) (map-append listed ms (m ∷ []))
-    ∙ append_assoc (map listed ms) (listed m ∷ []) rest)) in
+    let rest = replicate (8 - length (ms ++ (m ∷ []))) Rtp in
+    let q : set (ms ++ replicate (8 - length ms) Rtp) (length ms) m ≡ (ms ++ (m ∷ [])) ++ rest =
+    rw k (set-append_seam ms Rtp rest m ∙ sym (append_assoc ms (m ∷ []) rest)) in
     rw (lt-leb 8 (length ms) h) (λ i. record { used = sym n i; methods = q i; mode = o; ect = e })
 
-or_absent : (o : MaybeMode) → or_mode o MaybeMode.Absent ≡ o
-or_absent MaybeMode.Absent = refl
-or_absent (MaybeMode.Present m) = refl
+or_absent : (o : Option Mode) → or_mode o None ≡ o
+or_absent None = refl
+or_absent (Some m) = refl
 
-or_none : (e : MaybeEct) → or_ect e MaybeEct.Absent ≡ e
-or_none MaybeEct.Absent = refl
-or_none (MaybeEct.Present m) = refl
+or_none : (e : Option Ect) → or_ect e None ≡ e
+or_none None = refl
+or_none (Some m) = refl
 
-or_first : (o : MaybeMode) (m : Mode) (later : MaybeMode) → or_mode (or_mode o (MaybeMode.Present m)) later ≡ or_mode o (MaybeMode.Present m)
-or_first MaybeMode.Absent m later = refl
-or_first (MaybeMode.Present n) m later = refl
+or_first : (o : Option Mode) (m : Mode) (later : Option Mode) → or_mode (or_mode o (Some m)) later ≡ or_mode o (Some m)
+or_first None m later = refl
+or_first (Some n) m later = refl
 
-or_earlier_lem : (o : MaybeEct) (m : Ect) (later : MaybeEct) → or_ect (or_ect o (MaybeEct.Present m)) later ≡ or_ect o (MaybeEct.Present m)
-or_earlier_lem MaybeEct.Absent m later = refl
-or_earlier_lem (MaybeEct.Present n) m later = refl
+or_earlier_lem : (o : Option Ect) (m : Ect) (later : Option Ect) → or_ect (or_ect o (Some m)) later ≡ or_ect o (Some m)
+or_earlier_lem None m later = refl
+or_earlier_lem (Some n) m later = refl
 
-mode_set_lem : (t : Tally) (ms : List Method) (o : MaybeMode) (e : MaybeEct) (m : Mode) → t.attribute ≡ attribute_of ms o e
-    → with_item t.attribute (item.Mode m) ≡ attribute_of ms (or_mode o (MaybeMode.Present m)) e
+mode_set_lem : (t : Tally) (ms : List Method) (o : Option Mode) (e : Option Ect) (m : Mode) → t.attribute ≡ attribute_of ms o e
+    → with_item t.attribute (item.Mode m) ≡ attribute_of ms (or_mode o (Some m)) e
 unfolding attribute_of
 mode_set_lem t ms o e m h = ap (λ (a : Attribute). with_item a (item.Mode m)) h
 
-ect_set_lem : (t : Tally) (ms : List Method) (o : MaybeMode) (e : MaybeEct) (x : Ect) → t.attribute ≡ attribute_of ms o e
-    → with_item t.attribute (item.Ect x) ≡ attribute_of ms o (or_ect e (MaybeEct.Present x))
+ect_set_lem : (t : Tally) (ms : List Method) (o : Option Mode) (e : Option Ect) (x : Ect) → t.attribute ≡ attribute_of ms o e
+    → with_item t.attribute (item.Ect x) ≡ attribute_of ms o (or_ect e (Some x))
 unfolding attribute_of
 ect_set_lem t ms o e x h = ap (λ (a : Attribute). with_item a (item.Ect x)) h
 
-pub keeps : (xs : List Entry) (t : Tally) (ms : List Method) (o : MaybeMode) (e : MaybeEct) → t.attribute ≡ attribute_of ms o e
+pub keeps : (xs : List Entry) (t : Tally) (ms : List Method) (o : Option Mode) (e : Option Ect) → t.attribute ≡ attribute_of ms o e
     → length ms + length (methods_of (line_of xs).methods) ≤ 8
     → (tallied t xs).attribute
     ≡ attribute_of (ms ++ methods_of (line_of xs).methods) (or_mode o (maybe_mode (modes_of (line_of xs).parms))) (or_ect e (maybe_ect (ects_of (line_of xs).parms)))
@@ -150,9 +146,9 @@ keeps (Entry.method (Init.known m) ∷ xs) t ms o e h l =
     rw (append_assoc ms (m ∷ []) (methods_of (line_of xs).methods)) at (keeps xs (noted t part.Methods (item.Known m)) (ms ++ (m ∷ [])) o e a (omega arith))
 keeps (Entry.method (Init.other s) ∷ xs) t ms o e h l = keeps xs (noted t part.Methods item.Other) ms o e h l
 keeps (Entry.parm (Parm.mode m) ∷ xs) t ms o e h l =
-    rw or_first at (keeps xs (noted t part.Parms (item.Mode m)) ms (or_mode o (MaybeMode.Present m)) e (mode_set_lem t ms o e m h) l)
+    rw or_first at (keeps xs (noted t part.Parms (item.Mode m)) ms (or_mode o (Some m)) e (mode_set_lem t ms o e m h) l)
 keeps (Entry.parm (Parm.ect x) ∷ xs) t ms o e h l =
-    rw or_earlier_lem at (keeps xs (noted t part.Parms (item.Ect x)) ms o (or_ect e (MaybeEct.Present x)) (ect_set_lem t ms o e x h) l)
+    rw or_earlier_lem at (keeps xs (noted t part.Parms (item.Ect x)) ms o (or_ect e (Some x)) (ect_set_lem t ms o e x h) l)
 keeps (Entry.parm (Parm.other n v) ∷ xs) t ms o e h l = keeps xs (noted t part.Parms item.Other) ms o e h l
 
 -- the methods kept are no more than those passed
@@ -162,4 +158,4 @@ methods_few (Init.known m ∷ xs) = let h = methods_few xs in omega arith
 methods_few (Init.other s ∷ xs) = let h = methods_few xs in omega arith
 
 pub kept_all : (xs : List Entry) → length (line_of xs).methods ≤ 8 → (tallied no_tally xs).attribute ≡ kept (line_of xs)
-kept_all xs h = keeps xs no_tally [] MaybeMode.Absent MaybeEct.Absent refl (let f = methods_few (line_of xs).methods in omega arith)
+kept_all xs h = keeps xs no_tally [] None None refl (let f = methods_few (line_of xs).methods in omega arith)

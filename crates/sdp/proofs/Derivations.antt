@@ -1,8 +1,8 @@
 -- The reader as a function on lists: complete for the grammar and sound, so that a line has one reading. Assumes nothing.
+use Rattle.std.specs.Prelude.{Option, Some, None}
 use mathlib.Core.Path.{◌≡◌, refl, sym, ap, ◌∙◌, subst}
 use mathlib.Core.Bool.{Bool, true, false, cond, false≢true}
 use mathlib.Core.List.{List, [], ◌∷◌, ◌++◌, append_assoc, append-nil}
-use mathlib.Core.Option.{Option, none, some}
 use Prim.Native.Nat.{ℕ, zero, suc, ◌+◌, ◌≤◌, ◌<◌}
 use native.Mathlib.Omega.{arith}
 use borrow.Author.Tests.{eqb-true, eq-eqb}
@@ -31,16 +31,16 @@ pub data Items : Part → List ℕ → List Entry → Type 0 where
       → s ≡ u ++ (b ++ t) → Items p s (x ∷ xs)
 
 abbrev pub consed : Entry → Option (List Entry) → Option (List Entry)
-consed x none = none
-consed x (some xs) = some (x ∷ xs)
+consed x None = None
+consed x (Some xs) = Some (x ∷ xs)
 
 abbrev pub turn : Found → Entry → Option (List Entry) → Option (List Entry)
-turn found.Nothing x later = none
-turn found.Last x later = some (x ∷ [])
+turn found.Nothing x later = None
+turn found.Last x later = Some (x ∷ [])
 turn found.More x later = consed x later
 
 unfoldable pub items : ℕ → Part → List ℕ → ℕ → Option (List Entry)
-items zero p s at = none
+items zero p s at = None
 items (suc k) p s at =
     let w = step_of p s at in let later = items k w.part s w.at in turn w.found (entry_at p s at) later
 
@@ -58,7 +58,7 @@ module _ (s : List ℕ) (at : ℕ) (u b t : List ℕ) (fits : at ≤ length s) (
   next_fits = let c = counted s at u (b ++ t) fits e in let l = length-append b t in omega arith
 
 pub items_whole : {p : Part} {t : List ℕ} {xs : List Entry} → Items p t xs → (s : List ℕ) (at k : ℕ) → at ≤ length s → drop at s ≡ t → length s ≤ at + k
-    → items k p s at ≡ some xs
+    → items k p s at ≡ Some xs
 unfolding items
 items_whole {p} {t} (Items.last h) s at zero f e l =
     let c = counted s at t [] f (e ∙ sym (append-nil t)) in let n = entry_long h in absurd (omega arith)
@@ -71,18 +71,18 @@ items_whole {p} (Items.more q u b t h w is j) s at (suc k) f e l =
     let n = entry_long h in
     rw (a, c, items_whole is s (at + (length u + length b)) k (next_fits s at u b t f (e ∙ j)) (next_here s at u b t f (e ∙ j)) (omega arith))
 
-pub items_found : (k : ℕ) (p : Part) (s : List ℕ) (at : ℕ) (xs : List Entry) → at ≤ length s → items k p s at ≡ some xs → Items p (drop at s) xs
+pub items_found : (k : ℕ) (p : Part) (s : List ℕ) (at : ℕ) (xs : List Entry) → at ≤ length s → items k p s at ≡ Some xs → Items p (drop at s) xs
 unfolding items
 items_found zero p s at xs f e = let z : ◌≡◌ {A = ℕ} 0 1 = cc in absurd (omega arith)
 items_found (suc k) p s at xs f e = go (step_of p s at) (right s at f p) (items_found k) e
   where
-    rest : (x : Entry) (q : Part) (n : ℕ) (later : Option (List Entry)) → items k q s n ≡ later → consed x later ≡ some xs
-        → (ys : List Entry) × (items k q s n ≡ some ys) × (xs ≡ x ∷ ys)
-    rest x q n none i c = let z : ◌≡◌ {A = ℕ} 0 1 = cc in absurd (omega arith)
-    rest x q n (some ys) i c = (ys, i, cc)
+    rest : (x : Entry) (q : Part) (n : ℕ) (later : Option (List Entry)) → items k q s n ≡ later → consed x later ≡ Some xs
+        → (ys : List Entry) × (items k q s n ≡ Some ys) × (xs ≡ x ∷ ys)
+    rest x q n None i c = let z : ◌≡◌ {A = ℕ} 0 1 = cc in absurd (omega arith)
+    rest x q n (Some ys) i c = (ys, i, cc)
 
-    go : (w : Step) → Right p s at w → ((q : Part) (s : List ℕ) (n : ℕ) (ys : List Entry) → n ≤ length s → items k q s n ≡ some ys → Items q (drop n s) ys)
-        → turn w.found (entry_at p s at) (items k w.part s w.at) ≡ some xs → Items p (drop at s) xs
+    go : (w : Step) → Right p s at w → ((q : Part) (s : List ℕ) (n : ℕ) (ys : List Entry) → n ≤ length s → items k q s n ≡ Some ys → Items q (drop n s) ys)
+        → turn w.found (entry_at p s at) (items k w.part s w.at) ≡ Some xs → Items p (drop at s) xs
     go w Right.nothing ih c = let z : ◌≡◌ {A = ℕ} 0 1 = cc in absurd (omega arith)
     go w (Right.last h) ih c = let z : xs ≡ entry_at p s at ∷ [] = cc in rw z (Items.last h)
     go w (Right.more q u b t h v d) ih c =
@@ -188,7 +188,7 @@ begun_back s e = go (eqb (get_or s 18 0) 32) refl e
 
 -- what derives is read, and what is read derives
 pub derives_items : {s : List ℕ} {x : Line} → Derives s x
-    → (begins s ≡ true) × (19 ≤ length s) × ((xs : List Entry) × (items (length s) part.Methods s 19 ≡ some xs) × (line_of xs ≡ x))
+    → (begins s ≡ true) × (19 ≤ length s) × ((xs : List Entry) × (items (length s) part.Methods s 19 ≡ Some xs) × (line_of xs ≡ x))
 derives_items {s} (Derives.alone a r h ms e) =
     let (b, d, l) = begun a r s h e in
     let (xs, is, i) = methods_items ms in (b, l, (xs, items_whole is s 19 (length s) l d (omega arith), i))
@@ -196,7 +196,7 @@ derives_items {s} (Derives.with_parms a r t h ms ps e) =
     let (b, d, l) = begun a (r ++ (32 ∷ t)) s h e in
     let (xs, is, i) = both_items ms ps refl in (b, l, (xs, items_whole is s 19 (length s) l d (omega arith), i))
 
-pub items_derives : (s : List ℕ) (xs : List Entry) → begins s ≡ true → items (length s) part.Methods s 19 ≡ some xs → Derives s (line_of xs)
+pub items_derives : (s : List ℕ) (xs : List Entry) → begins s ≡ true → items (length s) part.Methods s 19 ≡ Some xs → Derives s (line_of xs)
 items_derives s xs b e =
     let (h, j, l) = begun_back s b in go (items_listing (items_found (length s) part.Methods s 19 xs l e)) h j
   where

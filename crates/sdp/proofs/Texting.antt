@@ -1,16 +1,17 @@
 -- Laws of the line while it is made, and of the methods of a record. Assumes nothing.
+use Rattle.std.specs.Prelude.{Option, Some, None}
 use mathlib.Core.Path.{◌≡◌, refl, sym, ap, ◌∙◌}
-use mathlib.Core.Bool.{true, false}
+use Rattle.std.specs.List.{list_any}
+use mathlib.Core.Bool.{Bool, true, false}
 use mathlib.Core.List.{List, [], ◌∷◌, ◌++◌, append_assoc, append-nil, map}
-use Prim.Native.Nat.{ℕ, ◌+◌, ◌*◌, ◌≤◌, ◌<◌}
+use Prim.Native.Nat.{ℕ, zero, suc, ◌-◌, ◌+◌, ◌*◌, ◌≤◌, ◌<◌}
 use native.Mathlib.Nat.{add-zero}
 use native.Mathlib.Numerals.{add-one}
 use native.Mathlib.Omega.{arith}
-use lib.ListN.{length, take, drop, get_or, length-append, length-take, length-map, drop_of_length-le, get_or-map}
-use lib.Seq.{sets, sets-eq, take_at, drop-cons, get_or-take}
+use lib.ListN.{length, take, drop, get_or, length-append, length-take, length-map, drop_of_length-le}
+use lib.Seq.{drop-cons}
 use Rattle.answers.specs.Texts.{codes}
 use Rattle.sdp.specs.declared.Method.{Method}
-use Rattle.sdp.specs.declared.Listed.{Listed}
 use Rattle.sdp.specs.declared.Attribute.{Attribute}
 use Rattle.sdp.specs.declared.writer.Text.{Text}
 use Rattle.sdp.specs.declared.Method.TheVariants.{Rtp, Ice, Leap}
@@ -18,73 +19,48 @@ use Rattle.sdp.specs.declared.Mode.{Mode}
 use Rattle.sdp.specs.declared.Mode.TheVariants.{SetOnly, SetRead, ReadOnly}
 use Rattle.sdp.specs.declared.Ect.{Ect}
 use Rattle.sdp.specs.declared.Ect.TheVariants.{Zero, One, Random}
-use Rattle.sdp.specs.declared.MaybeMode.{MaybeMode}
-use Rattle.sdp.specs.declared.MaybeMode.TheVariants as mode
-use Rattle.sdp.specs.declared.MaybeEct.{MaybeEct}
-use Rattle.sdp.specs.declared.MaybeEct.TheVariants as ect
 use Rattle.sdp.specs.Grammar.{method_text, mode_text, ect_text}
 use Rattle.sdp.specs.Writing.{methods_in, with_commas, with_parms, attribute_bytes}
-use Rattle.sdp.specs.Texts.{text_in, Room, Grown, ect_behind}
-use Rattle.sdp.specs.declared.Negotiated.TheVariants.{Included, LeftOut}
+use Rattle.sdp.specs.Texts.{text_in, Grown}
 use Rattle.sdp.specs.Answers.{same_method, names, first_in}
-
-pub text_stored : (t : Text) (s bytes : List ℕ) (i : ℕ) → i ≡ length s → length t.bytes ≡ 96 → Room t (length s) → bytes ≡ sets t.bytes t.long s
-    → Grown t (record { long = t.long + i; bytes = bytes }) s
-text_stored t s bytes i n l h e =
-    let p : length (take t.long t.bytes ++ s) ≡ t.long + length s =
-    omega (arith, length-append (take t.long t.bytes) s, length-take t.long t.bytes) in
-    record {
-      text =
-          rw (n, e, sets-eq s t.bytes t.long (omega arith))
-          (take_at (take t.long t.bytes ++ s) (drop (t.long + length s) t.bytes) (t.long + length s) p);
-      long = ap (λ (k : ℕ). t.long + k) n;
-    }
 
 -- ---- the methods of a record
 
 pub methods_long : (a : Attribute) → a.used ≤ 8 → length a.methods ≡ 8 → length (methods_in a) ≡ a.used
 methods_long a h l =
-    omega (arith, length-take a.used (map (λ (p : Listed). p.method) a.methods), length-map a.methods (λ (p : Listed). p.method))
+    omega (arith, length-take a.used a.methods)
 
--- from a place in use on: that method and those behind it
-pub method_next : (a : Attribute) (i : ℕ) (d : Listed) → a.used ≤ 8 → length a.methods ≡ 8 → i < a.used
-    → drop i (methods_in a) ≡ (get_or a.methods i d).method ∷ drop (i + 1) (methods_in a)
-method_next a i d h l k =
-    let n = methods_long a h l in
-    rw (add-one i) (drop-cons (methods_in a) i d.method (omega arith))
-    ∙ ap (λ (m : Method). m ∷ drop (i + 1) (methods_in a))
-    (get_or-take a.used (map (λ (p : Listed). p.method) a.methods) i d.method k ∙ get_or-map (λ (p : Listed). p.method) a.methods i d)
+-- from a place on: that method and those behind it
+pub method_next : (l : List Method) (i : ℕ) (d : Method) → i < length l → drop i l ≡ get_or l i d ∷ drop (i + 1) l
+method_next l i d h = rw (add-one i) (drop-cons l i d h)
 
-pub methods_done : (a : Attribute) (i : ℕ) → a.used ≤ 8 → length a.methods ≡ 8 → a.used ≤ i → drop i (methods_in a) ≡ []
-methods_done a i h l k = let n = methods_long a h l in drop_of_length-le (methods_in a) {i = i} (omega arith)
+pub methods_done : (l : List Method) (i : ℕ) → length l ≤ i → drop i l ≡ []
+methods_done l i h = drop_of_length-le l {i = i} h
+
+-- the first method of a record, and those behind it
+pub methods_first : (a : Attribute) (d : Method) → 1 ≤ a.used → length a.methods ≡ 8
+    → methods_in a ≡ get_or a.methods 0 d ∷ take (a.used - 1) (drop 1 a.methods)
+methods_first a d h l = go a.used a.methods h (omega arith)
+  where
+    go : (n : ℕ) (ms : List Method) → 1 ≤ n → 0 < length ms → take n ms ≡ get_or ms 0 d ∷ take (n - 1) (drop 1 ms)
+    go zero ms h k = absurd (omega arith)
+    go (suc n) [] h k = absurd (omega arith)
+    go (suc n) (m ∷ ms) h k = let e : suc n - 1 ≡ n = omega arith in rw e refl
 
 -- a list is as long as another made of it
 pub length-mapped : (X Y : Type 0) (f : X → Y) (l : List X) (n : ℕ) → length (map f l) ≡ n → length l ≡ n
 length-mapped X Y f l n e = sym (length-map l f) ∙ e
-
-module _ (l : List Method) (m x : Method) (i : ℕ) (e : drop i l ≡ x ∷ drop (i + 1) l) where
-  pub names_goes : same_method x m ≡ false → names (drop (i + 1) l) m ≡ names (drop i l) m
-  unfolding names
-  names_goes h = rw (e, h)
-
-  pub names_stops : same_method x m ≡ true → true ≡ names (drop i l) m
-  unfolding names
-  names_stops h = rw (e, h)
-
-pub names_done : (l : List Method) (m : Method) (i : ℕ) → drop i l ≡ [] → false ≡ names (drop i l) m
-unfolding names
-names_done l m i e = rw e
 
 module _ (offered l : List Method) (ours : Attribute) (x : Method) (i : ℕ) (e : drop i l ≡ x ∷ drop (i + 1) l) where
   pub first_goes : names offered x ≡ false → first_in offered (drop (i + 1) l) ours ≡ first_in offered (drop i l) ours
   unfolding first_in
   first_goes h = rw (e, h)
 
-  pub first_stops : names offered x ≡ true → Included (record { method = x; mode = ours.mode; ect = ours.ect }) ≡ first_in offered (drop i l) ours
+  pub first_stops : names offered x ≡ true → Some (record { method = x; mode = ours.mode; ect = ours.ect }) ≡ first_in offered (drop i l) ours
   unfolding first_in
   first_stops h = rw (e, h)
 
-pub first_done : (offered l : List Method) (ours : Attribute) (i : ℕ) → drop i l ≡ [] → LeftOut ≡ first_in offered (drop i l) ours
+pub first_done : (offered l : List Method) (ours : Attribute) (i : ℕ) → drop i l ≡ [] → None ≡ first_in offered (drop i l) ours
 unfolding first_in
 first_done offered l ours i e = rw e
 
@@ -122,8 +98,8 @@ method_least Leap = omega arith
 
 -- what is left to write, written, is the whole
 pub record Left (l : List Method) (t₀ t : Text) (i : ℕ) : Type 0 where
-  pub text : text_in t ++ behind_commas (drop i l) ≡ text_in t₀ ++ behind_commas (drop 1 l)
-  pub long : t.long + length (behind_commas (drop i l)) ≡ t₀.long + length (behind_commas (drop 1 l))
+  pub text : text_in t ++ behind_commas (drop i l) ≡ text_in t₀ ++ behind_commas l
+  pub long : t.long + length (behind_commas (drop i l)) ≡ t₀.long + length (behind_commas l)
 
 pub left_goes : {l : List Method} {t₀ t u v : Text} {i : ℕ} (m : Method) → drop i l ≡ m ∷ drop (i + 1) l → Grown t u (44 ∷ []) → Grown u v (method_text m)
     → Left l t₀ t i → Left l t₀ v (i + 1)
@@ -137,7 +113,7 @@ left_goes {l} {t₀} {t} {u} {v} {i} m e g h w =
       long = omega (arith, w.long, k.long, ap length a, length-append (44 ∷ method_text m) rest);
     }
 
-pub left_ends : {l : List Method} {t₀ t : Text} {i : ℕ} → drop i l ≡ [] → Left l t₀ t i → Grown t₀ t (behind_commas (drop 1 l))
+pub left_ends : {l : List Method} {t₀ t : Text} {i : ℕ} → drop i l ≡ [] → Left l t₀ t i → Grown t₀ t (behind_commas l)
 unfolding behind_commas
 left_ends {l} {t₀} {t} {i} e w =
     record {
@@ -150,10 +126,9 @@ mode_most SetOnly = omega arith
 mode_most SetRead = omega arith
 mode_most ReadOnly = omega arith
 
-pub parms_behind : (m : Mode) (e : MaybeEct) → with_parms (mode.Present m) e ≡ ((32 ∷ []) ++ mode_text m) ++ ect_behind e
+pub parms_behind : (m : Mode) (e : Ect) → with_parms (Some m) (Some e) ≡ ((32 ∷ []) ++ mode_text m) ++ ((59 ∷ 32 ∷ []) ++ ect_text e)
 unfolding with_parms
-parms_behind m ect.Absent = sym (append-nil (32 ∷ mode_text m))
-parms_behind m (ect.Present e) = refl
+parms_behind m e = refl
 
 -- ---- sizes
 
@@ -173,12 +148,12 @@ ect_most Zero = omega arith
 ect_most One = omega arith
 ect_most Random = omega arith
 
-pub parms_most : (o : MaybeMode) (e : MaybeEct) → length (with_parms o e) ≤ 26
+pub parms_most : (o : Option Mode) (e : Option Ect) → length (with_parms o e) ≤ 26
 unfolding with_parms
-parms_most mode.Absent ect.Absent = omega arith
-parms_most mode.Absent (ect.Present e) = omega (arith, ect_most e)
-parms_most (mode.Present m) ect.Absent = omega (arith, mode_most m)
-parms_most (mode.Present m) (ect.Present e) = omega (arith, mode_most m, ect_most e, length-append (mode_text m) (59 ∷ 32 ∷ ect_text e))
+parms_most None None = omega arith
+parms_most None (Some e) = omega (arith, ect_most e)
+parms_most (Some m) None = omega (arith, mode_most m)
+parms_most (Some m) (Some e) = omega (arith, mode_most m, ect_most e, length-append (mode_text m) (59 ∷ 32 ∷ ect_text e))
 
 -- the whole line
 pub text_whole : (a : Attribute) {n t u r : Text} → n.long ≡ 0 → 1 ≤ a.used → a.used ≤ 8 → length a.methods ≡ 8 → Grown n t (codes "a=ecn-capable-rtp: ")
@@ -197,3 +172,10 @@ pub parms_room : (a : Attribute) {t u : Text} → t.long ≡ 19 → 1 ≤ a.used
     → Grown t u (with_commas (methods_in a)) → u.long + 26 ≤ 96
 parms_room a z one few l h =
     let n = methods_long a few l in let b = commas_bounds (methods_in a) (omega arith) in omega (arith, h.long, z, b.1, n)
+
+-- ---- std's words for whether a list names a method
+
+pub named_any : {eq : Method → Method → Bool} → ((x y : Method) → eq x y ≡ same_method x y) → (l : List Method) (m : Method) → list_any (λ x. eq x m) l ≡ names l m
+unfolding names
+named_any e [] m = refl
+named_any e (x ∷ l) m = cc (e x m, named_any e l m)

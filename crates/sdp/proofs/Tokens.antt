@@ -1,32 +1,28 @@
 -- How a scan goes on and ends. Assumes nothing.
-use mathlib.Core.Path.{◌≡◌, refl, sym, ◌∙◌}
+use mathlib.Core.Path.{◌≡◌, refl, ap}
 use mathlib.Core.Bool.{Bool, true, false, cond}
-use mathlib.Core.List.{List}
+use mathlib.Core.List.{List, [], ◌∷◌}
+use Rattle.std.specs.List.{take_while}
+use Rattle.std.proofs.lemmas.List.Sums.{take_while-cons}
 use Prim.Native.Nat.{ℕ, zero, suc, ◌+◌, ◌≤◌, ◌<◌}
-use native.Mathlib.Nat.{add-zero, add-suc, suc-add}
-use native.Mathlib.Numerals.{add-one}
 use native.Mathlib.Omega.{arith}
 use borrow.Author.Tests.{eqb-false}
 use lib.Dec.{eqb, ltb, leb}
-use lib.ListN.{length, get_or, drop_of_length-le, get_or-eq_default}
-use lib.Seq.{drop-cons}
+use lib.ListN.{length, get_or, get_or-eq_default}
 use Rattle.sdp.specs.declared.fronts.Lead.{Lead}
 use Rattle.sdp.specs.Grammar.{token_char, quotable, tail, within}
-use Rattle.sdp.specs.Lengths.{token_length, token_end, lead_of, utf8_size, utf8_length, qd_length, closes}
+use Rattle.sdp.specs.Lengths.{token_length, lead_of, utf8_size, utf8_length, qd_length, closes}
 
 -- ---- a token
 
-pub token_goes : (s : List ℕ) (i : ℕ) → i < length s → token_char (get_or s i 0) ≡ true → token_end s (i + 1) ≡ token_end s i
+pub token_while : (s : List ℕ) → length (take_while token_char s) ≡ token_length s
 unfolding token_length
-token_goes s i h e = rw (drop-cons s i 0, e, add-one) (suc-add i _ ∙ sym (add-suc i _))
-
-pub token_stops : (s : List ℕ) (i : ℕ) → i < length s → token_char (get_or s i 0) ≡ false → i ≡ token_end s i
-unfolding token_length
-token_stops s i h e = rw (drop-cons s i 0, e) (sym (add-zero i))
-
-pub token_ends : (s : List ℕ) (i : ℕ) → length s ≤ i → i ≡ token_end s i
-unfolding token_length
-token_ends s i h = rw (drop_of_length-le s h) (sym (add-zero i))
+token_while [] = refl
+token_while (c ∷ s) = rw (take_while-cons token_char c s) (go (token_char c) (token_while s))
+  where
+    go : (b : Bool) → length (take_while token_char s) ≡ token_length s → length (cond b (c ∷ take_while token_char s) []) ≡ cond b (suc (token_length s)) 0
+    go true e = ap suc e
+    go false e = refl
 
 -- ---- a quoted string
 

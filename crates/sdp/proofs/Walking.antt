@@ -1,13 +1,14 @@
 -- The reader's loop: what is answered from here on is what is answered to the line. Assumes nothing.
+use Rattle.std.specs.Prelude.{Option, Some, None, Result}
 use mathlib.Core.Path.{◌≡◌, refl, sym, ap, ◌∙◌, subst}
 use mathlib.Core.Bool.{true}
 use mathlib.Core.List.{List, [], ◌∷◌, ◌++◌}
-use mathlib.Core.Option.{Option, none, some}
 use Prim.Native.Nat.{ℕ, zero, suc, ◌+◌, ◌≤◌, ◌<◌}
 use native.Mathlib.Omega.{arith}
 use lib.ListN.{length, drop, length-append, length-drop}
+use Rattle.answers.specs.declared.Refusal.{Refusal}
 use Rattle.answers.specs.declared.Refusal.TheVariants as why
-use Rattle.sdp.specs.declared.Reading.{Reading}
+use Rattle.sdp.specs.declared.Attribute.{Attribute}
 use Rattle.sdp.specs.declared.steps.Part.{Part}
 use Rattle.sdp.specs.declared.steps.Part.TheVariants as part
 use Rattle.sdp.specs.declared.steps.Found.{Found}
@@ -49,36 +50,36 @@ part_of_lem part.Parms s at = refl
 
 outcome_consed : (t : Tally) (x : Entry) (later : Option (List Entry)) → outcome t (consed x later) ≡ outcome (noted t (part_of x) (item_of x)) later
 unfolding outcome tallied
-outcome_consed t x none = refl
-outcome_consed t x (some xs) = refl
+outcome_consed t x None = refl
+outcome_consed t x (Some xs) = refl
 
-outcome_last : (t : Tally) (x : Entry) → outcome t (some (x ∷ [])) ≡ finished (noted t (part_of x) (item_of x))
+outcome_last : (t : Tally) (x : Entry) → outcome t (Some (x ∷ [])) ≡ finished (noted t (part_of x) (item_of x))
 unfolding outcome tallied
 outcome_last t x = refl
 
-outcome_none : (t : Tally) → outcome t none ≡ refused_by why.Attribute
+outcome_none : (t : Tally) → outcome t None ≡ refused_by why.Attribute
 unfolding outcome
 outcome_none t = refl
 
 -- the answer to the line is right
-answered : {s : List ℕ} {p : Part} {t : Tally} {at : ℕ} {r : Reading} → Walking s p t at → r ≡ outcome no_tally (items_in s) → Reads s r
+answered : {s : List ℕ} {p : Part} {t : Tally} {at : ℕ} {r : Result Attribute Refusal} → Walking s p t at → r ≡ outcome no_tally (items_in s) → Reads s r
 answered {s} w e = rw e (reads_outcome s w.fits w.named)
 
 module _ (s : List ℕ) (p : Part) (t : Tally) (at : ℕ) (w : Walking s p t at) where
   -- at the end there is no item
-  pub walking_ends : {r : Reading} → length s ≤ at → r ≡ refused_by why.Attribute → Reads s r
+  pub walking_ends : {r : Result Attribute Refusal} → length s ≤ at → r ≡ refused_by why.Attribute → Reads s r
   unfolding items
   walking_ends {r} h e = answered w (e ∙ sym (outcome_none t) ∙ ap (outcome t) (sym (empty w.left)) ∙ w.same)
     where
       nowhere : {u : List ℕ} {x : Entry} → EntryIs p u x → (b : List ℕ) → drop at s ≡ u ++ b → ⊥
       nowhere {u} k b d = let n = entry_long k in let l = ap length d in let a = length-append u b in let g = length-drop at s in omega arith
 
-      stuck : (v : Step) (k : ℕ) → Right p s at v → turn v.found (entry_at p s at) (items k v.part s v.at) ≡ none
+      stuck : (v : Step) (k : ℕ) → Right p s at v → turn v.found (entry_at p s at) (items k v.part s v.at) ≡ None
       stuck v k Right.nothing = refl
       stuck v k (Right.last i) = let n = entry_long i in let g = length-drop at s in absurd (omega arith)
       stuck v k (Right.more q u b u' i j d) = absurd (nowhere i (b ++ u') d)
 
-      empty : (k : ℕ) → items k p s at ≡ none
+      empty : (k : ℕ) → items k p s at ≡ None
       empty zero = refl
       empty (suc k) = stuck (step_of p s at) k (right s at w.here p)
 
@@ -100,10 +101,10 @@ module _ (s : List ℕ) (p : Part) (t : Tally) (at : ℕ) (w : Walking s p t at)
     here_right : Right p s at v
     here_right = rw (told s at w.here p e) (right s at w.here p)
 
-    pub turn_none : {r : Reading} → v.found ≡ found.Nothing → r ≡ refused_by why.Attribute → Reads s r
+    pub turn_none : {r : Result Attribute Refusal} → v.found ≡ found.Nothing → r ≡ refused_by why.Attribute → Reads s r
     turn_none f q = answered w (q ∙ sym (outcome_none t) ∙ turned found.Nothing f)
 
-    pub turn_last : {r : Reading} {u : Tally} → v.found ≡ found.Last → u ≡ noted t p v.item → r ≡ finished u → Reads s r
+    pub turn_last : {r : Result Attribute Refusal} {u : Tally} → v.found ≡ found.Last → u ≡ noted t p v.item → r ≡ finished u → Reads s r
     turn_last {r} {u} f k q =
         answered w (q ∙ ap finished (k ∙ last_noted v here_right f) ∙ sym (outcome_last t (entry_at p s at)) ∙ turned found.Last f)
       where

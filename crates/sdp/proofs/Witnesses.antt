@@ -1,21 +1,19 @@
 -- Lines of RFC 6679, section 12, and of the request, read by computation; each theorem that asks something, applied. Assumes nothing.
+use Rattle.std.specs.Prelude.{Option, Some, None, Result, Ok}
+use Rattle.sdp.specs.declared.Mode.{Mode}
+use Rattle.sdp.specs.declared.Ect.{Ect}
 use mathlib.Core.Path.{◌≡◌, refl}
 use mathlib.Core.List.{List, [], ◌∷◌, ◌++◌, map}
 use Prim.Native.Nat.{ℕ}
 use native.Mathlib.Omega.{arith}
 use Rattle.answers.specs.Texts.{codes}
+use Rattle.answers.specs.declared.Refusal.{Refusal}
 use Rattle.answers.specs.declared.Refusal.TheVariants as why
 use Rattle.sdp.specs.declared.Method.{Method}
 use Rattle.sdp.specs.declared.Method.TheVariants.{Rtp, Ice, Leap}
 use Rattle.sdp.specs.declared.Mode.TheVariants.{SetOnly, ReadOnly}
 use Rattle.sdp.specs.declared.Ect.TheVariants.{Zero, One}
-use Rattle.sdp.specs.declared.MaybeMode.{MaybeMode}
-use Rattle.sdp.specs.declared.MaybeMode.TheVariants as mode
-use Rattle.sdp.specs.declared.MaybeEct.{MaybeEct}
-use Rattle.sdp.specs.declared.MaybeEct.TheVariants as ect
 use Rattle.sdp.specs.declared.Attribute.{Attribute}
-use Rattle.sdp.specs.declared.Verdict.TheVariants.{Read}
-use Rattle.sdp.specs.declared.Reading.{Reading}
 use Rattle.sdp.specs.declared.Chosen.{Chosen}
 use Rattle.sdp.specs.Grammar
 use Rattle.sdp.specs.Grammar.{Init, Parm, Derives}
@@ -35,16 +33,16 @@ use Rattle.sdp.proofs.Answering.{outcome, read_of, reads_of, reads_once}
 use Rattle.sdp.proofs.Backs.{reads_back, written_fits}
 use Rattle.sdp.proofs.Choices.{chosen_first, left_out, answer_reads}
 
-abbrev said : List Method → MaybeMode → MaybeEct → Reading
-said ms o e = record { verdict = Read; attribute = attribute_of ms o e }
+abbrev said : List Method → Option Mode → Option Ect → Result Attribute Refusal
+said ms o e = Ok (attribute_of ms o e)
 
 abbrev eight : List ℕ
 eight = codes "a=ecn-capable-rtp: ice,rtp,leap,x,RTP,y!,ice,rtp"
 
-abbrev limits : Reading
+abbrev limits : Result Attribute Refusal
 limits = refused_by why.Limits
 
-abbrev malformed : Reading
+abbrev malformed : Result Attribute Refusal
 malformed = refused_by why.Attribute
 
 -- the line of 12.2; the offer and the answer of 12.1, which break figure 5; a mode between two quoted strings; 8 methods and 9
@@ -58,13 +56,13 @@ lines =
     ∷ (eight ++ codes ",z")
     ∷ []
 
-abbrev readings : List Reading
+abbrev readings : List (Result Attribute Refusal)
 readings =
-    said (Rtp ∷ []) (mode.Present ReadOnly) (ect.Present Zero)
+    said (Rtp ∷ []) (Some ReadOnly) (Some Zero)
     ∷ malformed
     ∷ malformed
-    ∷ said (Rtp ∷ []) (mode.Present SetOnly) ect.Absent
-    ∷ said (Ice ∷ Rtp ∷ Leap ∷ Rtp ∷ Ice ∷ Rtp ∷ []) mode.Absent ect.Absent
+    ∷ said (Rtp ∷ []) (Some SetOnly) None
+    ∷ said (Ice ∷ Rtp ∷ Leap ∷ Rtp ∷ Ice ∷ Rtp ∷ []) None None
     ∷ limits
     ∷ []
 
@@ -89,13 +87,13 @@ unfolding items method_step parm_step method_at parm_at Grammar.lower Grammar.to
 derived = items_derives line entries refl refl
 
 abbrev offer : Attribute
-offer = attribute_of (Leap ∷ Rtp ∷ []) (mode.Present SetOnly) ect.Absent
+offer = attribute_of (Leap ∷ Rtp ∷ []) (Some SetOnly) None
 
 abbrev ours : Attribute
-ours = attribute_of (Ice ∷ Rtp ∷ Leap ∷ []) mode.Absent (ect.Present One)
+ours = attribute_of (Ice ∷ Rtp ∷ Leap ∷ []) None (Some One)
 
 abbrev chosen : Chosen
-chosen = record { method = Rtp; mode = mode.Absent; ect = ect.Present One }
+chosen = record { method = Rtp; mode = None; ect = Some One }
 
 used : Unit {0}
 unfolding attribute_of write_fault answer_of Answers.names Answers.first_in

@@ -1,17 +1,12 @@
 -- Document 02, request L12: what the reader answers, over the grammar.
-use Rattle.std.specs.Prelude.{List, [], ◌∷◌, ◌++◌, map, ℕ, ◌-◌, ◌≤◌, ◌<◌, length, replicate}
+use Rattle.std.specs.Prelude.{List, [], ◌∷◌, ◌++◌, ℕ, ◌-◌, ◌≤◌, ◌<◌, length, replicate, Option, Some, None, Result, Ok, Err}
 use Rattle.answers.specs.declared.Refusal.{Refusal}
 use Rattle.answers.specs.declared.Refusal.TheVariants as why
 use Rattle.sdp.specs.declared.Method.{Method}
 use Rattle.sdp.specs.declared.Method.TheVariants.{Rtp}
 use Rattle.sdp.specs.declared.Mode.{Mode}
 use Rattle.sdp.specs.declared.Ect.{Ect}
-use Rattle.sdp.specs.declared.MaybeMode.{MaybeMode}
-use Rattle.sdp.specs.declared.MaybeEct.{MaybeEct}
-use Rattle.sdp.specs.declared.Listed.{Listed}
 use Rattle.sdp.specs.declared.Attribute.{Attribute}
-use Rattle.sdp.specs.declared.Verdict.TheVariants.{Read, Refused}
-use Rattle.sdp.specs.declared.Reading.{Reading}
 use Rattle.sdp.specs.Grammar.{Init, Parm, Line, Derives}
 
 -- the methods of a line, in order, extensions passed over
@@ -39,36 +34,33 @@ pub record Says (s : List ℕ) (x : Line) : Type 0 where
   pub one_mode : length (modes_of x.parms) ≤ 1
   pub one_ect : length (ects_of x.parms) ≤ 1
 
-abbrev pub maybe_mode : List Mode → MaybeMode
-maybe_mode [] = MaybeMode.Absent
-maybe_mode (m ∷ ms) = MaybeMode.Present m
+abbrev pub maybe_mode : List Mode → Option Mode
+maybe_mode [] = None
+maybe_mode (m ∷ ms) = Some m
 
-abbrev pub maybe_ect : List Ect → MaybeEct
-maybe_ect [] = MaybeEct.Absent
-maybe_ect (e ∷ es) = MaybeEct.Present e
-
-abbrev pub listed : Method → Listed
-listed m = record { method = m }
+abbrev pub maybe_ect : List Ect → Option Ect
+maybe_ect [] = None
+maybe_ect (e ∷ es) = Some e
 
 -- the record of a list of at most 8 methods, a mode and an ect; the places behind the methods are set to rtp
-unfoldable pub attribute_of : List Method → MaybeMode → MaybeEct → Attribute
-attribute_of ms m e = record { used = length ms; methods = map listed ms ++ replicate (8 - length ms) (listed Rtp); mode = m; ect = e }
+unfoldable pub attribute_of : List Method → Option Mode → Option Ect → Attribute
+attribute_of ms m e = record { used = length ms; methods = ms ++ replicate (8 - length ms) Rtp; mode = m; ect = e }
 
 abbrev pub nothing : Attribute
-nothing = attribute_of [] MaybeMode.Absent MaybeEct.Absent
+nothing = attribute_of [] None None
 
 -- what is kept of a line
 abbrev pub kept : Line → Attribute
 kept x = attribute_of (methods_of x.methods) (maybe_mode (modes_of x.parms)) (maybe_ect (ects_of x.parms))
 
-abbrev pub refused_by : Refusal → Reading
-refused_by r = record { verdict = Refused r; attribute = nothing }
+-- a line that is refused has no method, no mode and no ect: it has no record
+abbrev pub refused_by : Refusal → Result Attribute Refusal
+refused_by r = Err r
 
 -- in this order: 10 over 255 bytes; 18 where no line is said; 10 over 8 methods or 8 parameters, extensions counted; what is kept
-pub data Reads (s : List ℕ) : Reading → Type 0 where
+pub data Reads (s : List ℕ) : Result Attribute Refusal → Type 0 where
   long : 255 < length s → Reads s (refused_by why.Limits)
   malformed : length s ≤ 255 → ((x : Line) → Says s x → ⊥) → Reads s (refused_by why.Attribute)
   methods : {x : Line} → length s ≤ 255 → Says s x → 8 < length x.methods → Reads s (refused_by why.Limits)
   parms : {x : Line} → length s ≤ 255 → Says s x → 8 < length x.parms → Reads s (refused_by why.Limits)
-  given : {x : Line} → length s ≤ 255 → Says s x → length x.methods ≤ 8 → length x.parms ≤ 8
-      → Reads s (record { verdict = Read; attribute = kept x })
+  given : {x : Line} → length s ≤ 255 → Says s x → length x.methods ≤ 8 → length x.parms ≤ 8 → Reads s (Ok (kept x))

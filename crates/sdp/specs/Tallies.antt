@@ -1,13 +1,10 @@
 -- What the reader keeps while it goes: how many items it passed, and the record so far. The reader's own calls promise these; no public statement rests on them.
-use Rattle.std.specs.Prelude.{cond, ℕ, ◌+◌, ◌≤◌, ltb}
+use Rattle.std.specs.Prelude.{cond, ℕ, ◌+◌, ◌≤◌, ltb, Option, Some, None, Result, Ok}
+use Rattle.answers.specs.declared.Refusal.{Refusal}
 use Rattle.answers.specs.declared.Refusal.TheVariants as why
 use Rattle.sdp.specs.declared.Mode.{Mode}
 use Rattle.sdp.specs.declared.Ect.{Ect}
-use Rattle.sdp.specs.declared.MaybeMode.{MaybeMode}
-use Rattle.sdp.specs.declared.MaybeEct.{MaybeEct}
 use Rattle.sdp.specs.declared.Attribute.{Attribute}
-use Rattle.sdp.specs.declared.Verdict.TheVariants.{Read}
-use Rattle.sdp.specs.declared.Reading.{Reading}
 use Rattle.sdp.specs.declared.steps.Part.{Part}
 use Rattle.sdp.specs.declared.steps.Part.TheVariants as part
 use Rattle.sdp.specs.declared.steps.Item.{Item}
@@ -39,19 +36,19 @@ is_ect item.Other = 0
 is_ect item.Nothing = 0
 
 -- the first of two stays
-abbrev pub or_mode : MaybeMode → MaybeMode → MaybeMode
-or_mode MaybeMode.Absent later = later
-or_mode (MaybeMode.Present m) later = MaybeMode.Present m
+abbrev pub or_mode : Option Mode → Option Mode → Option Mode
+or_mode None later = later
+or_mode (Some m) later = Some m
 
-abbrev pub or_ect : MaybeEct → MaybeEct → MaybeEct
-or_ect MaybeEct.Absent later = later
-or_ect (MaybeEct.Present e) later = MaybeEct.Present e
+abbrev pub or_ect : Option Ect → Option Ect → Option Ect
+or_ect None later = later
+or_ect (Some e) later = Some e
 
 abbrev pub with_mode : Attribute → Mode → Attribute
-with_mode a m = record { used = a.used; methods = a.methods; mode = or_mode a.mode (MaybeMode.Present m); ect = a.ect }
+with_mode a m = record { used = a.used; methods = a.methods; mode = or_mode a.mode (Some m); ect = a.ect }
 
 abbrev pub with_ect : Attribute → Ect → Attribute
-with_ect a e = record { used = a.used; methods = a.methods; mode = a.mode; ect = or_ect a.ect (MaybeEct.Present e) }
+with_ect a e = record { used = a.used; methods = a.methods; mode = a.mode; ect = or_ect a.ect (Some e) }
 
 -- the record with one item more
 abbrev pub with_item : Attribute → Item → Attribute
@@ -82,10 +79,10 @@ pub record Small (t : Tally) (n : ℕ) : Type 0 where
   pub ects : t.ects ≤ n
 
 -- 18: a second mode or ect; 10: over 8 methods or parameters
-unfoldable pub finished : Tally → Reading
+unfoldable pub finished : Tally → Result Attribute Refusal
 finished t =
     cond (ltb 1 t.modes) (refused_by why.Attribute)
     (cond (ltb 1 t.ects) (refused_by why.Attribute)
     (cond (ltb 8 t.methods) (refused_by why.Limits)
     (cond (ltb 8 t.parms) (refused_by why.Limits)
-    (record { verdict = Read; attribute = t.attribute }))))
+    (Ok t.attribute))))

@@ -1,9 +1,6 @@
 -- The line while the writer makes it. Its own calls promise these; no public statement rests on them.
-use Rattle.std.specs.Prelude.{◌≡◌, List, [], ◌∷◌, ◌++◌, ℕ, ◌+◌, ◌≤◌, length, take}
-use Rattle.sdp.specs.declared.MaybeEct.{MaybeEct}
-use Rattle.sdp.specs.declared.MaybeEct.TheVariants as ect
+use Rattle.std.specs.Prelude.{◌≡◌, List, ◌++◌, ℕ, ◌+◌, ◌≤◌, length, take}
 use Rattle.sdp.specs.declared.writer.Text.{Text}
-use Rattle.sdp.specs.Grammar.{ect_text}
 
 abbrev pub text_in : Text → List ℕ
 text_in t = take t.long t.bytes
@@ -16,8 +13,3 @@ Room t n = t.long + n ≤ 96
 pub record Grown (t r : Text) (s : List ℕ) : Type 0 where
   pub text : text_in r ≡ text_in t ++ s
   pub long : r.long ≡ t.long + length s
-
--- an ect behind a mode
-abbrev pub ect_behind : MaybeEct → List ℕ
-ect_behind ect.Absent = []
-ect_behind (ect.Present e) = 59 ∷ 32 ∷ ect_text e

@@ -6,8 +6,6 @@ ghost use Rattle.std.specs.Prelude.{◌≡◌};
 ghost use Rattle.sdp.specs.Reading.{nothing};
 ghost use Rattle.sdp.specs.Answers.{with_method, answered};
 
-use answers::Refusal;
-
 pub mod answerer;
 mod fronts;
 pub mod reader;
@@ -15,7 +13,7 @@ mod steps;
 pub mod writer;
 
 // An initiation method.
-#[derive(Clone, Copy)]
+#[derive(Clone, Copy, PartialEq, Eq)]
 pub enum Method {
     Rtp,
     Ice,
@@ -23,7 +21,7 @@ pub enum Method {
 }
 
 // What an endpoint can do with ECN marks.
-#[derive(Clone, Copy)]
+#[derive(Clone, Copy, PartialEq, Eq)]
 pub enum Mode {
     SetOnly,
     SetRead,
@@ -31,68 +29,28 @@ pub enum Mode {
 }
 
 // The ECT marking that a receiver prefers.
-#[derive(Clone, Copy)]
+#[derive(Clone, Copy, PartialEq, Eq)]
 pub enum Ect {
     Zero,
     One,
     Random,
 }
 
-// Absent means setread, and nobody fills it in.
-#[derive(Clone, Copy)]
-pub enum MaybeMode {
-    Absent,
-    Present(Mode),
-}
-
-// Absent means 0, and nobody fills it in.
-#[derive(Clone, Copy)]
-pub enum MaybeEct {
-    Absent,
-    Present(Ect),
-}
-
-// A place of a list of methods.
-#[derive(Clone, Copy)]
-pub struct Listed {
-    pub method: Method,
-}
-
-// What an attribute says: the first `used` methods, most wanted first; the places behind them say nothing.
+// What an attribute says: the first `used` methods, most wanted first; the places behind them say nothing. Fixed memory: there is no heap.
 #[derive(Clone, Copy)]
 pub struct Attribute {
     pub used: usize,
-    pub methods: [Listed; 8],
-    pub mode: MaybeMode,
-    pub ect: MaybeEct,
-}
-
-#[derive(Clone, Copy)]
-pub enum Verdict {
-    Read,
-    Refused(Refusal),
-}
-
-// An enum cannot hold the array, so the attribute stands beside the verdict. A refused line has no method, mode or ect.
-#[derive(Clone, Copy)]
-pub struct Reading {
-    pub verdict: Verdict,
-    pub attribute: Attribute,
+    pub methods: [Method; 8],
+    pub mode: Option<Mode>,
+    pub ect: Option<Ect>,
 }
 
 // What an answer carries.
 #[derive(Clone, Copy)]
 pub struct Chosen {
     pub method: Method,
-    pub mode: MaybeMode,
-    pub ect: MaybeEct,
-}
-
-#[derive(Clone, Copy)]
-pub enum Negotiated {
-    Included(Chosen),
-    LeftOut,
-    Refused(Refusal),
+    pub mode: Option<Mode>,
+    pub ect: Option<Ect>,
 }
 
 impl Attribute {
@@ -102,11 +60,9 @@ impl Attribute {
     {
         Attribute {
             used: 0,
-            methods: [Listed {
-                method: Method::Rtp,
-            }; 8],
-            mode: MaybeMode::Absent,
-            ect: MaybeEct::Absent,
+            methods: [Method::Rtp; 8],
+            mode: None,
+            ect: None,
         }
     }
 
@@ -114,15 +70,16 @@ impl Attribute {
     pub fn with_method(self, m: Method) -> Attribute
         ensures { result ≡ with_method self m }
     {
-        let at = self.used;
-        if 8 <= at {
+        if 8 <= self.used {
             return self;
         }
-        let listed = Listed { method: m };
-        let mut next = self;
-        next.methods[at] = listed;
-        next.used = at + 1;
-        next
+        let mut methods = self.methods;
+        methods[self.used] = m;
+        Attribute {
+            used: self.used + 1,
+            methods,
+            ..self
+        }
     }
 }
 
@@ -131,19 +88,10 @@ impl Chosen {
     pub fn attribute(self) -> Attribute
         ensures { result ≡ answered self }
     {
-        let method = self.method;
-        let mode = self.mode;
-        let ect = self.ect;
-        let first = Listed { method };
-        let mut methods = [Listed {
-            method: Method::Rtp,
-        }; 8];
-        methods[0] = first;
         Attribute {
-            used: 1,
-            methods,
-            mode,
-            ect,
+            mode: self.mode,
+            ect: self.ect,
+            ..Attribute::empty().with_method(self.method)
         }
     }
 }

@@ -1,12 +1,13 @@
 // One turn of the reader: an item of a list, and what stands behind it.
 ghost use Rattle.std.specs.Prelude.{◌≡◌, ◌+◌, ◌≤◌, ◌<◌, length};
-ghost use Rattle.sdp.specs.Steps.{spelled, begins, method_item, mode_item, ect_item, parm_item, is_nothing, no_step, behind_method, behind_parm, parm_value, Stands};
+ghost use Rattle.sdp.specs.declared.steps.Found.TheVariants.{More};
+ghost use Rattle.sdp.specs.Steps.{spelled, begins, method_item, mode_item, ect_item, parm_item, step, no_step, last_step, behind_method, behind_parm, parm_value, Stands};
 
 use crate::fronts::{byte_at, lower, token_end, value_end};
 use crate::{Ect, Method, Mode};
 
 // The list that is read.
-#[derive(Clone, Copy)]
+#[derive(Clone, Copy, PartialEq, Eq)]
 pub enum Part {
     Methods,
     Parms,
@@ -45,17 +46,16 @@ fn is_spelled(text: &[u8], s: &[u8]) -> bool
     if s.len() != text.len() {
         return false;
     }
-    let mut i = 0;
-    while i < s.len() {
-        if lower(s[i]) != text[i] {
+    for (i, c) in s.iter().enumerate() {
+        if lower(*c) != text[i] {
             return false;
         }
-        i += 1;
     }
     true
 }
 
 // Whether a line begins with the attribute's name and a space.
+#[tactic(auto, using(std::proofs::lemmas::Bool::Decides::nat_tests), unfolding(crate::specs::Steps::begins))]
 pub fn is_attribute(line: &[u8]) -> bool
     ensures { result ≡ begins line.now }
 {
@@ -65,11 +65,12 @@ pub fn is_attribute(line: &[u8]) -> bool
     if line[18] != b' ' {
         return false;
     }
-    let from = 0;
-    let to = 18;
-    is_spelled(b"a=ecn-capable-rtp:", &line[from..to])
+    let end = 18;
+    is_spelled(b"a=ecn-capable-rtp:", &line[..end])
 }
 
+// Three tables of spellings. Each stays a function: a table of lent texts would need a contract of its own, longer than these lines.
+#[tactic(auto, using(std::proofs::lemmas::Bool::Decides::nat_tests), unfolding(crate::specs::Steps::method_item))]
 fn method_item(s: &[u8]) -> Item
     ensures { result ≡ method_item s.now }
 {
@@ -85,6 +86,7 @@ fn method_item(s: &[u8]) -> Item
     Item::Other
 }
 
+#[tactic(auto, using(std::proofs::lemmas::Bool::Decides::nat_tests), unfolding(crate::specs::Steps::mode_item))]
 fn mode_item(value: &[u8]) -> Item
     ensures { result ≡ mode_item value.now }
 {
@@ -100,6 +102,7 @@ fn mode_item(value: &[u8]) -> Item
     Item::Nothing
 }
 
+#[tactic(auto, using(std::proofs::lemmas::Bool::Decides::nat_tests), unfolding(crate::specs::Steps::ect_item))]
 fn ect_item(value: &[u8]) -> Item
     ensures { result ≡ ect_item value.now }
 {
@@ -116,6 +119,7 @@ fn ect_item(value: &[u8]) -> Item
 }
 
 // What a parameter says. A mode or an ect with any other value is none.
+#[tactic(auto, using(std::proofs::lemmas::Bool::Decides::nat_tests), unfolding(crate::specs::Steps::parm_item))]
 fn parm_item(name: &[u8], value: &[u8]) -> Item
     ensures { result ≡ parm_item name.now value.now }
 {
@@ -126,18 +130,6 @@ fn parm_item(name: &[u8], value: &[u8]) -> Item
         return ect_item(value);
     }
     Item::Other
-}
-
-fn is_nothing(item: Item) -> bool
-    ensures { result ≡ is_nothing item }
-{
-    match item {
-        Item::Known(_) => false,
-        Item::Mode(_) => false,
-        Item::Ect(_) => false,
-        Item::Other => false,
-        Item::Nothing => true,
-    }
 }
 
 fn no_step() -> Step
@@ -151,63 +143,52 @@ fn no_step() -> Step
     }
 }
 
+fn last_step(item: Item) -> Step
+    ensures { result ≡ last_step item }
+{
+    Step {
+        found: Found::Last,
+        item,
+        part: Part::Methods,
+        at: 0,
+    }
+}
+
+fn more(item: Item, part: Part, at: usize) -> Step
+    ensures { result ≡ step More item part at }
+{
+    Step {
+        found: Found::More,
+        item,
+        part,
+        at,
+    }
+}
+
 // What stands behind a method: the end, a comma or the space before the parameters.
+#[tactic(auto, using(std::proofs::lemmas::Bool::Decides::nat_tests), unfolding(crate::specs::Steps::behind_method))]
 fn behind_method(line: &[u8], at: usize, item: Item) -> Step
     requires { length line.now ≤ 255 }
     ensures { result ≡ behind_method line.now at item }
 {
-    if line.len() <= at {
-        return Step {
-            found: Found::Last,
-            item,
-            part: Part::Methods,
-            at: 0,
-        };
+    match line.get(at) {
+        None => last_step(item),
+        Some(b',') => more(item, Part::Methods, at + 1),
+        Some(b' ') => more(item, Part::Parms, at + 1),
+        Some(_) => no_step(),
     }
-    let c = line[at];
-    if c == b',' {
-        return Step {
-            found: Found::More,
-            item,
-            part: Part::Methods,
-            at: at + 1,
-        };
-    }
-    if c == b' ' {
-        return Step {
-            found: Found::More,
-            item,
-            part: Part::Parms,
-            at: at + 1,
-        };
-    }
-    no_step()
 }
 
 // What stands behind a parameter: the end, or a semicolon and a space.
+#[tactic(auto, using(std::proofs::lemmas::Bool::Decides::nat_tests), unfolding(crate::specs::Steps::behind_parm))]
 fn behind_parm(line: &[u8], at: usize, item: Item) -> Step
     requires { length line.now ≤ 255 }
     ensures { result ≡ behind_parm line.now at item }
 {
-    if line.len() <= at {
-        return Step {
-            found: Found::Last,
-            item,
-            part: Part::Methods,
-            at: 0,
-        };
-    }
-    if line[at] != b';' {
-        return no_step();
-    }
-    if byte_at(line, at + 1) != b' ' {
-        return no_step();
-    }
-    Step {
-        found: Found::More,
-        item,
-        part: Part::Parms,
-        at: at + 2,
+    match line.get(at) {
+        None => last_step(item),
+        Some(b';') if byte_at(line, at + 1) == b' ' => more(item, Part::Parms, at + 2),
+        Some(_) => no_step(),
     }
 }
 
@@ -220,11 +201,11 @@ fn method_step(line: &[u8], at: usize) -> Step
     if end == at {
         return no_step();
     }
-    let item = method_item(&line[at..end]);
-    behind_method(line, end, item)
+    behind_method(line, end, method_item(&line[at..end]))
 }
 
 // The parameter whose name runs to a place, which is behind its start.
+#[tactic(auto, using(std::proofs::lemmas::Bool::Decides::nat_tests), unfolding(crate::specs::Steps::parm_value))]
 fn parm_value(line: &[u8], at: usize, name: usize) -> Step
     requires { (length line.now ≤ 255) × (at ≤ name) × (name < length line.now) }
     ensures { result ≡ parm_value line.now at name }
@@ -234,11 +215,10 @@ fn parm_value(line: &[u8], at: usize, name: usize) -> Step
     if end <= value {
         return no_step();
     }
-    let item = parm_item(&line[at..name], &line[value..end]);
-    if is_nothing(item) {
-        return no_step();
+    match parm_item(&line[at..name], &line[value..end]) {
+        Item::Nothing => no_step(),
+        item => behind_parm(line, end, item),
     }
-    behind_parm(line, end, item)
 }
 
 // A parameter at a place.

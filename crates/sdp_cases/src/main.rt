@@ -10,7 +10,7 @@
 use sdp::answerer::answer;
 use sdp::reader::read;
 use sdp::writer::write;
-use sdp::{Attribute, Ect, MaybeEct, MaybeMode, Method, Mode, Negotiated, Reading, Verdict};
+use sdp::{Attribute, Ect, Method, Mode};
 use std::io::Stdout;
 
 fn show_method(to: Stdout, m: Method) {
@@ -21,68 +21,53 @@ fn show_method(to: Stdout, m: Method) {
     }
 }
 
-fn show_mode(to: Stdout, mode: MaybeMode) {
+fn show_mode(to: Stdout, mode: Option<Mode>) {
     match mode {
-        MaybeMode::Absent => show::text(to, b", no mode"),
-        MaybeMode::Present(m) => match m {
-            Mode::SetOnly => show::text(to, b", setonly"),
-            Mode::SetRead => show::text(to, b", setread"),
-            Mode::ReadOnly => show::text(to, b", readonly"),
-        },
+        None => show::text(to, b", no mode"),
+        Some(Mode::SetOnly) => show::text(to, b", setonly"),
+        Some(Mode::SetRead) => show::text(to, b", setread"),
+        Some(Mode::ReadOnly) => show::text(to, b", readonly"),
     }
 }
 
-fn show_ect(to: Stdout, ect: MaybeEct) {
+fn show_ect(to: Stdout, ect: Option<Ect>) {
     match ect {
-        MaybeEct::Absent => show::text(to, b", no ect"),
-        MaybeEct::Present(e) => match e {
-            Ect::Zero => show::text(to, b", 0"),
-            Ect::One => show::text(to, b", 1"),
-            Ect::Random => show::text(to, b", random"),
-        },
+        None => show::text(to, b", no ect"),
+        Some(Ect::Zero) => show::text(to, b", 0"),
+        Some(Ect::One) => show::text(to, b", 1"),
+        Some(Ect::Random) => show::text(to, b", random"),
     }
 }
 
 // The methods in use; a record that a call gives has at most eight.
 fn show_methods(to: Stdout, a: Attribute) {
-    let used = a.used;
-    let mut i = 0;
-    while i < 8 {
-        let listed = a.methods[i];
-        let m = listed.method;
-        if i < used {
-            show_method(to, m);
+    for (i, m) in a.methods.iter().enumerate() {
+        if i < a.used {
+            show_method(to, *m);
         }
-        i += 1;
     }
 }
 
 fn show_attribute(to: Stdout, a: Attribute) {
-    let mode = a.mode;
-    let ect = a.ect;
     show_methods(to, a);
-    show_mode(to, mode);
-    show_ect(to, ect);
+    show_mode(to, a.mode);
+    show_ect(to, a.ect);
 }
 
-// What reading gives.
-fn show_reading(to: Stdout, reading: Reading) {
-    let verdict = reading.verdict;
-    let attribute = reading.attribute;
-    match verdict {
-        Verdict::Read => show::text(to, b" : read"),
-        Verdict::Refused(refusal) => {
-            show::text(to, b" :");
-            show::refused(to, refusal);
-        }
-    }
-    show_attribute(to, attribute);
-}
-
+// What reading gives; a line that is refused has no method, no mode and no ect.
 fn read_line(to: Stdout, line: &[u8]) {
     let mut space = [0u8; 512];
-    let bytes = cases::bytes(line, 1, &mut space);
-    show_reading(to, read(bytes));
+    match read(cases::bytes(line, 1, &mut space)) {
+        Ok(attribute) => {
+            show::text(to, b" : read");
+            show_attribute(to, attribute);
+        }
+        Err(refusal) => {
+            show::text(to, b" :");
+            show::refused(to, refusal);
+            show_attribute(to, Attribute::empty());
+        }
+    }
 }
 
 fn with_digit(a: Attribute, digit: u64) -> Attribute {
@@ -98,44 +83,38 @@ fn with_digit(a: Attribute, digit: u64) -> Attribute {
 fn methods_of(digits: u64) -> Attribute {
     let mut a = Attribute::empty();
     let mut left = digits;
-    let mut i: usize = 0;
-    while i < 8 {
+    for _ in 0..8 {
         a = with_digit(a, left / 10000000 % 10);
         left = left % 10000000 * 10;
-        i += 1;
     }
     a
 }
 
-fn mode_of(number: u64) -> MaybeMode {
+fn mode_of(number: u64) -> Option<Mode> {
     match number {
-        1 => MaybeMode::Present(Mode::SetOnly),
-        2 => MaybeMode::Present(Mode::ReadOnly),
-        3 => MaybeMode::Present(Mode::SetRead),
-        _ => MaybeMode::Absent,
+        1 => Some(Mode::SetOnly),
+        2 => Some(Mode::ReadOnly),
+        3 => Some(Mode::SetRead),
+        _ => None,
     }
 }
 
-fn ect_of(number: u64) -> MaybeEct {
+fn ect_of(number: u64) -> Option<Ect> {
     match number {
-        1 => MaybeEct::Present(Ect::One),
-        2 => MaybeEct::Present(Ect::Zero),
-        3 => MaybeEct::Present(Ect::Random),
-        _ => MaybeEct::Absent,
+        1 => Some(Ect::One),
+        2 => Some(Ect::Zero),
+        3 => Some(Ect::Random),
+        _ => None,
     }
 }
 
 // The record of the four numbers from the nth on.
 fn record(line: &[u8], n: u32) -> Attribute {
-    let some = methods_of(cases::number(line, n % 16 + 1));
-    let methods = some.methods;
-    let mode = mode_of(cases::number(line, n % 16 + 2));
-    let ect = ect_of(cases::number(line, n % 16 + 3));
     Attribute {
         used: cases::number(line, n % 16) as usize,
-        methods,
-        mode,
-        ect,
+        mode: mode_of(cases::number(line, n % 16 + 2)),
+        ect: ect_of(cases::number(line, n % 16 + 3)),
+        ..methods_of(cases::number(line, n % 16 + 1))
     }
 }
 
@@ -159,12 +138,12 @@ fn answer_line(to: Stdout, line: &[u8]) {
     let offer = record(line, 1);
     let ours = record(line, 5);
     match answer(offer, ours) {
-        Negotiated::Included(chosen) => {
+        Ok(Some(chosen)) => {
             show::text(to, b" : included");
             show_attribute(to, chosen.attribute());
         }
-        Negotiated::LeftOut => show::text(to, b" : left out"),
-        Negotiated::Refused(refusal) => {
+        Ok(None) => show::text(to, b" : left out"),
+        Err(refusal) => {
             show::text(to, b" :");
             show::refused(to, refusal);
         }

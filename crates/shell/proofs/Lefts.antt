@@ -1,4 +1,6 @@
 -- What is left of a piece, from its places, and what a step leaves of it. Assumes nothing.
+use Rattle.std.specs.Prelude.{Option}
+use Rattle.answers.specs.declared.Refusal.{Refusal}
 use mathlib.Core.Path.{◌≡◌, refl, sym, ap, ◌∙◌}
 use mathlib.Core.Bool.{Bool, true, false, ◌&&◌}
 use mathlib.Core.List.{List}
@@ -9,7 +11,6 @@ use lib.Dec.{leb, ltb}
 use lib.ListN.{length, take, drop, length-take, length-drop, drop_of_length-le}
 use lib.Seq.{take_all, take-add, drop_at, length-take-le}
 use Rattle.walk.specs.Endings.{is_going}
-use Rattle.walk.specs.declared.Ended.{Ended}
 use Rattle.shell.specs.Transfers.{left_of, taken_of}
 use Rattle.shell.specs.declared.transfers.Transfer.{Transfer}
 
@@ -69,7 +70,7 @@ left_long t s = rw (length-drop, length-take)
 
 -- ---- a call that took so many bytes
 
-module _ (t : Transfer) (ended : Ended) (bytes : ℕ) (s : List ℕ) {left : List ℕ} {n : ℕ} (e : left ≡ left_of t s) (m : n ≡ min bytes (length left)) where
+module _ (t : Transfer) (ended : Option Refusal) (bytes : ℕ) (s : List ℕ) {left : List ℕ} {n : ℕ} (e : left ≡ left_of t s) (m : n ≡ min bytes (length left)) where
   place : t.from + n ≡ t.from + min bytes (length (left_of t s))
   place = rw (m, e)
 

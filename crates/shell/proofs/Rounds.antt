@@ -1,4 +1,5 @@
 -- A program's turns cannot go round for ever. Assumes nothing.
+use Rattle.std.specs.Prelude.{None}
 use mathlib.Core.Path.{◌≡◌, refl, ap, ◌∙◌}
 use mathlib.Core.Bool.{Bool, true, false, cond, not, ◌&&◌, ◌||◌}
 use mathlib.Core.List.{List, []}
@@ -9,7 +10,6 @@ use lib.Dec.{leb, ltb}
 use lib.IntN.{ℤ, pos}
 use lib.ListN.{length, replicate}
 use Rattle.walk.specs.Endings.{is_going}
-use Rattle.walk.specs.declared.Ended.TheVariants.{Going}
 use Rattle.shell.specs.Fills.{is_failure}
 use Rattle.shell.specs.Kept.{empty_of, Moved}
 use Rattle.shell.specs.Transfers.{left_of, begun_of, read_of, taken_of, put_of, ready_of, Brought}
@@ -123,11 +123,11 @@ input = record { bytes = 512; ahead = More }
 
 -- output that is not prompt, of which so much is kept
 abbrev some : ℕ → Transfer
-some used = put_of (read_of (begun_of input Going false) input) (record { fd = pos 1; used = used; wrote = 0; failed = false }) (empty_of (pos 2))
+some used = put_of (read_of (begun_of input None false) input) (record { fd = pos 1; used = used; wrote = 0; failed = false }) (empty_of (pos 2))
 
 -- prompt output, of which so much is kept
 abbrev prompt : ℕ → Transfer
-prompt used = put_of (read_of (begun_of input Going true) input) (record { fd = pos 1; used = used; wrote = 0; failed = false }) (empty_of (pos 2))
+prompt used = put_of (read_of (begun_of input None true) input) (record { fd = pos 1; used = used; wrote = 0; failed = false }) (empty_of (pos 2))
 
 -- with no buffer lent nothing is moved
 moved : (bytes used : ℕ) (fd : ℤ) → Moved bytes (record { fd = fd; used = used; wrote = 0; failed = false }) [] (empty_of fd) []
@@ -167,7 +167,7 @@ failed =
 used : Unit {0}
 unfolding turn_of is_due ready_of piece
 used =
-    let take = take-lessens (some 0) piece Going 512 (empty_of (pos 1)) (empty_of (pos 2)) refl in
+    let take = take-lessens (some 0) piece None 512 (empty_of (pos 1)) (empty_of (pos 2)) refl in
     let print = print_lessens (some 262144) (some 0) piece [] [] [] [] refl (record { out = moved 262144 262144 (pos 1); err = moved 0 0 (pos 2); other = refl }) in
     let all = print_lessens (prompt 1) (prompt 0) piece [] [] [] [] refl (record { out = moved 1 1 (pos 1); err = moved 0 0 (pos 2); other = refl }) in
     let read = read_brings part (read_of part longer) piece piece (omega arith) refl brought refl in

@@ -1,4 +1,6 @@
 -- The turns of a main make a session. Assumes nothing.
+use Rattle.std.specs.Prelude.{Option}
+use Rattle.answers.specs.declared.Refusal.{Refusal}
 use mathlib.Core.Path.{◌≡◌, refl, sym, ap, subst, ◌∙◌}
 use mathlib.Core.Logic.{◌⊎◌, inl, inr, ⊎_elim}
 use mathlib.Core.Bool.{Bool, true, false, ◌&&◌}
@@ -12,7 +14,6 @@ use lib.Seq.{take_all, take_at, drop_at}
 use Rattle.walk.specs.Endings.{is_going}
 use Rattle.walk.specs.Machines.{Machine, Rest, more, done, over, Session, began}
 use Rattle.walk.specs.Programs.{Printed, both}
-use Rattle.walk.specs.declared.Ended.{Ended}
 use Rattle.walk.proofs.Sessions.{session_prints}
 use Rattle.shell.specs.Fills.{Filled, is_more, is_failure, end_of}
 use Rattle.shell.specs.Transfers.{left_of, rest_of, begun_of, read_of, taken_of, put_of}
@@ -52,7 +53,7 @@ all_read t piece unread a =
     let same : t.input.bytes ≡ end_of t.input = omega arith in
     ap (λ (k : ℕ). drop t.from (take k piece) ++ unread) same
 
-module _ {H : Type 0} (m : Machine H) (ended : H → Ended) (s : Sound m ended) where
+module _ {H : Type 0} (m : Machine H) (ended : H → Option Refusal) (s : Sound m ended) where
   -- after a refusal nothing is taken or read any more
   turns_over : {h : H} {t : Transfer} {piece unread : List ℕ} {q : Printed} → t.going ≡ false → m.going h ≡ false → (left : List ℕ) → Turns m ended h t piece unread q → Rest m h left q
   unfolding turn_of
@@ -147,7 +148,7 @@ zeroth_read End input kept unread e n f last = inr (rw length-take (omega arith)
 zeroth_read Failure input kept unread e n f last = inr (rw length-take (omega arith), last (rw e))
 
 -- the calls after block 0: where its read has failed, it is not whole, and so refused
-module _ {H : Type 0} (m : Machine H) (ended : H → Ended) (s : Sound m ended) (zeroth : Input) (prompt : Bool) (kept piece unread : List ℕ) (out err : Output)
+module _ {H : Type 0} (m : Machine H) (ended : H → Option Refusal) (s : Sound m ended) (zeroth : Input) (prompt : Bool) (kept piece unread : List ℕ) (out err : Output)
     (n : length kept ≡ 512) {trace : List ℕ} (r : Reads 512 [] zeroth kept trace unread) where
   abbrev first : H
   first = (m.begin (take (end_of zeroth) kept)).state

@@ -1,8 +1,8 @@
 -- The theorems on a main are applied to values: a trace of two blocks, the second of which arrives in two parts, and an empty one. Assumes nothing.
+use Rattle.std.specs.Prelude.{Option, Some, None}
 use mathlib.Core.Path.{◌≡◌, refl}
 use mathlib.Core.Bool.{Bool, true, false}
 use mathlib.Core.List.{List, [], ◌++◌}
-use mathlib.Core.Option.{Option, none, some}
 use Prim.Native.Nat.{ℕ, ◌-◌, ◌%◌, ◌<◌}
 use native.Mathlib.Omega.{arith}
 use borrow.Author.Tests.{lt-leb}
@@ -14,8 +14,6 @@ use Rattle.answers.specs.declared.Refusal.TheVariants.{Incomplete}
 use Rattle.walk.specs.Endings.{is_going}
 use Rattle.walk.specs.Machines.{Machine, Standing, took_by, Gives, Follows}
 use Rattle.walk.specs.Programs.{nothing, Turn, Program}
-use Rattle.walk.specs.declared.Ended.{Ended}
-use Rattle.walk.specs.declared.Ended.TheVariants.{Going, Refused}
 use Rattle.shell.specs.Fills.{unread_of}
 use Rattle.shell.specs.Kept.{empty_of}
 use Rattle.shell.specs.Transfers.{begun_of, read_of, taken_of, ready_of}
@@ -78,9 +76,9 @@ empty_reads enough h =
 
 -- ---- calls that take all whole blocks and print nothing
 
-abbrev ended_by : Bool → Ended
-ended_by true = Going
-ended_by false = Refused Incomplete
+abbrev ended_by : Bool → Option Refusal
+ended_by true = None
+ended_by false = Some Incomplete
 
 abbrev taking : Machine Bool
 taking =
@@ -100,13 +98,13 @@ taking_sound = record { going = goes; short = λ b h. lt-leb 512 (length b) h; w
 
 -- block 0 and a block of a piece, and then the end
 abbrev start : Transfer
-start = begun_of full Going true
+start = begun_of full None true
 
 abbrev begins : Transfer
 begins = read_of start part
 
 abbrev last : Transfer
-last = taken_of (read_of begins full) Going 512 block
+last = taken_of (read_of begins full) None 512 block
 
 taking_main : Main taking ended_by (block ++ block) nothing
 unfolding turn_of is_due ready_of unread_of
@@ -129,21 +127,21 @@ refusing =
     }
 
 abbrev refused : Unit {0} → Turn (Unit {0})
-refused s = record { state = s; printed = nothing; refusal = some Incomplete }
+refused s = record { state = s; printed = nothing; refusal = Some Incomplete }
 
 abbrev refuser : Program (Unit {0})
 refuser = record { begin = λ b. refused tt; step = λ i s b. refused s; close = λ s ending. nothing }
 
-abbrev stopped : Unit {0} → Ended
-stopped h = Refused Incomplete
+abbrev stopped : Unit {0} → Option Refusal
+stopped h = Some Incomplete
 
 abbrev Stands : Unit {0} → Standing (Unit {0}) → Type 0
-Stands h s = s.refusal ≡ some Incomplete
+Stands h s = s.refusal ≡ Some Incomplete
 
-takes_none : (s : Standing (Unit {0})) (o : Option Refusal) (piece : List ℕ) → o ≡ some Incomplete
+takes_none : (s : Standing (Unit {0})) (o : Option Refusal) (piece : List ℕ) → o ≡ Some Incomplete
     → Gives Stands s (took_by refuser s o piece 0) (record { state = tt; taken = 0; printed = nothing })
-takes_none s none piece e = none_of (cc)
-takes_none s (some refusal) piece e = record { stands = e; taken = refl; printed = refl }
+takes_none s None piece e = none_of (cc)
+takes_none s (Some refusal) piece e = record { stands = e; taken = refl; printed = refl }
 
 follows : Follows refusing refuser
 follows =
@@ -162,7 +160,7 @@ refusing_sound = record { going = λ h. refl; short = λ b h. refl; whole = λ h
 refusing_main : Main refusing stopped [] nothing
 unfolding turn_of is_due ready_of unread_of
 refusing_main =
-    begun empty false block [] [] (empty_of (pos 1)) (empty_of (pos 2)) nothing refl (empty_reads 512 (omega arith)) (finish_turn tt (begun_of empty (Refused Incomplete) false) [] [] refl)
+    begun empty false block [] [] (empty_of (pos 1)) (empty_of (pos 2)) nothing refl (empty_reads 512 (omega arith)) (finish_turn tt (begun_of empty (Some Incomplete) false) [] [] refl)
 
 used : Unit {0}
 used =

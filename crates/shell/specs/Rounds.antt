@@ -1,8 +1,8 @@
 -- A program's turns cannot go round for ever: each that takes or prints lessens what is to be done before the next read, a read that is not the last brings a
 -- byte, and after the last the run is ended. Assumes nothing.
-use Rattle.std.specs.Prelude.{◌≡◌, Bool, false, cond, List, ℕ, ◌+◌, ◌*◌, ◌≤◌, ◌<◌, length}
+use Rattle.answers.specs.declared.Refusal.{Refusal}
+use Rattle.std.specs.Prelude.{◌≡◌, Bool, false, cond, List, ℕ, ◌+◌, ◌*◌, ◌≤◌, ◌<◌, length, Option}
 use Rattle.format.specs.Blocks.{block_bytes}
-use Rattle.walk.specs.declared.Ended.{Ended}
 use Rattle.shell.specs.Fills.{is_more}
 use Rattle.shell.specs.Transfers.{left_of, taken_of, put_of, ready_of, Brought, Flushed}
 use Rattle.shell.specs.Turns.{is_due, turn_of}
@@ -21,7 +21,7 @@ to_do t piece = 2 * (length (left_of t piece) + one t.going) + one (is_due t)
 -- whatever a call takes, and whatever is kept or printed for it
 abbrev pub TakeLessens : Type 0
 TakeLessens =
-    (t : Transfer) (piece : List ℕ) (ended : Ended) (bytes : ℕ) (out err : Output)
+    (t : Transfer) (piece : List ℕ) (ended : Option Refusal) (bytes : ℕ) (out err : Output)
     → turn_of t piece ≡ Take → to_do (put_of (taken_of t ended bytes piece) out err) piece < to_do t piece
 
 abbrev pub PrintLessens : Type 0

@@ -1,7 +1,7 @@
 -- How far a program over a trace has come, and how each step changes that. Assumes nothing.
-use Rattle.std.specs.Prelude.{◌≡◌, Bool, cond, ◌&&◌, List, ℕ, ◌+◌, ◌-◌, ◌%◌, min, ltb, pos, length, take, drop}
+use Rattle.answers.specs.declared.Refusal.{Refusal}
+use Rattle.std.specs.Prelude.{◌≡◌, Bool, cond, ◌&&◌, List, ℕ, ◌+◌, ◌-◌, ◌%◌, min, ltb, pos, length, take, drop, Option}
 use Rattle.walk.specs.Endings.{is_going}
-use Rattle.walk.specs.declared.Ended.{Ended}
 use Rattle.shell.specs.Fills.{Filled, end_of}
 use Rattle.shell.specs.Kept.{empty_of, Moved}
 use Rattle.shell.specs.declared.printing.Output.{Output}
@@ -21,7 +21,7 @@ rest_of t piece = drop t.from (take (end_of t.input) piece)
 -- ---- the steps
 
 -- after block 0, which stood in a buffer of its own: nothing is left of a piece; standard output is 1, standard error 2
-abbrev pub begun_of : Input → Ended → Bool → Transfer
+abbrev pub begun_of : Input → Option Refusal → Bool → Transfer
 begun_of zeroth ended prompt =
     record { input = record { bytes = 0; ahead = zeroth.ahead }; from = 0; going = is_going ended; prompt = prompt; out = empty_of (pos 1); err = empty_of (pos 2) }
 
@@ -37,7 +37,7 @@ pub record Brought (t : Transfer) (piece : List ℕ) (r : Transfer) (next : List
   pub other : r ≡ read_of t r.input
 
 -- after a call that took so many bytes of what is left: it goes on from there, unless a block was refused or nothing was taken
-abbrev pub taken_of : Transfer → Ended → ℕ → List ℕ → Transfer
+abbrev pub taken_of : Transfer → Option Refusal → ℕ → List ℕ → Transfer
 taken_of t ended bytes piece =
     record { input = t.input; from = t.from + min bytes (length (left_of t piece)); going = is_going ended && ltb 0 bytes; prompt = t.prompt; out = t.out; err = t.err }
 

@@ -9,7 +9,7 @@ use crate::failures::tell;
 use crate::moving::move_front;
 use crate::streams::{STDOUT_FILENO, Streams};
 use crate::writing::{Writing, write_all};
-use answers::Written;
+use answers::Unwritten;
 
 // The file descriptor, how many bytes at the front of the lent buffer are kept for it, how many bytes of the last print were written, and whether a write has
 // failed. Nothing is printed after a failure.
@@ -119,13 +119,13 @@ impl Output {
     }
 
     // Keeps what a writer wrote after the bytes that are kept.
-    pub fn with_written(self, answer: Written, buffer: &[u8]) -> Output
+    pub fn with_written(self, answer: Result<usize, Unwritten>, buffer: &[u8]) -> Output
         ensures { result ≡ kept_of (length buffer.now) (length_in answer) self }
     {
         match answer {
-            Written::Length(n) => self.with_kept(n, buffer),
-            Written::Room(_) => self.with_kept(0, buffer),
-            Written::Refused(_) => self.with_kept(0, buffer),
+            Ok(n) => self.with_kept(n, buffer),
+            Err(Unwritten::Room(_)) => self.with_kept(0, buffer),
+            Err(Unwritten::Refused(_)) => self.with_kept(0, buffer),
         }
     }
 }

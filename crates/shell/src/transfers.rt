@@ -11,9 +11,8 @@ use crate::moving::move_front;
 use crate::printing::Output;
 use crate::reading::{Input, read_on};
 use crate::streams::{STDERR_FILENO, STDOUT_FILENO, Streams};
-use answers::Written;
+use answers::{Refusal, Unwritten};
 use format::block::BLOCK;
-use walk::Ended;
 
 // Output that is not prompt is printed in pieces of 256 KiB. Each begins at a multiple of that, where the system has large pieces of the file's pages to work
 // with.
@@ -32,18 +31,18 @@ pub struct Transfer {
 }
 
 // Whether no block was refused.
-fn goes_on(ended: Ended) -> bool
+fn goes_on(ended: Option<Refusal>) -> bool
     ensures { result ≡ is_going ended }
 {
     match ended {
-        Ended::Going => true,
-        Ended::Refused(_) => false,
+        None => true,
+        Some(_) => false,
     }
 }
 
 impl Transfer {
     // After block 0, which stood in a buffer of its own.
-    pub fn begun(zeroth: Input, ended: Ended, prompt: bool) -> Transfer
+    pub fn begun(zeroth: Input, ended: Option<Refusal>, prompt: bool) -> Transfer
         ensures { result ≡ begun_of zeroth ended prompt }
     {
         let ahead = zeroth.ahead;
@@ -101,7 +100,7 @@ impl Transfer {
     }
 
     // After a call that took so many bytes of what is left. One that took none ends the run, as a refused block does: it would take none again.
-    pub fn with_taken(self, ended: Ended, bytes: usize, piece: &[u8]) -> Transfer
+    pub fn with_taken(self, ended: Option<Refusal>, bytes: usize, piece: &[u8]) -> Transfer
         ensures { result ≡ taken_of self ended bytes piece.now }
     {
         let mut next = self;
@@ -115,7 +114,7 @@ impl Transfer {
     }
 
     // Keeps what a writer wrote for standard output.
-    pub fn with_kept(self, answer: Written, lines: &[u8]) -> Transfer
+    pub fn with_kept(self, answer: Result<usize, Unwritten>, lines: &[u8]) -> Transfer
         ensures { result ≡ put_of self (kept_of (length lines.now) (length_in answer) self.out) self.err }
     {
         let mut next = self;
@@ -125,7 +124,7 @@ impl Transfer {
     }
 
     // Keeps what a writer wrote for standard error.
-    pub fn with_reported(self, answer: Written, lines: &[u8]) -> Transfer
+    pub fn with_reported(self, answer: Result<usize, Unwritten>, lines: &[u8]) -> Transfer
         ensures { result ≡ put_of self self.out (kept_of (length lines.now) (length_in answer) self.err) }
     {
         let mut next = self;

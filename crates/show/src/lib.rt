@@ -4,7 +4,7 @@
 
 ghost use Rattle.std.specs.Prelude.{◌≤◌, length};
 
-use answers::{ROOM, Refusal, Written};
+use answers::{ROOM, Refusal, Unwritten};
 use numbers::sign::magnitude;
 use std::io;
 use std::io::{Print, Read, Stdin, Stdout};
@@ -68,18 +68,18 @@ pub fn refused(to: Stdout, refusal: Refusal) {
 }
 
 // A writer's answer.
-pub fn written(to: Stdout, answer: Written) {
+pub fn written(to: Stdout, answer: Result<usize, Unwritten>) {
     match answer {
-        Written::Length(n) => {
+        Ok(n) => {
             text(to, b" length");
             number(to, n as u64);
         }
-        Written::Room(n) => {
+        Err(Unwritten::Room(n)) => {
             text(to, b" refused");
             number(to, ROOM as u64);
             number(to, n as u64);
         }
-        Written::Refused(refusal) => refused(to, refusal),
+        Err(Unwritten::Refused(refusal)) => refused(to, refusal),
     }
 }
 

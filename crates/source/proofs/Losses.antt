@@ -1,4 +1,5 @@
 -- What the answer of the call `lost` shows. Assumes nothing.
+use Rattle.std.specs.Prelude.{Ok, Err}
 use mathlib.Core.Path.{◌≡◌, refl}
 use mathlib.Core.Bool.{Bool, true, false, not, cond}
 use Prim.Native.Nat.{ℕ}
@@ -6,16 +7,15 @@ use native.Mathlib.Omega.{arith}
 use lib.IntN.{ℤ}
 use Rattle.answers.specs.declared.Refusal.{Refusal}
 use Rattle.answers.specs.declared.Refusal.TheVariants.{Malformed}
-use Rattle.source.specs.declared.Lost.TheVariants.{Packets, Refused}
 use Rattle.source.specs.declared.Source.{Source}
 use Rattle.source.specs.Record.{sound, lost, lost_answer}
 
 module _ (s : Source) where
-  pub lost_refused : {refusal : Refusal} → lost_answer s ≡ Refused refusal → sound s ≡ false
+  pub lost_refused : {refusal : Refusal} → lost_answer s ≡ Err refusal → sound s ≡ false
   unfolding lost_answer
   lost_refused {refusal} e = go (sound s) e
     where
-      go : (b : Bool) → cond (not b) (Refused Malformed) (Packets (lost s)) ≡ Refused refusal → b ≡ false
+      go : (b : Bool) → cond (not b) (Err Malformed) (Ok (lost s)) ≡ Err refusal → b ≡ false
       go false e = refl
       go true e = let z : ◌≡◌ {A = ℕ} 0 1 = cc in absurd (omega arith)
 
@@ -23,10 +23,10 @@ module _ (s : Source) where
     pub good : sound s ≡ true
     pub is : n ≡ lost s
 
-  pub lost_packets : {n : ℤ} → lost_answer s ≡ Packets n → Counted n
+  pub lost_packets : {n : ℤ} → lost_answer s ≡ Ok n → Counted n
   unfolding lost_answer
   lost_packets {n} e = go (sound s) refl e
     where
-      go : (b : Bool) → sound s ≡ b → cond (not b) (Refused Malformed) (Packets (lost s)) ≡ Packets n → Counted n
+      go : (b : Bool) → sound s ≡ b → cond (not b) (Err Malformed) (Ok (lost s)) ≡ Ok n → Counted n
       go true g e = record { good = g; is = cc }
       go false g e = let z : ◌≡◌ {A = ℕ} 0 1 = cc in absurd (omega arith)

@@ -1,4 +1,6 @@
 -- What one call adds to the counters. Assumes nothing.
+use Rattle.std.specs.Prelude.{Option, Some}
+use Rattle.format.specs.declared.Wire.{Wire}
 use mathlib.Core.Path.{◌≡◌, refl, sym, ap, ◌∙◌}
 use mathlib.Core.Bool.{Bool, true, false, cond, ◌&&◌}
 use Prim.Native.Nat.{ℕ, zero, suc, ◌+◌, ◌-◌, ◌≤◌}
@@ -10,8 +12,6 @@ use Rattle.answers.specs.declared.Refusal.{Refusal}
 use Rattle.answers.specs.declared.Refusal.TheVariants as refusal
 use Rattle.source.specs.declared.Extended.{Extended}
 use Rattle.source.specs.declared.History.{History}
-use Rattle.source.specs.declared.Remembered.{Remembered}
-use Rattle.source.specs.declared.Remembered.TheVariants.{Number}
 use Rattle.source.specs.declared.Source.{Source}
 use Rattle.source.specs.declared.Arrival.{Arrival}
 use Rattle.source.specs.declared.Arrival.TheVariants.{Accepted, Refused}
@@ -64,7 +64,7 @@ module _ (s : Source) (p : Packet) where
     pub distinct : distinct (after a) ≡ distinct s + bit (accepted a && is_new s p)
     pub base : 1 ≤ arrivals s → (after a).base ≡ s.base
 
-  refused_raises : (refusal : Refusal) (remembered : Remembered) → Raised (Refused refusal (record {
+  refused_raises : (refusal : Refusal) (remembered : Option Wire) → Raised (Refused refusal (record {
     base = s.base;
     highest = s.highest;
     notect = s.notect;
@@ -119,4 +119,4 @@ module _ (s : Source) (p : Packet) where
       go a (was_ahead d t) e = accepted_raises _ _ s.duplicates _ false (stands t) (omega arith) (fewer t) t.counts.mark_fits (λ some. refl)
       go a (was_behind k t) e = accepted_raises _ _ (s.duplicates + bit (marks s.history k)) _ (marks s.history k) (stands t) refl (fewer t) t.counts.mark_fits (λ some. refl)
       go a (restarted t) e = absurd (omega arith)
-      go a (jump t) e = refused_raises refusal.Jump (Number (next p.wire))
+      go a (jump t) e = refused_raises refusal.Jump (Some (next p.wire))

@@ -1,16 +1,16 @@
 -- The records of a block, one after the other: what is left of them at a place. Assumes nothing.
-use mathlib.Core.Path.{◌≡◌, refl, sym, ap, ap₂, ◌∙◌}
+use mathlib.Core.Path.{◌≡◌, refl, sym, ap, ◌∙◌}
 use mathlib.Core.Bool.{true, false, ◌&&◌}
-use mathlib.Core.List.{List, [], ◌∷◌}
+use mathlib.Core.List.{List, [], ◌∷◌, ◌++◌}
 use Prim.Native.Nat.{ℕ, zero, suc, ◌+◌, ◌-◌, ◌*◌, ◌/◌, ◌%◌, ◌≤◌, ◌<◌}
-use native.Mathlib.Nat.{suc-mul, div-add-mod', div-le_self, mul-mod_left, mul-div_cancel, le-div_iff_mul-le}
+use native.Mathlib.Nat.{suc-mul, div-add-mod'}
 use native.Mathlib.Omega.{arith}
 use borrow.Author.Tests.{le-leb, lt-leb, leb-true, eqb-true}
 use lib.Dec.{eqb, leb}
-use lib.ListN.{length, get_or, take, drop, length-drop}
-use lib.Seq.{get_or-take, get_or-drop, drop-drop, take-nil}
+use lib.ListN.{length, get_or, take, drop, get_or-append, length-append}
+use lib.Seq.{get_or-take, get_or-drop, drop-drop, drop-append_seam, take-nil}
 use Rattle.numbers.specs.BigEndian.{word}
-use Rattle.numbers.proofs.BigEndian.{word_two, word_drop}
+use Rattle.numbers.proofs.BigEndian.{word_two, word_drop, word_left}
 use Rattle.answers.specs.Conditions.{all}
 use Rattle.answers.proofs.Conditions.{all_true, and_left, and_right}
 use Rattle.answers.specs.Refusals.{number_of}
@@ -27,24 +27,17 @@ use Rattle.source.specs.Blocks.{Packet, packets, marks_fit, in_limits, jump, res
 abbrev pub packet : ℕ → List ℕ → ℕ → Packet
 packet width s at = record { wire = record { 0 = word 2 s (at + (width - 4)) }; mark = get_or s (at + (width - 2)) 0 }
 
--- as a loop reads it
-pub packet_is : (width : ℕ) (s : List ℕ) (at : ℕ) → 4 ≤ width → {n m : ℕ} → n ≡ word 2 (get_or s (at + width - 4) 0 ∷ get_or s (at + width - 4 + 1) 0 ∷ []) 0
-    → m ≡ get_or s (at + width - 4 + 2) 0 → ◌≡◌ {A = Packet} (record { wire = record { 0 = n }; mark = m }) (packet width s at)
-packet_is width s at h en em =
-    let front : at + width - 4 ≡ at + (width - 4) = omega arith in
-    let third : at + width - 4 + 2 ≡ at + (width - 2) = omega arith in
-    let number = en ∙ word_two (get_or s (at + width - 4) 0 ∷ get_or s (at + width - 4 + 1) 0 ∷ []) 0 ∙ sym (word_two s (at + width - 4)) ∙ ap (word 2 s) front in
-    let mark = em ∙ ap (λ (i : ℕ). get_or s i 0) third in
-    λ i. record { wire = record { 0 = number i }; mark = mark i }
+-- that in the bytes of one record
+abbrev pub packet_in : ℕ → List ℕ → Packet
+packet_in width x = record { wire = record { 0 = word 2 x (width - 4) }; mark = get_or x (width - 2) 0 }
 
--- and that at the front, as it is read before the loop
-pub front_is : (width : ℕ) (s : List ℕ) → 4 ≤ width → {n m : ℕ} → n ≡ word 2 (get_or s (width - 4) 0 ∷ get_or s (width - 3) 0 ∷ []) 0
-    → m ≡ get_or s (width - 2) 0 → ◌≡◌ {A = Packet} (record { wire = record { 0 = n }; mark = m }) (packet width s 0)
-front_is width s h en em =
-    let one : width - 4 ≡ 0 + width - 4 = omega arith in
-    let two : width - 3 ≡ 0 + width - 4 + 1 = omega arith in
-    let three : width - 2 ≡ 0 + width - 4 + 2 = omega arith in
-    packet_is width s 0 h (en ∙ ap₂ (λ (i j : ℕ). word 2 (get_or s i 0 ∷ get_or s j 0 ∷ []) 0) one two) (em ∙ ap (λ (i : ℕ). get_or s i 0) three)
+-- as a loop reads it
+pub packet_is : (width : ℕ) (s : List ℕ) → 4 ≤ width → {n m : ℕ} → n ≡ word 2 (get_or s (width - 4) 0 ∷ get_or s (width - 3) 0 ∷ []) 0
+    → m ≡ get_or s (width - 2) 0 → ◌≡◌ {A = Packet} (record { wire = record { 0 = n }; mark = m }) (packet_in width s)
+packet_is width s h en em =
+    let second : width - 3 ≡ width - 4 + 1 = omega arith in
+    let number = en ∙ word_two (get_or s (width - 4) 0 ∷ get_or s (width - 3) 0 ∷ []) 0 ∙ ap (λ (i : ℕ). get_or s (width - 4) 0 * 256 + get_or s i 0) second ∙ sym (word_two s (width - 4)) in
+    λ i. record { wire = record { 0 = number i }; mark = em i }
 
 -- k records are left at a place
 module _ (width : ℕ) (s : List ℕ) where
@@ -89,19 +82,6 @@ module _ (width : ℕ) (s : List ℕ) where
   pub room_left : (at : ℕ) (l : Left at) → at < length s → at + width ≤ length s
   room_left at l h = omega (arith, (one_left at l h).after.whole)
 
-  -- what is left is whole records too
-  pub length-left : (at : ℕ) (l : Left at) → length (drop at s) ≡ l.k * width
-  length-left at l = rw length-drop (omega (arith, l.whole))
-
-  pub whole_left : (at : ℕ) (l : Left at) → length (drop at s) % width ≡ 0
-  whole_left at l = rw (length-left at l) (mul-mod_left l.k width)
-
-  pub count_left : (at : ℕ) (l : Left at) → 1 ≤ width → length (drop at s) / width ≡ l.k
-  count_left at l w = rw (length-left at l) (mul-div_cancel l.k w)
-
-  pub few_left : (at : ℕ) (l : Left at) → 1 ≤ width → l.k ≤ length s / width
-  few_left at l w = (le-div_iff_mul-le w).1 (omega (arith, l.whole))
-
 -- n records need no more bytes than these
 word_take : (k m : ℕ) (s : List ℕ) (at : ℕ) → at + k ≤ m → word k (take m s) at ≡ word k s at
 unfolding word
@@ -140,41 +120,75 @@ limits width s e = record {
   fit = all_true (in_limits width s) 4 e;
 }
 
--- so there is one at the front
-pub one_at_least : (width : ℕ) (s : List ℕ) → Limits width s → 0 < length s
-one_at_least width s l = let d = div-le_self (length s) width in omega (arith, l.some)
-
-pub front_whole : (width : ℕ) (s : List ℕ) → Limits width s → width ≤ length s
-front_whole width s l = omega (arith, room_left width s 0 (all_left width s l.whole) (one_at_least width s l))
-
 -- ---- the loops over a block
 
--- the marks that are left decide
-module _ (width : ℕ) (s : List ℕ) (at : ℕ) where
-  pub record MarksLeft : Type 0 where
-    pub left : Left width s at
-    pub same : marks_fit (rest width s at left) ≡ marks_fit (packets width (length s / width) s)
+-- bytes s that begin with those of one record, x
+pub record Cut (width : ℕ) (s x r : List ℕ) : Type 0 where
+  pub joined : s ≡ x ++ r
+  pub bytes : length x ≡ width
+
+first_packet : (width k : ℕ) {x r s : List ℕ} → 4 ≤ width → Cut width s x r → packets width (suc k) s ≡ packet_in width x ∷ packets width k r
+unfolding packets
+first_packet width k {x} {r} h c =
+    let l = c.bytes in
+    let behind : drop width (x ++ r) ≡ r = ap (λ (w : ℕ). drop w (x ++ r)) (sym l) ∙ drop-append_seam x r in
+    rw (c.joined, word_left x r (width - 4) 2 (omega arith), get_or-append x r 0 (width - 2) (omega arith), behind)
+
+-- k whole records
+pub record Whole (width : ℕ) (r : List ℕ) (k : ℕ) : Type 0 where
+  pub bytes : length r ≡ k * width
+
+-- so many are behind one of them
+one_less : (width k : ℕ) {x r s : List ℕ} → 1 ≤ width → Whole width s k → Cut width s x r → (j : ℕ) × (k ≡ suc j) × Whole width r j
+one_less width k {x} {r} w h c = go k refl
+  where
+    total : width + length r ≡ k * width
+    total = ap (λ (i : ℕ). i + length r) (sym c.bytes) ∙ sym (length-append x r) ∙ ap length (sym c.joined) ∙ h.bytes
+
+    go : (m : ℕ) → k ≡ m → (j : ℕ) × (k ≡ suc j) × Whole width r j
+    go zero z = absurd (omega (arith, total, ap (λ (i : ℕ). i * width) z))
+    go (suc m) z = (m, z, record { bytes = omega (arith, total, ap (λ (i : ℕ). i * width) z, suc-mul m width) })
+
+-- fewer bytes than a record hold none
+none_whole : (width k : ℕ) {r : List ℕ} → Whole width r k → length r < width → packets width k r ≡ []
+unfolding packets
+none_whole width zero h l = refl
+none_whole width (suc k) h l = absurd (omega (arith, h.bytes, suc-mul k width))
+
+whole_all : (width : ℕ) {s : List ℕ} → length s % width ≡ 0 → Whole width s (length s / width)
+whole_all width {s} e = record { bytes = let d = div-add-mod' (length s) width in omega arith }
+
+-- the marks of the records that are left, r, decide
+pub record MarksLeft (width : ℕ) (s r : List ℕ) : Type 0 where
+  pub wide : 4 ≤ width
+  pub k : ℕ
+  pub whole : Whole width r k
+  pub same : marks_fit (packets width k r) ≡ marks_fit (packets width (length s / width) s)
 
 module _ (width : ℕ) (s : List ℕ) where
-  pub marks_start : length s % width ≡ 0 → MarksLeft width s 0
-  unfolding all_left
-  marks_start e = record { left = all_left width s e; same = refl }
+  pub marks_start : {r : List ℕ} → 4 ≤ width → length s % width ≡ 0 → r ≡ s → MarksLeft width s r
+  marks_start w e d = rw d (record { wide = w; k = length s / width; whole = whole_all width e; same = refl })
 
-  module _ (at : ℕ) (m : MarksLeft width s at) where
-    pub marks_end : 1 ≤ width → length s ≤ at → true ≡ marks_fit (packets width (length s / width) s)
-    marks_end w h = ap marks_fit (sym (none_left width s at m.left w h)) ∙ m.same
+  module _ {r : List ℕ} (m : MarksLeft width s r) where
+    pub marks_end : length r < width → true ≡ marks_fit (packets width (length s / width) s)
+    marks_end h = ap marks_fit (sym (none_whole width m.k m.whole h)) ∙ m.same
 
-    module _ (h : at < length s) where
-      here : marks_fit (packets width (length s / width) s) ≡ (leb (get_or s (at + (width - 2)) 0) 3 && marks_fit (rest width s (at + width) (one_left width s at m.left h).after))
-      here = sym m.same ∙ ap marks_fit (one_left width s at m.left h).is
+    module _ {x t : List ℕ} (cut : Cut width r x t) where
+      next_marks : (j : ℕ) × Whole width t j × (marks_fit (packets width (length s / width) s) ≡ (leb (get_or x (width - 2) 0) 3 && marks_fit (packets width j t)))
+      next_marks =
+          let w = m.wide in
+          let n = one_less width m.k (omega arith) m.whole cut in
+          (n.0, n.2, sym m.same ∙ ap (λ (i : ℕ). marks_fit (packets width i r)) n.1 ∙ ap marks_fit (first_packet width n.0 w cut))
 
-      pub marks_fail : 3 < get_or s (at + (width - 2)) 0 → false ≡ marks_fit (packets width (length s / width) s)
-      marks_fail g = sym (here ∙ rw (lt-leb (get_or s (at + (width - 2)) 0) 3 g))
+      pub marks_fail : 3 < get_or x (width - 2) 0 → false ≡ marks_fit (packets width (length s / width) s)
+      marks_fail g = sym (next_marks.2 ∙ rw (lt-leb (get_or x (width - 2) 0) 3 g))
 
-      pub marks_next : get_or s (at + (width - 2)) 0 ≤ 3 → MarksLeft width s (at + width)
+      pub marks_next : get_or x (width - 2) 0 ≤ 3 → MarksLeft width s t
       marks_next g = record {
-        left = (one_left width s at m.left h).after;
-        same = sym (here ∙ rw (le-leb (get_or s (at + (width - 2)) 0) 3 g));
+        wide = m.wide;
+        k = next_marks.0;
+        whole = next_marks.1;
+        same = sym (next_marks.2 ∙ rw (le-leb (get_or x (width - 2) 0) 3 g));
       }
 
 -- an answer is at most one jump, and at most one restart
@@ -188,55 +202,63 @@ restart_le (answer.Accepted s) = omega arith
 restart_le (answer.Restarted s) = omega arith
 restart_le (answer.Refused refusal s) = omega arith
 
--- the count of the records that are left is the count of all
-module _ (width : ℕ) (s : List ℕ) (start : Source) where
-  pub record CountLeft (at : ℕ) (state : Source) (jumps restarts : ℕ) : Type 0 where
-    pub left : Left width s at
-    pub fit : marks_fit (rest width s at left) ≡ true
-    pub good : sound state ≡ true
-    pub few_jumps : jumps + left.k ≤ 62
-    pub few_restarts : restarts + left.k ≤ 62
-    pub same : count_all (rest width s at left) state jumps restarts ≡ count_all (packets width (length s / width) s) start 0 0
+-- the count of the records that are left, r, is the count of all
+pub record CountLeft (width : ℕ) (s : List ℕ) (start : Source) (r : List ℕ) (state : Source) (jumps restarts : ℕ) : Type 0 where
+  pub wide : 4 ≤ width
+  pub k : ℕ
+  pub whole : Whole width r k
+  pub fit : marks_fit (packets width k r) ≡ true
+  pub good : sound state ≡ true
+  pub few_jumps : jumps + k ≤ 62
+  pub few_restarts : restarts + k ≤ 62
+  pub same : count_all (packets width k r) state jumps restarts ≡ count_all (packets width (length s / width) s) start 0 0
 
-  pub count_start : Limits width s → sound start ≡ true → CountLeft 0 start 0 0
-  unfolding all_left
-  count_start l g = record {
-    left = all_left width s l.whole;
+module _ (width : ℕ) (s : List ℕ) (start : Source) where
+  pub count_start : {r : List ℕ} → Limits width s → sound start ≡ true → r ≡ s → CountLeft width s start r start 0 0
+  count_start l g d = rw d (record {
+    wide = l.wide;
+    k = length s / width;
+    whole = whole_all width l.whole;
     fit = l.fit;
     good = g;
     few_jumps = omega (arith, l.few);
     few_restarts = omega (arith, l.few);
     same = refl;
-  }
+  })
 
-  module _ (at : ℕ) (state : Source) (jumps restarts : ℕ) (c : CountLeft at state jumps restarts) where
-    pub count_end : 1 ≤ width → length s ≤ at → Counted state jumps restarts ≡ count_all (packets width (length s / width) s) start 0 0
+  module _ {r : List ℕ} {state : Source} {jumps restarts : ℕ} (c : CountLeft width s start r state jumps restarts) where
+    pub count_end : length r < width → Counted state jumps restarts ≡ count_all (packets width (length s / width) s) start 0 0
     unfolding count_all
-    count_end w h = ap (λ (ps : List Packet). count_all ps state jumps restarts) (sym (none_left width s at c.left w h)) ∙ c.same
+    count_end h = ap (λ (ps : List Packet). count_all ps state jumps restarts) (sym (none_whole width c.k c.whole h)) ∙ c.same
 
-    module _ (h : at < length s) where
-      next : Next width s at c.left
-      next = one_left width s at c.left h
+    module _ {x t : List ℕ} (cut : Cut width r x t) where
+      next : (j : ℕ) × (c.k ≡ suc j) × Whole width t j
+      next = let w = c.wide in one_less width c.k (omega arith) c.whole cut
 
-      fits : (leb (packet width s at).mark 3 && marks_fit (rest width s (at + width) next.after)) ≡ true
-      fits = sym (ap marks_fit next.is) ∙ c.fit
+      is : packets width c.k r ≡ packet_in width x ∷ packets width next.0 t
+      is = ap (λ (i : ℕ). packets width i r) next.1 ∙ first_packet width next.0 c.wide cut
 
-      pub mark_here : (packet width s at).mark ≤ 3
-      mark_here = leb-true (packet width s at).mark 3 (and_left (leb (packet width s at).mark 3) _ fits)
+      fits : (leb (packet_in width x).mark 3 && marks_fit (packets width next.0 t)) ≡ true
+      fits = sym (ap marks_fit is) ∙ c.fit
+
+      pub mark_here : get_or x (width - 2) 0 ≤ 3
+      mark_here = leb-true (packet_in width x).mark 3 (and_left (leb (packet_in width x).mark 3) _ fits)
 
       -- and there is room for one more of each
       pub room_here : (jumps ≤ 61) × (restarts ≤ 61)
-      room_here = (omega (arith, c.few_jumps, next.one_less), omega (arith, c.few_restarts, next.one_less))
+      room_here = (omega (arith, c.few_jumps, next.1), omega (arith, c.few_restarts, next.1))
 
-      pub count_next : (a : Arrival) → a ≡ arrival state (packet width s at).wire (packet width s at).mark → sound (after a) ≡ true
-          → CountLeft (at + width) (after a) (jumps + jump a) (restarts + restart a)
+      pub count_next : (a : Arrival) → a ≡ arrival state (packet_in width x).wire (packet_in width x).mark → sound (after a) ≡ true
+          → CountLeft width s start t (after a) (jumps + jump a) (restarts + restart a)
       unfolding count_all
-      count_next a e g = record {
-        left = next.after;
-        fit = and_right (leb (packet width s at).mark 3) _ fits;
+      count_next a d g = record {
+        wide = c.wide;
+        k = next.0;
+        whole = next.2;
+        fit = and_right (leb (packet_in width x).mark 3) _ fits;
         good = g;
-        few_jumps = omega (arith, c.few_jumps, next.one_less, jump_le a);
-        few_restarts = omega (arith, c.few_restarts, next.one_less, restart_le a);
-        same = ap (λ (b : Arrival). count_all (rest width s (at + width) next.after) (after b) (jumps + jump b) (restarts + restart b)) e
-            ∙ ap (λ (ps : List Packet). count_all ps state jumps restarts) (sym next.is) ∙ c.same;
+        few_jumps = omega (arith, c.few_jumps, next.1, jump_le a);
+        few_restarts = omega (arith, c.few_restarts, next.1, restart_le a);
+        same = ap (λ (b : Arrival). count_all (packets width next.0 t) (after b) (jumps + jump b) (restarts + restart b)) d
+            ∙ ap (λ (ps : List Packet). count_all ps state jumps restarts) (sym is) ∙ c.same;
       }

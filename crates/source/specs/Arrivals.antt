@@ -1,5 +1,5 @@
 -- What one arrival does to a record (document 01, "Counting arrivals"). Marks: 0 not-ECT, 1 ECT(1), 2 ECT(0), 3 CE (RFC 3168).
-use Rattle.std.specs.Prelude.{ℕ, ◌+◌, ◌%◌, ◌^◌, Bool, false, cond, not, eqb, leb, ltb, ℤ, pos, ◌+ℤ◌, ◌-ℤ◌}
+use Rattle.std.specs.Prelude.{ℕ, ◌+◌, ◌%◌, ◌^◌, Bool, false, cond, not, eqb, leb, ltb, ℤ, pos, ◌+ℤ◌, ◌-ℤ◌, Option, Some, None}
 use Rattle.numbers.specs.Integers.{modulo}
 use Rattle.answers.specs.declared.Refusal.TheVariants.{Jump, Full, Malformed, Limits}
 use Rattle.format.specs.declared.Wire.{Wire}
@@ -8,8 +8,6 @@ use Rattle.source.specs.declared.History.{History}
 use Rattle.source.specs.declared.Source.{Source}
 use Rattle.source.specs.declared.Arrival.{Arrival}
 use Rattle.source.specs.declared.Arrival.TheVariants.{Accepted, Restarted, Refused}
-use Rattle.source.specs.declared.Remembered.{Remembered}
-use Rattle.source.specs.declared.Remembered.TheVariants.{Nothing, Number}
 use Rattle.source.specs.declared.distances.Reach.{Reach}
 use Rattle.source.specs.declared.distances.Reach.TheVariants as reach
 use Rattle.source.specs.Places.{bit, history, marks, moved, added}
@@ -30,7 +28,7 @@ counted s mark base highest duplicates past = record {
   ce = s.ce + bit (eqb mark 3);
   duplicates = duplicates;
   history = past;
-  remembered = Nothing;
+  remembered = None;
 }
 
 -- the first arrival sets base and highest to its wire number
@@ -54,9 +52,9 @@ distance highest wire = modulo 65536 (pos wire.0 -ℤ highest.0)
 -- ---- a jump (document 02, L5; RFC 3550, appendix A.1, where the remembered number is bad_seq)
 
 -- whether a wire number is the one that is remembered
-abbrev pub is_remembered : Remembered → Wire → Bool
-is_remembered Nothing wire = false
-is_remembered (Number number) wire = eqb wire.0 number.0
+abbrev pub is_remembered : Option Wire → Wire → Bool
+is_remembered None wire = false
+is_remembered (Some number) wire = eqb wire.0 number.0
 
 -- the wire number after this one
 abbrev pub next : Wire → Wire
@@ -73,7 +71,7 @@ remembering s number = record {
   ce = s.ce;
   duplicates = s.duplicates;
   history = s.history;
-  remembered = Number number;
+  remembered = Some number;
 }
 
 -- a jump that has the remembered number is a restart: all begins again, as at a first arrival, with it as the first; any other is 7, and the

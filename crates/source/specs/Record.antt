@@ -1,14 +1,12 @@
 -- The record of one source and when it is sound (document 01, "Counting arrivals"; 02, request L5).
-use Rattle.std.specs.Prelude.{ℕ, ◌+◌, ◌-◌, ◌*◌, ◌^◌, Bool, true, false, not, cond, ◌||◌, List, [], ◌∷◌, eqb, leb, ltb, ℤ, pos, ◌+ℤ◌, ◌-ℤ◌}
+use Rattle.format.specs.declared.Wire.{Wire}
+use Rattle.answers.specs.declared.Refusal.{Refusal}
+use Rattle.std.specs.Prelude.{ℕ, ◌+◌, ◌-◌, ◌*◌, ◌^◌, Bool, true, false, not, cond, ◌||◌, List, [], ◌∷◌, eqb, leb, ltb, ℤ, pos, ◌+ℤ◌, ◌-ℤ◌, Option, Some, None, Result, Ok, Err}
 use Rattle.std.specs.Int.Signed.{le_z}
 use Rattle.answers.specs.Conditions.{all}
 use Rattle.numbers.specs.Integers.{eq_z}
 use Rattle.answers.specs.declared.Refusal.TheVariants.{Malformed}
-use Rattle.source.specs.declared.Remembered.{Remembered}
-use Rattle.source.specs.declared.Remembered.TheVariants.{Nothing, Number}
 use Rattle.source.specs.declared.Source.{Source}
-use Rattle.source.specs.declared.Lost.{Lost}
-use Rattle.source.specs.declared.Lost.TheVariants.{Packets, Refused}
 use Rattle.source.specs.Places.{marks, places}
 use Rattle.source.specs.Distances.{most_ahead}
 
@@ -21,14 +19,14 @@ abbrev pub distinct : Source → ℕ
 distinct s = arrivals s - s.duplicates
 
 -- no number is remembered
-abbrev pub nothing : Remembered → Bool
-nothing Nothing = true
-nothing (Number wire) = false
+abbrev pub nothing : Option Wire → Bool
+nothing None = true
+nothing (Some wire) = false
 
 -- a number that is remembered has 16 bits
-abbrev pub wire_number : Remembered → Bool
-wire_number Nothing = true
-wire_number (Number wire) = ltb wire.0 65536
+abbrev pub wire_number : Option Wire → Bool
+wire_number None = true
+wire_number (Some wire) = ltb wire.0 65536
 
 -- all zero, and none remembered
 abbrev pub zeros : Source → List Bool
@@ -55,7 +53,7 @@ fresh_record = record {
   ce = 0;
   duplicates = 0;
   history = record { recent = 0; older = 0 };
-  remembered = Nothing;
+  remembered = None;
 }
 
 unfoldable pub fresh : Source → Bool
@@ -89,5 +87,5 @@ unfoldable pub lost : Source → ℤ
 lost s = cond (fresh s) (pos 0) (s.highest.0 -ℤ s.base.0 +ℤ pos 1 -ℤ pos (distinct s))
 
 -- what the call `lost` answers; 9 for a malformed record
-unfoldable pub lost_answer : Source → Lost
-lost_answer s = cond (not (sound s)) (Refused Malformed) (Packets (lost s))
+unfoldable pub lost_answer : Source → Result ℤ Refusal
+lost_answer s = cond (not (sound s)) (Err Malformed) (Ok (lost s))

@@ -5,7 +5,9 @@ ghost use Rattle.source.specs.Record.{sound};
 ghost use Rattle.source.specs.Arrivals.{after};
 ghost use Rattle.source.specs.Blocks.{packets, marks_fit, in_limits, jump, restart, count_all};
 
-use crate::{Arrival, BlockCount, Source, step_again};
+use crate::step::{MANY, step};
+use crate::{Arrival, BlockCount, Source};
+use answers::Refusal;
 use format::Wire;
 use format::block::{BEHIND_TIME, MOST_RECORDS};
 use numbers::big_endian::join16;
@@ -15,13 +17,10 @@ fn marks_fit(records: &[u8], width: usize) -> bool
     requires { (4 ≤ width) × (length records.now % width ≡ 0) }
     ensures { result ≡ marks_fit (packets width (length records.now / width) records.now) }
 {
-    let mut at: usize = 0;
-    while at < records.len() {
-        let place = at + width - 2;
-        if 3 < records[place] {
+    for record in records.chunks_exact(width) {
+        if 3 < record[width - 2] {
             return false;
         }
-        at += width;
     }
     true
 }
@@ -30,58 +29,35 @@ fn marks_fit(records: &[u8], width: usize) -> bool
 pub fn in_limits(records: &[u8], width: usize) -> bool
     ensures { result ≡ all (in_limits width records.now) }
 {
-    if width < BEHIND_TIME {
-        return false;
-    }
-    let rest = records.len() % width;
-    if 0 < rest {
-        return false;
-    }
-    let n = records.len() / width;
-    if n < 1 {
-        return false;
-    }
-    if MOST_RECORDS < n {
-        return false;
-    }
-    marks_fit(records, width)
+    BEHIND_TIME <= width
+        && records.len() % width == 0
+        && 1 <= records.len() / width
+        && records.len() / width <= MOST_RECORDS
+        && marks_fit(records, width)
 }
 
-// The record that an answer hands back.
-fn after(answer: Arrival) -> Source
-    ensures { result ≡ after answer }
-{
-    match answer {
-        Arrival::Accepted(s) => s,
-        Arrival::Restarted(s) => s,
-        Arrival::Refused(_, s) => s,
-    }
-}
-
-// 1 for refusal 7.
-fn jump(answer: Arrival) -> u64
-    ensures { result ≡ jump answer }
-{
-    match answer {
-        Arrival::Accepted(_) => 0,
-        Arrival::Restarted(_) => 0,
-        Arrival::Refused(refusal, _) => {
-            if refusal.number() == 7 {
-                return 1;
-            }
-            0
+impl Arrival {
+    // The record that an answer hands back.
+    fn after(self) -> Source
+        ensures { result ≡ after self }
+    {
+        match self {
+            Arrival::Accepted(s) | Arrival::Restarted(s) | Arrival::Refused(_, s) => s,
         }
     }
-}
 
-// 1 for a restart.
-fn restart(answer: Arrival) -> u64
-    ensures { result ≡ restart answer }
-{
-    match answer {
-        Arrival::Accepted(_) => 0,
-        Arrival::Restarted(_) => 1,
-        Arrival::Refused(_, _) => 0,
+    // 1 for refusal 7.
+    fn jump(self) -> u64
+        ensures { result ≡ jump self }
+    {
+        u64::from(matches!(self, Arrival::Refused(Refusal::Jump, _)))
+    }
+
+    // 1 for a restart.
+    fn restart(self) -> u64
+        ensures { result ≡ restart self }
+    {
+        u64::from(matches!(self, Arrival::Restarted(_)))
     }
 }
 
@@ -91,18 +67,15 @@ pub fn count(s: Source, records: &[u8], width: usize) -> BlockCount
     ensures { result ≡ count_all (packets width (length records.now / width) records.now) s 0 0 }
 {
     let mut next = s;
-    let mut jumps: u64 = 0;
-    let mut restarts: u64 = 0;
-    let mut at: usize = 0;
-    while at < records.len() {
-        let place = at + width - BEHIND_TIME;
-        let number = join16(records[place], records[place + 1]);
-        let mark = records[place + 2];
-        let answer = step_again::step(next, Wire(number), mark);
-        next = after(answer);
-        jumps += jump(answer);
-        restarts += restart(answer);
-        at += width;
+    let mut jumps = 0;
+    let mut restarts = 0;
+    for record in records.chunks_exact(width) {
+        // Its last four bytes: wire number (2), mark and a zero.
+        let wire = Wire(join16(record[width - 4], record[width - 3]));
+        let answer = step::<MANY>(next, wire, record[width - 2]);
+        next = answer.after();
+        jumps += answer.jump();
+        restarts += answer.restart();
     }
     BlockCount::Counted(next, jumps, restarts)
 }

@@ -8,11 +8,5 @@ use crate::Totals;
 pub fn raised(total: u64, more: u64) -> u64
     ensures { result ≡ min (total + more) most_told }
 {
-    if Totals::MOST < total {
-        return Totals::MOST;
-    }
-    if Totals::MOST - total < more {
-        return Totals::MOST;
-    }
-    total + more
+    total.saturating_add(more).min(Totals::MOST)
 }

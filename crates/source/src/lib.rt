@@ -18,7 +18,6 @@ mod restarts;
 mod sequence;
 mod soundness;
 mod step;
-mod step_again;
 
 use answers::Refusal;
 use format::Wire;
@@ -34,13 +33,6 @@ pub struct History {
     pub older: u64,
 }
 
-// The wire number that would follow the last jump, until an arrival is accepted (RFC 3550, appendix A.1: bad_seq).
-#[derive(Clone, Copy)]
-pub enum Remembered {
-    Nothing,
-    Number(Wire),
-}
-
 // What is counted of one source. Fresh, it is all zero and remembers nothing.
 #[derive(Clone, Copy)]
 pub struct Source {
@@ -52,11 +44,12 @@ pub struct Source {
     pub ce: u64,
     pub duplicates: u64,
     pub history: History,
-    pub remembered: Remembered,
+    pub remembered: Option<Wire>,
 }
 
 // The answer to an arrival: the next record; the record that begins again with it; or a refusal, with the record that was given, in which refusal 7
 // alone changes what is remembered.
+// (No Result: a refusal hands back the record too, as the contract `arrival` says.)
 #[derive(Clone, Copy)]
 pub enum Arrival {
     Accepted(Source),
@@ -65,7 +58,7 @@ pub enum Arrival {
 }
 
 // The answer to a block of arrivals: the next record, how many were refused as jumps, and how many restarts there were; or a refusal with the record
-// that was given.
+// that was given. (No Result: a refusal hands back the record too, as the contract `block_count` says.)
 #[derive(Clone, Copy)]
 pub enum BlockCount {
     Counted(Source, u64, u64),
@@ -78,13 +71,6 @@ pub struct Totals {
     pub source: Source,
     pub jumped: u64,
     pub restarts: u64,
-}
-
-// How many packets are lost, negative where packets from before the base came.
-#[derive(Clone, Copy)]
-pub enum Lost {
-    Packets(i64),
-    Refused(Refusal),
 }
 
 impl Source {
@@ -104,7 +90,7 @@ impl Source {
                 recent: 0,
                 older: 0,
             },
-            remembered: Remembered::Nothing,
+            remembered: None,
         }
     }
 
@@ -127,7 +113,7 @@ impl Source {
         if 3 < mark {
             return Arrival::Refused(Refusal::Limits, self);
         }
-        step::step(self, wire, mark)
+        step::step::<{ step::SINGLE }>(self, wire, mark)
     }
 
     // Counts one arrival, as `arrive` does: the call for a record that stands in a table.
@@ -141,7 +127,7 @@ impl Source {
         if 3 < mark {
             return Arrival::Refused(Refusal::Limits, self);
         }
-        step_again::step(self, wire, mark)
+        step::step::<{ step::MANY }>(self, wire, mark)
     }
 
     // Counts the arrivals of one block in order, going on after a jump and when full: `records` holds 1 to 62 records of `width` bytes, the
@@ -160,17 +146,17 @@ impl Source {
     }
 
     // The packets lost so far: highest - base + 1 - distinct, 0 in the fresh record. Refusal: 9 malformed record.
-    pub fn lost(self) -> Lost
+    pub fn lost(self) -> Result<i64, Refusal>
         ensures value { result ≡ lost_answer self }
         ensures numbered { lost_as result ≡ lost_as (lost_answer self) }
     {
         if !soundness::is_sound(self) {
-            return Lost::Refused(Refusal::Malformed);
+            return Err(Refusal::Malformed);
         }
         if soundness::is_fresh(self) {
-            return Lost::Packets(0);
+            return Ok(0);
         }
-        Lost::Packets(loss::packets(self))
+        Ok(loss::packets(self))
     }
 }
 
@@ -182,9 +168,8 @@ impl Totals {
     pub fn fresh() -> Totals
         ensures { result ≡ fresh_totals }
     {
-        let source = Source::fresh();
         Totals {
-            source,
+            source: Source::fresh(),
             jumped: 0,
             restarts: 0,
         }

@@ -9,12 +9,7 @@ pub fn packets(s: Source) -> i64
     requires { (fresh s ≡ false) × (has_counted s ≡ true) }
     ensures { result ≡ lost s }
 {
-    let base = s.base;
-    let highest = s.highest;
-    let span = sequence::natural(highest) - sequence::natural(base) + 1;
+    let span = sequence::natural(s.highest) - sequence::natural(s.base) + 1;
     let distinct = soundness::arrivals(s) - s.duplicates;
-    if distinct <= span {
-        return (span - distinct) as i64;
-    }
-    -((distinct - span) as i64)
+    span as i64 - distinct as i64
 }

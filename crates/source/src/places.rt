@@ -8,12 +8,11 @@ use crate::History;
 pub const OLDER: u64 = 0x10_0000_0000;
 
 // How many places are marked.
+#[tactic(auto, unfolding(crate::specs::Places::places))]
 fn count(h: History) -> u64
     ensures { result ≡ places h }
 {
-    let recent = u64::count_ones(h.recent) as u64;
-    let older = u64::count_ones(h.older) as u64;
-    recent + older
+    u64::from(h.recent.count_ones() + h.older.count_ones())
 }
 
 // Whether at most n places are marked.
@@ -44,8 +43,8 @@ pub fn with_mark(h: History, k: u64) -> History
         return near(h, 0, k);
     }
     History {
-        recent: h.recent,
         older: h.older | (1 << (k - 64)),
+        ..h
     }
 }
 

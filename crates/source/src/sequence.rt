@@ -34,9 +34,7 @@ pub fn distance(highest: Extended, wire: Wire) -> u64
     requires { T (non_neg highest.0) }
     ensures { result ≡ distance highest wire }
 {
-    let h = natural(highest);
-    let w = wire.0 as u64;
-    (w + 65536 - h % 65536) % 65536
+    (u64::from(wire.0) + 65536 - natural(highest) % 65536) % 65536
 }
 
 // The number d above e.
@@ -44,6 +42,5 @@ pub fn plus(e: Extended, d: u64) -> Extended
     requires { T (non_neg e.0) × (d < 65536) × (nat_abs e.0 < 2 ^ 62) }
     ensures { result ≡ extended (e.0 +ℤ pos d) }
 {
-    let h = natural(e);
-    Extended((h + d) as i64)
+    Extended((natural(e) + d) as i64)
 }

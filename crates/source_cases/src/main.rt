@@ -9,38 +9,35 @@
 // Any other line is a heading.
 #![tactic(auto)]
 
+use answers::Refusal;
 use cases::record;
-use source::{Arrival, BlockCount, Lost, Remembered, Source};
+use format::Wire;
+use source::{Arrival, BlockCount, Source};
 use std::io::Stdout;
 
 // The packets lost, "-" for a malformed record.
-fn show_lost(to: Stdout, lost: Lost) {
+fn show_lost(to: Stdout, lost: Result<i64, Refusal>) {
     match lost {
-        Lost::Packets(n) => show::signed(to, n),
-        Lost::Refused(_) => show::text(to, b" -"),
+        Ok(n) => show::signed(to, n),
+        Err(_) => show::text(to, b" -"),
     }
 }
 
 // 0 for none, else the number + 1.
-fn show_remembered(to: Stdout, remembered: Remembered) {
-    match remembered {
-        Remembered::Nothing => show::number(to, 0),
-        Remembered::Number(wire) => show::number(to, wire.0 as u64 + 1),
-    }
+fn show_remembered(to: Stdout, remembered: Option<Wire>) {
+    show::number(to, remembered.map_or(0, |wire| u64::from(wire.0) + 1));
 }
 
 // An answer's record, and the record.
 fn shown(to: Stdout, s: Source) -> Source {
-    let highest = s.highest;
-    let remembered = s.remembered;
-    show::signed(to, highest.0);
+    show::signed(to, s.highest.0);
     show::number(to, s.ect0);
     show::number(to, s.ect1);
     show::number(to, s.ce);
     show::number(to, s.notect);
     show_lost(to, s.lost());
     show::number(to, s.duplicates);
-    show_remembered(to, remembered);
+    show_remembered(to, s.remembered);
     s
 }
 
@@ -96,6 +93,7 @@ fn done(to: Stdout, s: Source, line: &[u8]) -> Source {
 fn run(to: Stdout, text: &[u8]) {
     let mut s = Source::fresh();
     let mut at = 0;
+    // A line's length is known only once it is read, by `cases::line`.
     while at < text.len() {
         let line = cases::line(text, at);
         show::text(to, line);

@@ -1,8 +1,8 @@
 -- The table behind a call: the rules are kept, the others keep their contents. Assumes nothing.
+use Rattle.std.specs.Prelude.{Option, Some, None}
 use mathlib.Core.Path.{◌≡◌, refl, sym, ap, ◌∙◌}
 use mathlib.Core.Bool.{Bool, true, false, cond, not, ◌&&◌}
 use mathlib.Core.List.{List, [], ◌∷◌, ◌++◌}
-use mathlib.Core.Option.{Option, none, some}
 use Prim.Native.Nat.{ℕ, suc, ◌+◌, ◌-◌, ◌/◌, ◌≤◌, ◌<◌}
 use native.Mathlib.Omega.{arith}
 use borrow.Author.Tests.{le-leb, ltb-false}
@@ -40,19 +40,19 @@ pub record Free (o : Bool) (ssrc : ℕ) (ps : List Place) : Type 0 where
   pub inside : o ≡ false
   pub room : (new_to ssrc ps && full ps) ≡ false
 
-pub free : (o : Bool) (ssrc : ℕ) (ps : List Place) → refusal o ssrc ps ≡ none → Free o ssrc ps
+pub free : (o : Bool) (ssrc : ℕ) (ps : List Place) → refusal o ssrc ps ≡ None → Free o ssrc ps
 unfolding refusal
 free o ssrc ps e = go (fault ps) refl o refl (new_to ssrc ps && full ps) refl e
   where
-    no : {r : Refusal} → ◌≡◌ {A = Option Refusal} (some r) none → ⊥
+    no : {r : Refusal} → ◌≡◌ {A = Option Refusal} (Some r) None → ⊥
     no e = let z : ◌≡◌ {A = ℕ} 0 1 = cc in omega arith
 
     go : (f : Option Refusal) → fault ps ≡ f → (b : Bool) → o ≡ b → (c : Bool) → (new_to ssrc ps && full ps) ≡ c
-        → or_else f (cond b (some Limits) (cond c (some Places) none)) ≡ none → Free o ssrc ps
-    go (some r) hf b hb c hc e = absurd (no e)
-    go none hf true hb c hc e = absurd (no e)
-    go none hf false hb true hc e = absurd (no e)
-    go none hf false hb false hc e = record { good = kept_of ps hf; inside = hb; room = hc }
+        → or_else f (cond b (Some Limits) (cond c (Some Places) None)) ≡ None → Free o ssrc ps
+    go (Some r) hf b hb c hc e = absurd (no e)
+    go None hf true hb c hc e = absurd (no e)
+    go None hf false hb true hc e = absurd (no e)
+    go None hf false hb false hc e = record { good = kept_of ps hf; inside = hb; room = hc }
 
 -- its place, put in
 module _ (ssrc : ℕ) (ps : List Place) (s : Source) (good : Kept ps) (some-counted : 1 ≤ arrivals s) (room : (new_to ssrc ps && full ps) ≡ false) where
@@ -96,17 +96,17 @@ pub arrival_keeps_rules : ArrivalKeepsRules
 unfolding arrive_places
 arrival_keeps_rules ps ssrc wire mark w e = go (refusal (ltb 3 mark) ssrc ps) refl
   where
-    go : (r : Option Refusal) → refusal (ltb 3 mark) ssrc ps ≡ r → fault (kept r ps (with_place (record { ssrc = ssrc; source = after (arrival (record_of ssrc ps) wire mark) }) ps)) ≡ none
-    go (some r) h = e
-    go none h = let k = next_kept ps ssrc wire mark w (free (ltb 3 mark) ssrc ps h) in fault_none _ k.ruled k.sounds
+    go : (r : Option Refusal) → refusal (ltb 3 mark) ssrc ps ≡ r → fault (kept r ps (with_place (record { ssrc = ssrc; source = after (arrival (record_of ssrc ps) wire mark) }) ps)) ≡ None
+    go (Some r) h = e
+    go None h = let k = next_kept ps ssrc wire mark w (free (ltb 3 mark) ssrc ps h) in fault_none _ k.ruled k.sounds
 
 -- the places behind a call that is not so refused
-pub arrive_is : (ps : List Place) (ssrc : ℕ) (wire : Wire) (mark : ℕ) → refusal (ltb 3 mark) ssrc ps ≡ none
+pub arrive_is : (ps : List Place) (ssrc : ℕ) (wire : Wire) (mark : ℕ) → refusal (ltb 3 mark) ssrc ps ≡ None
     → arrive_places ps ssrc wire mark ≡ with_place (record { ssrc = ssrc; source = after (arrival (record_of ssrc ps) wire mark) }) ps
 unfolding arrive_places
 arrive_is ps ssrc wire mark e = rw e
 
-pub arrive_held : (ps : List Place) (ssrc : ℕ) (wire : Wire) (mark : ℕ) → wire.0 < 65536 → refusal (ltb 3 mark) ssrc ps ≡ none
+pub arrive_held : (ps : List Place) (ssrc : ℕ) (wire : Wire) (mark : ℕ) → wire.0 < 65536 → refusal (ltb 3 mark) ssrc ps ≡ None
     → held_of (arrive_places ps ssrc wire mark) ≡ put (record { ssrc = ssrc; source = after (arrival (record_of ssrc ps) wire mark) }) (held_of ps)
 arrive_held ps ssrc wire mark w e =
     let f = free (ltb 3 mark) ssrc ps e in
@@ -173,6 +173,6 @@ unfolding count_places
 block_keeps_rules ps ssrc width bytes o e = go (refusal (outside width bytes) ssrc ps) refl
   where
     go : (r : Option Refusal) → refusal (outside width bytes) ssrc ps ≡ r
-        → fault (kept r ps (with_place (record { ssrc = ssrc; source = behind (block_count (record_of ssrc ps) width bytes) }) ps)) ≡ none
-    go (some r) h = e
-    go none h = let k = block_kept ps ssrc width bytes o (free (outside width bytes) ssrc ps h) in fault_none _ k.ruled k.sounds
+        → fault (kept r ps (with_place (record { ssrc = ssrc; source = behind (block_count (record_of ssrc ps) width bytes) }) ps)) ≡ None
+    go (Some r) h = e
+    go None h = let k = block_kept ps ssrc width bytes o (free (outside width bytes) ssrc ps h) in fault_none _ k.ruled k.sounds

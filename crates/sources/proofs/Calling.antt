@@ -1,8 +1,8 @@
 -- The calls of a table: what they do with what a walk over the places saw is what L1 says of those places. Assumes nothing.
+use Rattle.std.specs.Prelude.{Option, Some, None}
 use mathlib.Core.Path.{◌≡◌, refl, sym, ap, subst, ◌∙◌}
 use mathlib.Core.Bool.{Bool, true, false, cond, not, ◌&&◌, ◌||◌}
 use mathlib.Core.List.{List, [], ◌∷◌, ◌++◌, map}
-use mathlib.Core.Option.{Option, none, some}
 use Prim.Native.Nat.{ℕ, ◌+◌, ◌/◌, ◌≤◌}
 use native.Mathlib.Omega.{arith}
 use native.Mathlib.Nat.{zero-add}
@@ -69,10 +69,10 @@ module _ (ssrc : ℕ) (t : Table) where
   unfolding seen_in seen_from in_use
   over_is o = ap (λ (b : Bool). seen_from ssrc (seen_first t.count) 0 (take (cond b 0 t.count) t.places)) o
 
-  over_seen : over t ≡ true → fault_seen s ≡ some Rules
+  over_seen : over t ≡ true → fault_seen s ≡ Some Rules
   over_seen o =
       ap fault_seen (over_is o)
-      ∙ ap (λ (b : Bool). cond (not b) (some Rules) (cond (not true) (some Malformed) none)) (lt-leb t.count most_places (ltb-true most_places t.count o))
+      ∙ ap (λ (b : Bool). cond (not b) (Some Rules) (cond (not true) (Some Malformed) None)) (lt-leb t.count most_places (ltb-true most_places t.count o))
 
   module _ (o : over t ≡ false) where
     few_is : s ≡ seen_from ssrc (seen_first t.count) 0 (lent t)
@@ -105,7 +105,7 @@ module _ (ssrc : ℕ) (t : Table) where
 
     fault_seen_lem : fault_seen s ≡ fault (lent t)
     unfolding fault
-    fault_seen_lem = λ i. cond (not (ruled_seen i)) (some Rules) (cond (not (sound_seen i)) (some Malformed) none)
+    fault_seen_lem = λ i. cond (not (ruled_seen i)) (Some Rules) (cond (not (sound_seen i)) (Some Malformed) None)
 
     held_seen : s.held ≡ length (held_of (lent t))
     held_seen = ap (λ (u : Seen). u.held) few_is ∙ all_open.many ∙ zero-add (length (held_of (lent t)))
@@ -117,17 +117,17 @@ module _ (ssrc : ℕ) (t : Table) where
   unfolding checked_in fault_in
   checked_seen_lem = go (over t) refl
     where
-      go : (b : Bool) → over t ≡ b → checked_seen s ≡ checked_by (cond b (some Rules) (fault (lent t))) (length (held_of (lent t)))
+      go : (b : Bool) → over t ≡ b → checked_seen s ≡ checked_by (cond b (Some Rules) (fault (lent t))) (length (held_of (lent t)))
       go true o = ap (λ (f : Option Refusal). checked_by f s.held) (over_seen o)
       go false o = λ i. checked_by (fault_seen_lem o i) (held_seen o i)
 
   -- ---- if neither 16 nor 9 refuses it
 
-  module _ (o : over t ≡ false) (good : fault (lent t) ≡ none) (long : t.count ≤ length t.places) where
+  module _ (o : over t ≡ false) (good : fault (lent t) ≡ None) (long : t.count ≤ length t.places) where
     abbrev n : ℕ
     n = length (held_of (lent t))
 
-    is_good : fault_in t ≡ none
+    is_good : fault_in t ≡ None
     unfolding fault_in
     is_good = rw (o, good)
 
@@ -183,17 +183,17 @@ module _ (ssrc : ℕ) (t : Table) where
         go true = full_is
         go false = refl
 
-    -- 10 and 15, and none
+    -- 10 and 15, and None
     module _ (out : Bool) where
-      refused_limits : out ≡ true → refusal out ssrc (lent t) ≡ some Limits
+      refused_limits : out ≡ true → refusal out ssrc (lent t) ≡ Some Limits
       unfolding refusal
       refused_limits e = rw (good, e)
 
-      refused_places : out ≡ false → roomy s ≡ false → refusal out ssrc (lent t) ≡ some Places
+      refused_places : out ≡ false → roomy s ≡ false → refusal out ssrc (lent t) ≡ Some Places
       unfolding refusal
       refused_places e h = rw (good, e, seat, h)
 
-      refused_none : out ≡ false → roomy s ≡ true → refusal out ssrc (lent t) ≡ none
+      refused_none : out ≡ false → roomy s ≡ true → refusal out ssrc (lent t) ≡ None
       unfolding refusal
       refused_none e h = rw (good, e, seat, h)
 
@@ -255,15 +255,15 @@ module _ (ssrc : ℕ) (t : Table) (long : over t ≡ false → t.count ≤ lengt
   unfolding arrived_in
   arrived_over o = rw o
 
-  arrived_kept : over t ≡ false → {r : Refusal} → refusal (ltb 3 mark) ssrc (lent t) ≡ some r → record { table = t; answer = arrived.Refused r } ≡ arrived_in t ssrc wire mark
+  arrived_kept : over t ≡ false → {r : Refusal} → refusal (ltb 3 mark) ssrc (lent t) ≡ Some r → record { table = t; answer = arrived.Refused r } ≡ arrived_in t ssrc wire mark
   unfolding arrived_in arrive_answer arrive_places
   arrived_kept o {r} e = rw (o, e) (λ i. record { table = sym (same_table t) i; answer = arrived.Refused r })
 
-  fault_first : {r : Refusal} → fault (lent t) ≡ some r → refusal (ltb 3 mark) ssrc (lent t) ≡ some r
+  fault_first : {r : Refusal} → fault (lent t) ≡ Some r → refusal (ltb 3 mark) ssrc (lent t) ≡ Some r
   unfolding refusal
   fault_first e = rw e
 
-  module _ (o : over t ≡ false) (good : fault (lent t) ≡ none) where
+  module _ (o : over t ≡ false) (good : fault (lent t) ≡ None) where
     abbrev answered : Arriving
     answered = record {
       answer = told (arrival found_so.source wire mark);
@@ -287,7 +287,7 @@ module _ (ssrc : ℕ) (t : Table) (long : over t ≡ false → t.count ≤ lengt
               answer = told (arrival (source_seen_lem ssrc t o good (long o) i) wire mark);
             })
 
-    arrived_good : Arrives (arriving_by none found_so ssrc wire mark)
+    arrived_good : Arrives (arriving_by None found_so ssrc wire mark)
     unfolding arriving_by
     arrived_good = go (ltb 3 mark) refl (roomy found_so) refl
       where
@@ -299,7 +299,7 @@ module _ (ssrc : ℕ) (t : Table) (long : over t ≡ false → t.count ≤ lengt
   by_fault : (f : Option Refusal) → fault_seen found_so ≡ f → Arrives (arriving_by f found_so ssrc wire mark) → Arrives (arriving found_so ssrc wire mark)
   by_fault f e a = subst (λ (g : Option Refusal). Arrives (arriving_by g found_so ssrc wire mark)) (sym e) a
 
-  refused_by_lem : (r : Refusal) → Arrives (not_arriving r) → Arrives (arriving_by (some r) found_so ssrc wire mark)
+  refused_by_lem : (r : Refusal) → Arrives (not_arriving r) → Arrives (arriving_by (Some r) found_so ssrc wire mark)
   unfolding arriving_by
   refused_by_lem r a = a
 
@@ -307,11 +307,11 @@ module _ (ssrc : ℕ) (t : Table) (long : over t ≡ false → t.count ≤ lengt
   arrives = go (over t) refl
     where
       tests : over t ≡ false → (f : Option Refusal) → fault (lent t) ≡ f → Arrives (arriving found_so ssrc wire mark)
-      tests o (some r) e = by_fault (some r) (fault_seen_lem ssrc t o ∙ e) (refused_by_lem r (not_arrives r (arrived_kept o (fault_first e))))
-      tests o none e = by_fault none (fault_seen_lem ssrc t o ∙ e) (arrived_good o e)
+      tests o (Some r) e = by_fault (Some r) (fault_seen_lem ssrc t o ∙ e) (refused_by_lem r (not_arrives r (arrived_kept o (fault_first e))))
+      tests o None e = by_fault None (fault_seen_lem ssrc t o ∙ e) (arrived_good o e)
 
       go : (b : Bool) → over t ≡ b → Arrives (arriving found_so ssrc wire mark)
-      go true o = by_fault (some Rules) (over_seen ssrc t o) (refused_by_lem Rules (not_arrives Rules (arrived_over o)))
+      go true o = by_fault (Some Rules) (over_seen ssrc t o) (refused_by_lem Rules (not_arrives Rules (arrived_over o)))
       go false o = tests o (fault (lent t)) refl
 
 -- ---- a block
@@ -336,27 +336,27 @@ module _ (ssrc : ℕ) (t : Table) (long : over t ≡ false → t.count ≤ lengt
   unfolding counted_in
   counted_over o = rw o
 
-  counted_kept : over t ≡ false → {r : Refusal} → refusal (outside width bytes) ssrc (lent t) ≡ some r → record { table = t; answer = counted.Refused r } ≡ counted_in t ssrc width bytes
+  counted_kept : over t ≡ false → {r : Refusal} → refusal (outside width bytes) ssrc (lent t) ≡ Some r → record { table = t; answer = counted.Refused r } ≡ counted_in t ssrc width bytes
   unfolding counted_in count_answer count_places
   counted_kept o {r} e = rw (o, e) (λ i. record { table = sym (same_table t) i; answer = counted.Refused r })
 
-  block_first : {r : Refusal} → fault (lent t) ≡ some r → refusal (outside width bytes) ssrc (lent t) ≡ some r
+  block_first : {r : Refusal} → fault (lent t) ≡ Some r → refusal (outside width bytes) ssrc (lent t) ≡ Some r
   unfolding refusal
   block_first e = rw e
 
-  module _ (o : over t ≡ false) (good : fault (lent t) ≡ none) where
+  module _ (o : over t ≡ false) (good : fault (lent t) ≡ None) where
     abbrev own : BlockCount
     own = block_count seen_so.source width bytes
 
     -- a sound record's block is refused by 10 alone
-    out_is : {r : Refusal} {u : Source} → own ≡ block.Refused r u → refusal (outside width bytes) ssrc (lent t) ≡ some r
+    out_is : {r : Refusal} {u : Source} → own ≡ block.Refused r u → refusal (outside width bytes) ssrc (lent t) ≡ Some r
     unfolding block_count
     out_is {r} {u} e = go (outside width bytes) refl (rw (sound_source ssrc t o good (long o)) at e)
       where
         go : (b : Bool) → outside width bytes ≡ b
             → cond b (block.Refused Limits seen_so.source) (count_all (packets width (length bytes / width) bytes) seen_so.source 0 0) ≡ block.Refused r u
-            → refusal (outside width bytes) ssrc (lent t) ≡ some r
-        go true x e = let same : Limits ≡ r = cc in refused_limits ssrc t o good (long o) (outside width bytes) x ∙ ap some same
+            → refusal (outside width bytes) ssrc (lent t) ≡ Some r
+        go true x e = let same : Limits ≡ r = cc in refused_limits ssrc t o good (long o) (outside width bytes) x ∙ ap Some same
         go false x e = absurd (never_refused (packets width (length bytes / width) bytes) seen_so.source 0 0 e)
 
     inside : {source : Source} {jumps restarts : ℕ} → own ≡ block.Counted source jumps restarts → outside width bytes ≡ false
@@ -394,7 +394,7 @@ module _ (ssrc : ℕ) (t : Table) (long : over t ≡ false → t.count ≤ lengt
           go true eh = counted_put eh
           go false eh = not_counts Places (counted_kept o (refused_places ssrc t o good (long o) (outside width bytes) (inside e) eh))
 
-    counted_good : Counts (counting_by none seen_so ssrc width bytes)
+    counted_good : Counts (counting_by None seen_so ssrc width bytes)
     unfolding counting_by
     counted_good = go own refl
       where
@@ -405,7 +405,7 @@ module _ (ssrc : ℕ) (t : Table) (long : over t ≡ false → t.count ≤ lengt
   by_its_fault : (f : Option Refusal) → fault_seen seen_so ≡ f → Counts (counting_by f seen_so ssrc width bytes) → Counts (counting seen_so ssrc width bytes)
   by_its_fault f e a = subst (λ (g : Option Refusal). Counts (counting_by g seen_so ssrc width bytes)) (sym e) a
 
-  not_counted_by : (r : Refusal) → Counts (not_counting r) → Counts (counting_by (some r) seen_so ssrc width bytes)
+  not_counted_by : (r : Refusal) → Counts (not_counting r) → Counts (counting_by (Some r) seen_so ssrc width bytes)
   unfolding counting_by
   not_counted_by r a = a
 
@@ -413,9 +413,9 @@ module _ (ssrc : ℕ) (t : Table) (long : over t ≡ false → t.count ≤ lengt
   block_counts = go (over t) refl
     where
       tests : over t ≡ false → (f : Option Refusal) → fault (lent t) ≡ f → Counts (counting seen_so ssrc width bytes)
-      tests o (some r) e = by_its_fault (some r) (fault_seen_lem ssrc t o ∙ e) (not_counted_by r (not_counts r (counted_kept o (block_first e))))
-      tests o none e = by_its_fault none (fault_seen_lem ssrc t o ∙ e) (counted_good o e)
+      tests o (Some r) e = by_its_fault (Some r) (fault_seen_lem ssrc t o ∙ e) (not_counted_by r (not_counts r (counted_kept o (block_first e))))
+      tests o None e = by_its_fault None (fault_seen_lem ssrc t o ∙ e) (counted_good o e)
 
       go : (b : Bool) → over t ≡ b → Counts (counting seen_so ssrc width bytes)
-      go true o = by_its_fault (some Rules) (over_seen ssrc t o) (not_counted_by Rules (not_counts Rules (counted_over o)))
+      go true o = by_its_fault (Some Rules) (over_seen ssrc t o) (not_counted_by Rules (not_counts Rules (counted_over o)))
       go false o = tests o (fault (lent t)) refl

@@ -1,8 +1,8 @@
 -- What the check of a table decides, and what a table that passes it has. Assumes nothing.
+use Rattle.std.specs.Prelude.{Option, Some, None, Ok, Err}
 use mathlib.Core.Path.{◌≡◌, refl, sym, ap, ◌∙◌}
 use mathlib.Core.Bool.{Bool, true, false, cond, not}
 use mathlib.Core.List.{List, map}
-use mathlib.Core.Option.{Option, none, some}
 use Prim.Native.Nat.{ℕ, ◌≤◌}
 use native.Mathlib.Omega.{arith}
 use borrow.Author.Tests.{ltb-false}
@@ -13,7 +13,6 @@ use Rattle.answers.specs.declared.Refusal.TheVariants.{Malformed, Rules}
 use Rattle.answers.proofs.Conditions.{all_false, all_true}
 use Rattle.sources.specs.declared.Place.{Place}
 use Rattle.sources.specs.declared.Table.{Table}
-use Rattle.sources.specs.declared.Checked.TheVariants.{Held, Refused}
 use Rattle.sources.specs.Places.{empty, sound_place, held_of, rest_of}
 use Rattle.sources.specs.Rules.{most_places, rising, rules, all_sound, fault}
 use Rattle.sources.specs.Tables.{lent, over, fault_in}
@@ -24,11 +23,11 @@ use Rattle.sources.proofs.Fronts.{few_held, held_first}
 
 module _ (ps : List Place) where
   -- a rule that fails is 16
-  pub fault_rule : (i : ℕ) → get_or (rules ps) i true ≡ false → fault ps ≡ some Rules
+  pub fault_rule : (i : ℕ) → get_or (rules ps) i true ≡ false → fault ps ≡ Some Rules
   unfolding fault
   fault_rule i e = rw (sym (all_false (rules ps) i e))
 
-  pub fault_none : all (rules ps) ≡ true → all_sound ps ≡ true → fault ps ≡ none
+  pub fault_none : all (rules ps) ≡ true → all_sound ps ≡ true → fault ps ≡ None
   unfolding fault
   fault_none r e = rw (r, e)
 
@@ -37,12 +36,12 @@ module _ (ps : List Place) where
     pub ruled : all (rules ps) ≡ true
     pub sounds : all_sound ps ≡ true
 
-  pub kept : fault ps ≡ none → Kept
+  pub kept : fault ps ≡ None → Kept
   unfolding fault
   kept e = go (all (rules ps)) refl (all_sound ps) refl e
     where
       go : (a : Bool) → all (rules ps) ≡ a → (b : Bool) → all_sound ps ≡ b
-          → cond (not a) (some Rules) (cond (not b) (some Malformed) none) ≡ none → Kept
+          → cond (not a) (Some Rules) (cond (not b) (Some Malformed) None) ≡ None → Kept
       go true ra true rb e = record { ruled = ra; sounds = rb }
       go true ra false rb e = let z : ◌≡◌ {A = ℕ} 0 1 = cc in absurd (omega arith)
       go false ra b rb e = let z : ◌≡◌ {A = ℕ} 0 1 = cc in absurd (omega arith)
@@ -56,35 +55,35 @@ module _ (ps : List Place) where
 
 -- ---- what a check tells
 
-pub by_refused : {refusal : Refusal} (f : Option Refusal) (n : ℕ) → Refused refusal ≡ checked_by f n → f ≡ some refusal
-by_refused (some r) n e = cc
-by_refused none n e = let z : ◌≡◌ {A = ℕ} 0 1 = cc in absurd (omega arith)
+pub by_refused : {refusal : Refusal} (f : Option Refusal) (n : ℕ) → Err refusal ≡ checked_by f n → f ≡ Some refusal
+by_refused (Some r) n e = cc
+by_refused None n e = let z : ◌≡◌ {A = ℕ} 0 1 = cc in absurd (omega arith)
 
-pub by_held : {m : ℕ} (f : Option Refusal) (n : ℕ) → Held m ≡ checked_by f n → f ≡ none
-by_held (some r) n e = let z : ◌≡◌ {A = ℕ} 0 1 = cc in absurd (omega arith)
-by_held none n e = refl
+pub by_held : {m : ℕ} (f : Option Refusal) (n : ℕ) → Ok m ≡ checked_by f n → f ≡ None
+by_held (Some r) n e = let z : ◌≡◌ {A = ℕ} 0 1 = cc in absurd (omega arith)
+by_held None n e = refl
 
 -- ---- a table by value
 
 module _ (t : Table) where
   -- what the check tells
-  pub told_refused : {refusal : Refusal} → Refused refusal ≡ checked_in t → fault_in t ≡ some refusal
+  pub told_refused : {refusal : Refusal} → Err refusal ≡ checked_in t → fault_in t ≡ Some refusal
   unfolding checked_in
   told_refused e = by_refused (fault_in t) (length (held_of (lent t))) e
 
-  pub told_held : {n : ℕ} → Held n ≡ checked_in t → Good t n
+  pub told_held : {n : ℕ} → Ok n ≡ checked_in t → Good t n
   unfolding checked_in
   told_held {n} e = go (fault_in t) refl e
     where
-      go : (f : Option Refusal) → fault_in t ≡ f → Held n ≡ checked_by f (length (held_of (lent t))) → Good t n
-      go (some r) g e = let z : ◌≡◌ {A = ℕ} 0 1 = cc in absurd (omega arith)
-      go none g e = record { kept = g; count = cc }
+      go : (f : Option Refusal) → fault_in t ≡ f → Ok n ≡ checked_by f (length (held_of (lent t))) → Good t n
+      go (Some r) g e = let z : ◌≡◌ {A = ℕ} 0 1 = cc in absurd (omega arith)
+      go None g e = record { kept = g; count = cc }
 
 -- ---- what a good table has
 
 pub record Passed (t : Table) (n : ℕ) : Type 0 where
   pub few : t.count ≤ most_places
-  pub kept : fault (lent t) ≡ none
+  pub kept : fault (lent t) ≡ None
   pub most : n ≤ t.count
   pub first : held_of (lent t) ≡ take n t.places
   pub rises : rising 0 (take n t.places) ≡ true
@@ -94,7 +93,7 @@ pub passed : (t : Table) (n : ℕ) → Good t n → Passed t n
 unfolding fault_in
 passed t n good = go (over t) refl good.kept
   where
-    go : (b : Bool) → over t ≡ b → cond b (some Rules) (fault (lent t)) ≡ none → Passed t n
+    go : (b : Bool) → over t ≡ b → cond b (Some Rules) (fault (lent t)) ≡ None → Passed t n
     go true o e = let z : ◌≡◌ {A = ℕ} 0 1 = cc in absurd (omega arith)
     go false o e =
         let k = kept (lent t) e in

@@ -1,4 +1,6 @@
 -- The compound of a table as its writer stores it. Assumes nothing.
+use Rattle.std.specs.Prelude.{Result}
+use Rattle.answers.specs.declared.Unwritten.{Unwritten}
 use mathlib.Core.Path.{◌≡◌, refl, sym, ap, ◌∙◌}
 use mathlib.Core.Bool.{true, ◌&&◌}
 use mathlib.Core.List.{List, [], ◌∷◌, ◌++◌, map, append-nil, append_assoc}
@@ -9,7 +11,6 @@ use borrow.Rule.Slice.PartMut.{mid_of, post_of, put_mid}
 use lib.ListN.{length, get_or, take, drop, length-append, length-drop, drop_of_length-le}
 use lib.Seq.{sets, sets-eq, take_all, drop-drop}
 use Rattle.answers.specs.Conditions.{all}
-use Rattle.answers.specs.declared.Written.{Written}
 use Rattle.answers.specs.Writers.{stored, Wrote}
 use Rattle.answers.proofs.Conditions.{and_left, and_right}
 use Rattle.answers.proofs.Stores.{sets-append, sets-step}
@@ -79,7 +80,7 @@ module _ (s : Source) (sender media at : ℕ) (old : List ℕ) (good : sound s �
   end_is : post_of at (length old - at) old ≡ []
   end_is = drop_of_length-le (drop at old) {i = length old - at} (rw (length-drop at old) (omega arith))
 
-  pub feedback_stored : {answer : Written} {ys : List ℕ} → Wrote (fault s) new part answer ys → put_mid at (length old - at) old ys ≡ sets old at new
+  pub feedback_stored : {answer : Result ℕ Unwritten} {ys : List ℕ} → Wrote (fault s) new part answer ys → put_mid at (length old - at) old ys ≡ sets old at new
   unfolding stored
   feedback_stored {ys = ys} w =
       let l = feedback_long sender media s in

@@ -1,7 +1,7 @@
 -- What the end of a run prints is no longer than 16 of the longest rows. Assumes nothing.
+use Rattle.std.specs.Prelude.{Option, Some, None}
 use mathlib.Core.Path.{◌≡◌, refl, ap}
 use mathlib.Core.List.{List, [], ◌∷◌}
-use mathlib.Core.Option.{Option, none, some}
 use Prim.Native.Nat.{ℕ, zero, suc, ◌+◌, ◌*◌, ◌^◌, ◌≤◌, ◌<◌}
 use native.Mathlib.Omega.{arith}
 use lib.ListN.{length, get_or, drop, length-append}
@@ -12,7 +12,6 @@ use Rattle.table.specs.Lines.{refused_line}
 use Rattle.table.specs.Theorems.{row_most}
 use Rattle.table.proofs.RefusedLines.{refused_fits}
 use Rattle.walk.specs.Machines.{ending_by}
-use Rattle.walk.specs.Endings.{refusal_in}
 use Rattle.sources.specs.declared.Place.{Place}
 use Rattle.sources.specs.declared.runs.Run.{Run}
 use Rattle.sources.specs.Places.{empty_place, held_of}
@@ -71,9 +70,9 @@ line_few r block h = let l = refused_fits (number_of r) block (number_few r) h i
 
 pub end_has_room : EndHasRoom
 unfolding end_of
-end_has_room p zeroth rest small narrow e = go (refusal_in p.ended) rest e
+end_has_room p zeroth rest small narrow e = go p.ended rest e
   where
-    go : (o : Option Refusal) (rest : List ℕ) → end_fault p zeroth o rest ≡ none → length (closing (record { run = p.run; zeroth = zeroth }) (ending_by p.block o rest)).out ≤ 16 * row_most
-    go none [] e = all_long p.run zeroth (length (held_of (lent p.run.table))) (record { good = e; count = refl }) narrow
-    go none (c ∷ rest) e = line_few Incomplete p.block small
-    go (some refusal) rest e = line_few refusal p.block small
+    go : (o : Option Refusal) (rest : List ℕ) → end_fault p zeroth o rest ≡ None → length (closing (record { run = p.run; zeroth = zeroth }) (ending_by p.block o rest)).out ≤ 16 * row_most
+    go None [] e = all_long p.run zeroth (length (held_of (lent p.run.table))) (record { good = e; count = refl }) narrow
+    go None (c ∷ rest) e = line_few Incomplete p.block small
+    go (Some refusal) rest e = line_few refusal p.block small

@@ -1,8 +1,8 @@
 -- Laws of places that rise, and of what is found in them. Assumes nothing.
+use Rattle.std.specs.Prelude.{None}
 use mathlib.Core.Path.{◌≡◌, refl}
 use mathlib.Core.Bool.{true}
 use mathlib.Core.List.{List, [], ◌∷◌}
-use mathlib.Core.Option.{none}
 use Prim.Native.Nat.{ℕ, ◌+◌, ◌≤◌, ◌<◌}
 use native.Mathlib.Omega.{arith}
 use borrow.Author.Tests.{leb-true, ne_eqb}
@@ -24,7 +24,7 @@ module _ (least : ℕ) (p : Place) (ps : List Place) (r : rising least (p ∷ ps
   rising_rest = and_right (leb least p.ssrc) (rising (p.ssrc + 1) ps) r
 
 -- an SSRC below the least is not found
-pub below_none : (ssrc least : ℕ) (ps : List Place) → ssrc < least → rising least ps ≡ true → found ssrc ps ≡ none
+pub below_none : (ssrc least : ℕ) (ps : List Place) → ssrc < least → rising least ps ≡ true → found ssrc ps ≡ None
 unfolding found
 below_none ssrc least [] h r = refl
 below_none ssrc least (p ∷ ps) h r =

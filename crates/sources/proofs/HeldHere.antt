@@ -1,8 +1,8 @@
 -- A block of a source that has a place is counted where that stands. Assumes nothing.
+use Rattle.std.specs.Prelude.{Some, None}
 use mathlib.Core.Path.{◌≡◌, refl, sym, ap, ◌∙◌}
 use mathlib.Core.Bool.{Bool, true, false, cond, false≢true}
 use mathlib.Core.List.{List, [], ◌∷◌, ◌++◌, map}
-use mathlib.Core.Option.{none, some}
 use Prim.Native.Nat.{ℕ, zero, suc, ◌+◌, ◌/◌, ◌≤◌, ◌<◌}
 use native.Mathlib.Omega.{arith}
 use borrow.Author.Tests.{lt-ltb, le-ltb, eq-eqb, ne_eqb}
@@ -79,7 +79,7 @@ not_below least (p ∷ ps) (suc i) r h =
 
 record StandsThere (ps : List Place) (i : ℕ) : Type 0 where
   stands : stands_at (get_or ps i empty_place).ssrc ps ≡ i
-  is : found (get_or ps i empty_place).ssrc ps ≡ some (get_or ps i empty_place).source
+  is : found (get_or ps i empty_place).ssrc ps ≡ Some (get_or ps i empty_place).source
 
 stands_there : (least : ℕ) (ps : List Place) (i : ℕ) → rising least ps ≡ true → i < length ps → StandsThere ps i
 unfolding stands_at found
@@ -103,7 +103,7 @@ within s w bytes {u} {j} {r} g e = go (outside w bytes) (rw g at e)
     go true e = let z : ◌≡◌ {A = ℕ} 0 1 = cc in absurd (omega arith)
     go false e = refl
 
-module _ (ps : List Place) (good : fault ps ≡ none) (i : ℕ) (is : held (get_or ps i empty_place) ≡ true) where
+module _ (ps : List Place) (good : fault ps ≡ None) (i : ℕ) (is : held (get_or ps i empty_place) ≡ true) where
   abbrev here : Place
   here = get_or ps i empty_place
 
@@ -125,8 +125,8 @@ module _ (ps : List Place) (good : fault ps ≡ none) (i : ℕ) (is : held (get_
   stands : stands_at ssrc (held_of ps) ≡ i
   stands = ap (λ (p : Place). stands_at p.ssrc (held_of ps)) (sym front.same) ∙ there.stands
 
-  is_found : found ssrc (held_of ps) ≡ some here.source
-  is_found = ap (λ (p : Place). found p.ssrc (held_of ps)) (sym front.same) ∙ there.is ∙ ap (λ (p : Place). some p.source) front.same
+  is_found : found ssrc (held_of ps) ≡ Some here.source
+  is_found = ap (λ (p : Place). found p.ssrc (held_of ps)) (sym front.same) ∙ there.is ∙ ap (λ (p : Place). Some p.source) front.same
 
   record_is : record_of ssrc ps ≡ here.source
   record_is = ap record_in is_found
@@ -150,7 +150,7 @@ module _ (ps : List Place) (good : fault ps ≡ none) (i : ℕ) (is : held (get_
     sound_here : sound here.source ≡ true
     sound_here = ap sound (sym record_is) ∙ record_sound ssrc ps k
 
-    free : refusal (outside w bytes) ssrc ps ≡ none
+    free : refusal (outside w bytes) ssrc ps ≡ None
     unfolding refusal
     free = rw (good, within here.source w bytes sound_here counts, known)
 
@@ -184,10 +184,10 @@ module _ (run : Run) (g : GoodRun run) (long : length run.table.places ≡ 16) w
   pub none_beyond : drop t.count t.places ≡ []
   none_beyond = drop_of_length-le t.places {i = t.count} (omega (arith, long, g.count))
 
-  pub table_good : fault (lent t) ≡ none
+  pub table_good : fault (lent t) ≡ None
   table_good = (passed t _ (record { kept = g.table; count = refl })).kept
 
-  places_good : fault t.places ≡ none
+  places_good : fault t.places ≡ None
   places_good = ap fault (sym all_lent) ∙ table_good
 
   module _ (b : List ℕ) (i : ℕ) {place : Place} {tally : Tally} (r : IsRenewed run.form (get_or t.places i empty_place) (get_or run.tallies i no_tally) b place tally) where

@@ -1,7 +1,7 @@
 -- The loop over the blocks of known sources, and what it gives to the loop over all blocks of a piece. Assumes nothing.
+use Rattle.std.specs.Prelude.{Some, None}
 use mathlib.Core.Path.{◌≡◌, refl, sym, ap, ◌∙◌}
 use mathlib.Core.List.{List, []}
-use mathlib.Core.Option.{none, some}
 use Prim.Native.Nat.{ℕ, ◌+◌, ◌-◌, ◌≤◌, ◌<◌}
 use native.Mathlib.Omega.{arith}
 use lib.ListN.{length, get_or, set, take, drop}
@@ -12,7 +12,6 @@ use Rattle.numbers.proofs.Octets.{octets_take, octets_drop}
 use Rattle.format.specs.Blocks.{block_bytes}
 use Rattle.walk.specs.Programs.{nothing}
 use Rattle.walk.specs.Steps.{goes, refuses}
-use Rattle.walk.specs.declared.Ended.TheVariants as ended
 use Rattle.walk.proofs.Loops.{Going, going_first, going_last, going_taken, going_refused}
 use Rattle.sources.specs.declared.Place.{Place}
 use Rattle.sources.specs.declared.runs.Tally.{Tally}
@@ -64,11 +63,11 @@ pub record Taking (start : Run) (piece : List ℕ) (run : Run) (at : ℕ) : Type
 pub taking_first : {start : Run} {piece : List ℕ} → Whole start → Taking start piece start 0
 taking_first {start} {piece} w = record { whole = w; within = omega arith; going = λ first zeroth old. going_first ecnstreams first piece old (kept start zeroth) }
 
-turn_goes : (i : ℕ) (run : Run) (zeroth b : List ℕ) {next : Run} → next_of run b ≡ goes next → ecnstreams.step i (kept run zeroth) b ≡ record { state = kept next zeroth; printed = nothing; refusal = none }
+turn_goes : (i : ℕ) (run : Run) (zeroth b : List ℕ) {next : Run} → next_of run b ≡ goes next → ecnstreams.step i (kept run zeroth) b ≡ record { state = kept next zeroth; printed = nothing; refusal = None }
 turn_goes i run zeroth b e = ap (taken (kept run zeroth)) e
 
 turn_refuses : (i : ℕ) (run : Run) (zeroth b : List ℕ) {refusal : Refusal} → next_of run b ≡ refuses refusal
-    → ecnstreams.step i (kept run zeroth) b ≡ record { state = kept run zeroth; printed = nothing; refusal = some refusal }
+    → ecnstreams.step i (kept run zeroth) b ≡ record { state = kept run zeroth; printed = nothing; refusal = Some refusal }
 turn_refuses i run zeroth b e = ap (taken (kept run zeroth)) e
 
 none_set : (old : List ℕ) → old ≡ sets old 0 []
@@ -90,7 +89,7 @@ module _ {start : Run} {piece : List ℕ} (o : Octets piece) where
   taking_onward t (then run next at on h e) = one_more_lem (taking_onward t on) h e
 
   module _ {run : Run} {at : ℕ} (t : Taking start piece run at) where
-    pub taking_last : length piece - at < block_bytes → TakesWhole start piece run at ended.Going
+    pub taking_last : length piece - at < block_bytes → TakesWhole start piece run at None
     taking_last h first zeroth old = going_last ecnstreams first piece old (kept start zeroth) (t.going first zeroth old) (omega (arith, h, t.within))
 
     module _ (h : block_bytes ≤ length piece - at) where
@@ -103,7 +102,7 @@ module _ {start : Run} {piece : List ℕ} (o : Octets piece) where
       pub taking_more : {next : Run} → next_of run (take (at + block_bytes - at) (drop at piece)) ≡ goes next → Taking start piece next (at + block_bytes)
       taking_more e = one_more_lem t inside (sym (ap (next_of run) same) ∙ e)
 
-      pub taking_refused : {refusal : Refusal} → next_of run (take (at + block_bytes - at) (drop at piece)) ≡ refuses refusal → TakesWhole start piece run at (ended.Refused refusal)
+      pub taking_refused : {refusal : Refusal} → next_of run (take (at + block_bytes - at) (drop at piece)) ≡ refuses refusal → TakesWhole start piece run at (Some refusal)
       taking_refused {refusal} e first zeroth old =
           going_refused ecnstreams first piece old (kept start zeroth) (t.going first zeroth old) inside refusal
           (turn_refuses (first + (t.going first zeroth old).done) run zeroth (take block_bytes (drop at piece)) (sym (ap (next_of run) same) ∙ e))

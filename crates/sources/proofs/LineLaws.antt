@@ -1,8 +1,8 @@
 -- Laws of the lines of a run and of their rows. Assumes nothing.
+use Rattle.std.specs.Prelude.{None}
 use mathlib.Core.Path.{◌≡◌, refl, sym, ap, ◌∙◌}
 use mathlib.Core.Bool.{true}
 use mathlib.Core.List.{List, [], ◌∷◌, ◌++◌, map}
-use mathlib.Core.Option.{none}
 use Prim.Native.Nat.{ℕ, zero, suc, ◌+◌, ◌^◌, ◌≤◌, ◌<◌}
 use native.Mathlib.Numerals.{add-one}
 use native.Mathlib.Omega.{arith}
@@ -118,7 +118,7 @@ module _ (run : Run) (zeroth : List ℕ) (n : ℕ) (j : Judged run zeroth n) whe
         sym (ap (λ (q : Place). sound_place q) (get_or-take n run.table.places i empty_place h))
         ∙ all_at (take n run.table.places) i know.sounds (omega (arith, ap length know.first, j.count))
 
-    pub not_refused : table.row_fault (label_of run zeroth) totals ≡ none
+    pub not_refused : table.row_fault (label_of run zeroth) totals ≡ None
     not_refused =
         fault_none (label_of run zeroth) totals its_record own.label
         (leb-true t.jumped most_told (and_left (leb t.jumped most_told) (leb t.restarts most_told) its_tally))

@@ -1,8 +1,9 @@
 -- What a call on a table by value says of the slice that the table was taken from. Assumes nothing.
+use Rattle.std.specs.Prelude.{Option, Some, None, Result}
+use Rattle.answers.specs.declared.Unwritten.{Unwritten}
 use mathlib.Core.Path.{◌≡◌, refl, sym, ap, ◌∙◌}
 use mathlib.Core.Bool.{Bool, true, false, cond}
 use mathlib.Core.List.{List, [], ◌∷◌, ◌++◌}
-use mathlib.Core.Option.{Option, none, some}
 use Prim.Native.Nat.{ℕ, suc, ◌≤◌}
 use native.Mathlib.Omega.{arith}
 use borrow.Author.Tests.{ltb-true, lt-leb}
@@ -11,7 +12,6 @@ use lib.ListN.{length, drop, length-append, length-take}
 use lib.Seq.{take_at}
 use Rattle.answers.specs.declared.Refusal.{Refusal}
 use Rattle.answers.specs.declared.Refusal.TheVariants.{Rules}
-use Rattle.answers.specs.declared.Written.{Written}
 use Rattle.answers.specs.Writers.{written, stored as storedBy, Wrote}
 use Rattle.answers.proofs.Stores.{wrote_same}
 use Rattle.format.specs.declared.Wire.{Wire}
@@ -49,8 +49,8 @@ with_long p ps =
     ∙ omega (arith, length-append (put p (held_of ps)) (rest_of ps), length-append (held_of ps) (rest_of ps), all)
 
 kept_long : (r : Option Refusal) (p : Place) (ps : List Place) → length (kept r ps (with_place p ps)) ≡ length ps
-kept_long (some refusal) p ps = refl
-kept_long none p ps = with_long p ps
+kept_long (Some refusal) p ps = refl
+kept_long None p ps = with_long p ps
 
 pub arrive_long : (ps : List Place) (ssrc : ℕ) (wire : Wire) (mark : ℕ) → length (arrive_places ps ssrc wire mark) ≡ length ps
 unfolding arrive_places
@@ -75,7 +75,7 @@ module _ (ps : List Place) where
     over_loaded : over (loaded ps) ≡ true
     over_loaded = ap (ltb most_places) loaded_count ∙ o
 
-    pub over_fault : fault ps ≡ some Rules
+    pub over_fault : fault ps ≡ Some Rules
     over_fault = fault_rule ps 0 (lt-leb (length ps) most_places (ltb-true most_places (length ps) o))
 
   module _ (o : ltb most_places (length ps) ≡ false) where
@@ -161,11 +161,11 @@ module _ (ps : List Place) (ssrc width : ℕ) (bytes : List ℕ) where
 -- ---- the compound
 
 -- where the values are refused, the bytes do not matter
-refused_any : (r : Refusal) (new bytes old : List ℕ) {answer : Written} {out : List ℕ} → Wrote (some r) new old answer out → Wrote (some r) bytes old answer out
+refused_any : (r : Refusal) (new bytes old : List ℕ) {answer : Result ℕ Unwritten} {out : List ℕ} → Wrote (Some r) new old answer out → Wrote (Some r) bytes old answer out
 unfolding written storedBy
 refused_any r new bytes old w = record { answers = w.answers; stores = w.stores }
 
-module _ (ps : List Place) (sender : ℕ) (old : List ℕ) {answer : Written} {out : List ℕ} where
+module _ (ps : List Place) (sender : ℕ) (old : List ℕ) {answer : Result ℕ Unwritten} {out : List ℕ} where
   compound_over : ltb most_places (length ps) ≡ true → Wrote (fault_in (loaded ps)) (compound_bytes sender (lent (loaded ps))) old answer out
       → Wrote (fault ps) (compound_bytes sender ps) old answer out
   unfolding fault_in

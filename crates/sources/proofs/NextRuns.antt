@@ -1,8 +1,8 @@
 -- A run that a block brings is good where the run before it is; and so is the one that block 0 starts. Assumes nothing.
+use Rattle.std.specs.Prelude.{None, Result, Ok, Err}
 use mathlib.Core.Path.{◌≡◌, refl, sym, ap, ◌∙◌, subst}
 use mathlib.Core.Bool.{Bool, true, false, cond}
 use mathlib.Core.List.{List, ◌++◌}
-use mathlib.Core.Option.{none}
 use Prim.Native.Nat.{ℕ, ◌*◌, ◌≤◌}
 use native.Mathlib.Omega.{arith}
 use borrow.Author.Tests.{eq-eqb}
@@ -80,7 +80,7 @@ module _ (run : Run) (w : Whole run) (n ssrc : ℕ) (b : List ℕ) (o : Octets b
   after_long : length after.places ≡ 16
   after_long = omega (arith, length-append ps (drop t.count t.places), ps_long, length-drop t.count t.places, w.long, w.good.count)
 
-  after_good : fault_in after ≡ none
+  after_good : fault_in after ≡ None
   unfolding fault_in
   after_good = rw (not_over run w.good w.long, after_lent) (block_keeps_rules (lent t) ssrc wide bytes bytes_octets (table_good run w.good w.long))
 
@@ -118,10 +118,10 @@ next_whole run b next o w e = go (block_of b) e
     of_form true n ssrc e = run_whole run w n ssrc b o e
     of_form false n ssrc e = no e
 
-    go : (r : Block) → next_by run b r ≡ goes next → Whole next
-    go (read.Arrivals form n ssrc) e = of_form (same_form form run.form) n ssrc e
-    go (read.Label form n ssrc) e = no e
-    go (read.Refused refusal) e = no e
+    go : (r : Result Block Refusal) → next_by run b r ≡ goes next → Whole next
+    go (Ok (read.Arrivals form n ssrc)) e = of_form (same_form form run.form) n ssrc e
+    go (Ok (read.Label form n ssrc)) e = no e
+    go (Err refusal) e = no e
 
 -- form and length stay
 pub record SameLabel (run next : Run) : Type 0 where
@@ -147,10 +147,10 @@ next_label run b next e = go (block_of b) e
         counted_label run t.table t.answer e
     of_form false n ssrc e = no e
 
-    go : (r : Block) → next_by run b r ≡ goes next → SameLabel run next
-    go (read.Arrivals form n ssrc) e = of_form (same_form form run.form) n ssrc e
-    go (read.Label form n ssrc) e = no e
-    go (read.Refused refusal) e = no e
+    go : (r : Result Block Refusal) → next_by run b r ≡ goes next → SameLabel run next
+    go (Ok (read.Arrivals form n ssrc)) e = of_form (same_form form run.form) n ssrc e
+    go (Ok (read.Label form n ssrc)) e = no e
+    go (Err refusal) e = no e
 
 -- block 0 stays its own
 own_stays : (run next : Run) (zeroth : List ℕ) → SameLabel run next → all (own_conditions run zeroth) ≡ true → all (own_conditions next zeroth) ≡ true
@@ -160,8 +160,8 @@ own_stays run next zeroth s e =
     same_fields : record { form = next.form; length = next.length; table = run.table; tallies = run.tallies } ≡ run
     same_fields = λ i. record { form = s.forms i; length = s.lengths i; table = run.table; tallies = run.tallies }
 
-pub rows_stay : (run : Run) (b : List ℕ) (next : Run) (zeroth : List ℕ) → Octets b → Whole run → rows_fault run zeroth ≡ none → next_of run b ≡ goes next
-    → rows_fault next zeroth ≡ none
+pub rows_stay : (run : Run) (b : List ℕ) (next : Run) (zeroth : List ℕ) → Octets b → Whole run → rows_fault run zeroth ≡ None → next_of run b ≡ goes next
+    → rows_fault next zeroth ≡ None
 rows_stay run b next zeroth o w f e =
     good_rows next zeroth (run_good next (next_whole run b next o w e).good) (own_stays run next zeroth (next_label run b next e) (rows_own run zeroth f))
 
@@ -171,11 +171,11 @@ pub empty_whole : (form : Form) (n : ℕ) → n ≤ body_bytes → Whole (empty_
 unfolding fault_in fault held_of rest_of rising fresh
 empty_whole form n h = record { good = record { table = refl; count = refl; short = h; tallies = refl }; long = refl }
 
-module _ (zeroth : List ℕ) {form : Form} {n ssrc : ℕ} (e : block_of zeroth ≡ read.Label form n ssrc) where
+module _ (zeroth : List ℕ) {form : Form} {n ssrc : ℕ} (e : block_of zeroth ≡ Ok (read.Label form n ssrc)) where
   pub start_whole : Whole (empty_run form n)
   start_whole = empty_whole form n (accepted zeroth e).block.room
 
-  pub start_rows : rows_fault (empty_run form n) zeroth ≡ none
+  pub start_rows : rows_fault (empty_run form n) zeroth ≡ None
   start_rows =
       let a = accepted zeroth e in
       let k = a.block in

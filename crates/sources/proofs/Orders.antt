@@ -1,8 +1,8 @@
 -- Calls in either order, and lists of calls. Assumes nothing.
+use Rattle.std.specs.Prelude.{Option, Some, None}
 use mathlib.Core.Path.{◌≡◌, refl, sym, ap, ap₂, ◌∙◌}
 use mathlib.Core.Bool.{Bool, true, false, cond, ◌&&◌, false≢true}
 use mathlib.Core.List.{List, [], ◌∷◌, ◌++◌}
-use mathlib.Core.Option.{Option, none, some}
 use Prim.Native.Nat.{ℕ, ◌-◌, ◌<◌}
 use native.Mathlib.Omega.{arith}
 use borrow.Author.Tests.{eqb-true, eqb-false, ne_eqb, ltb-true}
@@ -29,28 +29,28 @@ use Rattle.sources.proofs.Behind.{free, rest_behind, record_sound, next_some, ar
 
 -- ---- in either order
 
--- a call that is taken meets none of 16, 9, 10 and 15
-taken_free : (ps : List Place) (a : Arrival) → taken (answer ps a) ≡ true → refusal (ltb 3 a.mark) a.ssrc ps ≡ none
+-- a call that is taken meets None of 16, 9, 10 and 15
+taken_free : (ps : List Place) (a : Arrival) → taken (answer ps a) ≡ true → refusal (ltb 3 a.mark) a.ssrc ps ≡ None
 unfolding arrive_answer
 taken_free ps a e = go (refusal (ltb 3 a.mark) a.ssrc ps) e
   where
-    go : (r : Option Refusal) → taken (told_unless r (arrival (record_of a.ssrc ps) a.wire a.mark)) ≡ true → r ≡ none
-    go none e = refl
-    go (some r) e = absurd (false≢true e)
+    go : (r : Option Refusal) → taken (told_unless r (arrival (record_of a.ssrc ps) a.wire a.mark)) ≡ true → r ≡ None
+    go None e = refl
+    go (Some r) e = absurd (false≢true e)
 
 -- the place that an arrival puts in
 abbrev place_of : List Place → Arrival → Place
 place_of ps a = record { ssrc = a.ssrc; source = after (arrival (record_of a.ssrc ps) a.wire a.mark) }
 
 module _ (ps : List Place) (a b : Arrival) (wa : a.wire.0 < 65536) (wb : b.wire.0 < 65536) (apart : eqb a.ssrc b.ssrc ≡ false)
-    (fa : refusal (ltb 3 a.mark) a.ssrc ps ≡ none) (fb : refusal (ltb 3 b.mark) b.ssrc (behind_one ps a) ≡ none) where
+    (fa : refusal (ltb 3 a.mark) a.ssrc ps ≡ None) (fb : refusal (ltb 3 b.mark) b.ssrc (behind_one ps a) ≡ None) where
   abbrev held : List Place
   held = held_of ps
 
   -- the second call finds its source as the table had it
   same_record : record_of b.ssrc (behind_one ps a) ≡ record_of b.ssrc ps
   same_record =
-      ap record_in (others_keep ps a.ssrc a.wire a.mark wa fa b.ssrc ∙ ap (λ (t : Bool). cond t (some (place_of ps a).source) (found b.ssrc held)) apart)
+      ap record_in (others_keep ps a.ssrc a.wire a.mark wa fa b.ssrc ∙ ap (λ (t : Bool). cond t (Some (place_of ps a).source) (found b.ssrc held)) apart)
 
   same_place : place_of (behind_one ps a) b ≡ place_of ps b
   same_place = λ i. record { ssrc = b.ssrc; source = after (arrival (same_record i) b.wire b.mark) }
@@ -76,12 +76,12 @@ module _ (ps : List Place) (a b : Arrival) (wa : a.wire.0 < 65536) (wb : b.wire.
 put_both : (p q : Place) (ps : List Place) → rising 0 ps ≡ true → eqb p.ssrc q.ssrc ≡ false → put q (put p ps) ≡ put p (put q ps)
 put_both p q ps r e =
     same_found 0 (put q (put p ps)) (put p (put q ps)) (rising_put 0 q (put p ps) (omega arith) (rising_put 0 p ps (omega arith) r)) (rising_put 0 p (put q ps) (omega arith) (rising_put 0 q ps (omega arith) r))
-    (λ ssrc. found_put ssrc q (put p ps) ∙ ap (cond (eqb q.ssrc ssrc) (some q.source)) (found_put ssrc p ps) ∙ go ssrc (eqb p.ssrc ssrc) refl (eqb q.ssrc ssrc) refl
-    ∙ sym (found_put ssrc p (put q ps) ∙ ap (cond (eqb p.ssrc ssrc) (some p.source)) (found_put ssrc q ps)))
+    (λ ssrc. found_put ssrc q (put p ps) ∙ ap (cond (eqb q.ssrc ssrc) (Some q.source)) (found_put ssrc p ps) ∙ go ssrc (eqb p.ssrc ssrc) refl (eqb q.ssrc ssrc) refl
+    ∙ sym (found_put ssrc p (put q ps) ∙ ap (cond (eqb p.ssrc ssrc) (Some p.source)) (found_put ssrc q ps)))
   where
     go : (ssrc : ℕ) (x : Bool) → eqb p.ssrc ssrc ≡ x → (y : Bool) → eqb q.ssrc ssrc ≡ y
-        → cond (eqb q.ssrc ssrc) (some q.source) (cond (eqb p.ssrc ssrc) (some p.source) (found ssrc ps))
-        ≡ cond (eqb p.ssrc ssrc) (some p.source) (cond (eqb q.ssrc ssrc) (some q.source) (found ssrc ps))
+        → cond (eqb q.ssrc ssrc) (Some q.source) (cond (eqb p.ssrc ssrc) (Some p.source) (found ssrc ps))
+        ≡ cond (eqb p.ssrc ssrc) (Some p.source) (cond (eqb q.ssrc ssrc) (Some q.source) (found ssrc ps))
     go ssrc true hx true hy = absurd (let a = eqb-true p.ssrc ssrc hx in let b = eqb-true q.ssrc ssrc hy in eqb-false p.ssrc q.ssrc e (omega arith))
     go ssrc true hx false hy = rw (hx, hy)
     go ssrc false hx true hy = rw (hx, hy)
@@ -101,7 +101,7 @@ either_order ps a b wa wb apart ta tab tb tba =
 
 -- ---- a list of calls
 
-module _ (ps : List Place) (a : Arrival) (ssrc : ℕ) (w : a.wire.0 < 65536) (good : fault ps ≡ none) (seat : cond (eqb a.ssrc ssrc) (seated (answer ps a)) true ≡ true) where
+module _ (ps : List Place) (a : Arrival) (ssrc : ℕ) (w : a.wire.0 < 65536) (good : fault ps ≡ None) (seat : cond (eqb a.ssrc ssrc) (seated (answer ps a)) true ≡ true) where
   abbrev stepped : Source
   stepped = cond (eqb a.ssrc ssrc) (after (arrival (record_of ssrc ps) a.wire a.mark)) (record_of ssrc ps)
 
@@ -113,16 +113,16 @@ module _ (ps : List Place) (a : Arrival) (ssrc : ℕ) (w : a.wire.0 < 65536) (go
       go true = sym (ap after (arrival_mark (record_of ssrc ps) a.wire a.mark (record_sound ssrc ps (kept_of ps good)) (ltb-true 3 a.mark o)))
       go false = refl
 
-  step_free : refusal (ltb 3 a.mark) a.ssrc ps ≡ none → record_of ssrc (behind_one ps a) ≡ stepped
+  step_free : refusal (ltb 3 a.mark) a.ssrc ps ≡ None → record_of ssrc (behind_one ps a) ≡ stepped
   step_free f = ap record_in (others_keep ps a.ssrc a.wire a.mark w f ssrc) ∙ go (eqb a.ssrc ssrc) refl
     where
       go : (b : Bool) → eqb a.ssrc ssrc ≡ b
-          → record_in (cond b (some (after (arrival (record_of a.ssrc ps) a.wire a.mark))) (found ssrc (held_of ps)))
+          → record_in (cond b (Some (after (arrival (record_of a.ssrc ps) a.wire a.mark))) (found ssrc (held_of ps)))
           ≡ cond b (after (arrival (record_of ssrc ps) a.wire a.mark)) (record_of ssrc ps)
       go true e = ap (λ (k : ℕ). after (arrival (record_of k ps) a.wire a.mark)) (eqb-true a.ssrc ssrc e)
       go false e = refl
 
-  step_kept : {r : Refusal} → refusal (ltb 3 a.mark) a.ssrc ps ≡ some r → record_of ssrc (behind_one ps a) ≡ stepped
+  step_kept : {r : Refusal} → refusal (ltb 3 a.mark) a.ssrc ps ≡ Some r → record_of ssrc (behind_one ps a) ≡ stepped
   unfolding arrive_places arrive_answer refusal
   step_kept {r} e = ap (λ (o : Option Refusal). record_of ssrc (kept o ps (with_place (place_of ps a) ps))) e ∙ go (ltb 3 a.mark) refl (new_to a.ssrc ps && full ps) refl
     where
@@ -130,7 +130,7 @@ module _ (ps : List Place) (a : Arrival) (ssrc : ℕ) (w : a.wire.0 < 65536) (go
       go true ho c hc = kept_limits ho
       go false ho true hc = names (eqb a.ssrc ssrc) seat
         where
-          full_is : ltb 3 a.mark ≡ false → (new_to a.ssrc ps && full ps) ≡ true → refusal (ltb 3 a.mark) a.ssrc ps ≡ some Places
+          full_is : ltb 3 a.mark ≡ false → (new_to a.ssrc ps && full ps) ≡ true → refusal (ltb 3 a.mark) a.ssrc ps ≡ Some Places
           full_is x y = rw (good, x, y)
 
           names : (b : Bool) → cond b (seated (answer ps a)) true ≡ true → record_of ssrc ps ≡ cond b (after (arrival (record_of ssrc ps) a.wire a.mark)) (record_of ssrc ps)
@@ -138,18 +138,18 @@ module _ (ps : List Place) (a : Arrival) (ssrc : ℕ) (w : a.wire.0 < 65536) (go
           names false s = refl
       go false ho false hc = absurd (never (sym e ∙ free_is ho hc))
         where
-          never : ◌≡◌ {A = Option Refusal} (some r) none → ⊥
+          never : ◌≡◌ {A = Option Refusal} (Some r) None → ⊥
           never z = let y : ◌≡◌ {A = ℕ} 0 1 = cc in omega arith
 
-          free_is : ltb 3 a.mark ≡ false → (new_to a.ssrc ps && full ps) ≡ false → refusal (ltb 3 a.mark) a.ssrc ps ≡ none
+          free_is : ltb 3 a.mark ≡ false → (new_to a.ssrc ps && full ps) ≡ false → refusal (ltb 3 a.mark) a.ssrc ps ≡ None
           free_is x y = rw (good, x, y)
 
   pub step_record : record_of ssrc (behind_one ps a) ≡ stepped
   step_record = go (refusal (ltb 3 a.mark) a.ssrc ps) refl
     where
       go : (r : Option Refusal) → refusal (ltb 3 a.mark) a.ssrc ps ≡ r → record_of ssrc (behind_one ps a) ≡ stepped
-      go none e = step_free e
-      go (some r) e = step_kept e
+      go None e = step_free e
+      go (Some r) e = step_kept e
 
 pub each_source_alone : EachSourceAlone
 unfolding behind_all places_suffice naming record_behind Wires

@@ -1,8 +1,8 @@
 -- A place put among the held ones, by the place where its SSRC stands. Assumes nothing.
+use Rattle.std.specs.Prelude.{Option, Some, None}
 use mathlib.Core.Path.{◌≡◌, refl, sym, ap, ◌∙◌}
 use mathlib.Core.Bool.{Bool, true, false, cond, false≢true}
 use mathlib.Core.List.{List, [], ◌∷◌, ◌++◌, map, append_assoc}
-use mathlib.Core.Option.{Option, none, some}
 use Prim.Native.Nat.{ℕ, suc, ◌+◌, ◌-◌, ◌≤◌, ◌<◌}
 use native.Mathlib.Omega.{arith}
 use borrow.Author.Tests.{ltb-true, ltb-false, eqb-true}
@@ -34,20 +34,20 @@ pub record FoundAt (ssrc : ℕ) (ps : List Place) (s : Source) : Type 0 where
   pub inside : stands_at ssrc ps < length ps
   pub is : (get_or ps (stands_at ssrc ps) empty_place).source ≡ s
 
-pub found_stands : (ssrc least : ℕ) (ps : List Place) (s : Source) → rising least ps ≡ true → found ssrc ps ≡ some s → FoundAt ssrc ps s
+pub found_stands : (ssrc least : ℕ) (ps : List Place) (s : Source) → rising least ps ≡ true → found ssrc ps ≡ Some s → FoundAt ssrc ps s
 unfolding found stands_at
 found_stands ssrc least [] s r f = let z : ◌≡◌ {A = ℕ} 0 1 = cc in absurd (omega arith)
 found_stands ssrc least (p ∷ ps) s r f =
     go (found_stands ssrc (p.ssrc + 1) ps s (rising_rest least p ps r)) (eqb p.ssrc ssrc) refl (ltb p.ssrc ssrc) refl f
   where
-    absent : found ssrc ps ≡ none → found ssrc ps ≡ some s → ⊥
+    absent : found ssrc ps ≡ None → found ssrc ps ≡ Some s → ⊥
     absent a b = let z : ◌≡◌ {A = ℕ} 0 1 = cc in omega arith
 
-    inner : (a b : Source) → ◌≡◌ {A = Option Source} (some a) (some b) → a ≡ b
+    inner : (a b : Source) → ◌≡◌ {A = Option Source} (Some a) (Some b) → a ≡ b
     inner a b e = cc
 
-    go : (found ssrc ps ≡ some s → FoundAt ssrc ps s) → (e : Bool) → eqb p.ssrc ssrc ≡ e → (l : Bool) → ltb p.ssrc ssrc ≡ l
-        → cond e (some p.source) (found ssrc ps) ≡ some s → FoundAt ssrc (p ∷ ps) s
+    go : (found ssrc ps ≡ Some s → FoundAt ssrc ps s) → (e : Bool) → eqb p.ssrc ssrc ≡ e → (l : Bool) → ltb p.ssrc ssrc ≡ l
+        → cond e (Some p.source) (found ssrc ps) ≡ Some s → FoundAt ssrc (p ∷ ps) s
     go more true he true hl f = absurd (let z = eqb-true p.ssrc ssrc he in let y = ltb-true p.ssrc ssrc hl in omega arith)
     go more true he false hl f = record { inside = rw hl (omega arith); is = rw hl (inner p.source s f) }
     go more false he true hl f =
@@ -65,7 +65,7 @@ found_sound ssrc [] e = fresh_sound
 found_sound ssrc (p ∷ ps) e =
     go (eqb p.ssrc ssrc) (and_left (sound_place p) (all (map sound_place ps)) e) (found_sound ssrc ps (and_right (sound_place p) (all (map sound_place ps)) e))
   where
-    go : (b : Bool) → sound p.source ≡ true → sound (record_in (found ssrc ps)) ≡ true → sound (record_in (cond b (some p.source) (found ssrc ps))) ≡ true
+    go : (b : Bool) → sound p.source ≡ true → sound (record_in (found ssrc ps)) ≡ true → sound (record_in (cond b (Some p.source) (found ssrc ps))) ≡ true
     go true a b = a
     go false a b = b
 
@@ -95,7 +95,7 @@ module _ (p : Place) where
       behind false = refl
 
       go : put p qs ≡ placed (is_new (found p.ssrc qs)) (stands_at p.ssrc qs) qs → (l : Bool) → ltb q.ssrc p.ssrc ≡ l → (e : Bool) → eqb q.ssrc p.ssrc ≡ e
-          → cond l (q ∷ put p qs) (p ∷ cond e qs (q ∷ qs)) ≡ placed (is_new (cond e (some q.source) (found p.ssrc qs))) (cond l (suc (stands_at p.ssrc qs)) 0) (q ∷ qs)
+          → cond l (q ∷ put p qs) (p ∷ cond e qs (q ∷ qs)) ≡ placed (is_new (cond e (Some q.source) (found p.ssrc qs))) (cond l (suc (stands_at p.ssrc qs)) 0) (q ∷ qs)
       go more true hl true he = absurd (let z = eqb-true q.ssrc p.ssrc he in let y = ltb-true q.ssrc p.ssrc hl in omega arith)
       go more true hl false he = ap (λ (rs : List Place). q ∷ rs) more ∙ behind (is_new (found p.ssrc qs))
       go more false hl true he = refl
@@ -113,8 +113,8 @@ module _ (t : Table) (n : ℕ) (k : Passed t n) (long : t.count ≤ length t.pla
   known_inside ssrc e = go (found ssrc front) refl e
     where
       go : (f : Option Source) → found ssrc front ≡ f → is_new f ≡ false → stands_at ssrc front < n
-      go none g e = absurd (false≢true (sym e))
-      go (some s) g e = let h = (found_stands ssrc 0 front s k.rises g).inside in omega (arith, length-take n t.places)
+      go None g e = absurd (false≢true (sym e))
+      go (Some s) g e = let h = (found_stands ssrc 0 front s k.rises g).inside in omega (arith, length-take n t.places)
 
   module _ (p : Place) where
     abbrev at : ℕ

@@ -1,7 +1,7 @@
 -- The hypotheses on a run are met, and each theorem is used where they are. Assumes nothing.
+use Rattle.std.specs.Prelude.{None}
 use mathlib.Core.Path.{◌≡◌, refl}
 use mathlib.Core.List.{List, []}
-use mathlib.Core.Option.{none}
 use Prim.Native.Nat.{ℕ}
 use native.Mathlib.Omega.{arith}
 use lib.Count.{ones, ones_in}
@@ -25,7 +25,6 @@ use Rattle.walk.specs.Blocks.{cut}
 use Rattle.walk.specs.Fitting.{fitting}
 use Rattle.walk.specs.Programs.{Printed}
 use Rattle.walk.specs.Pieces.{wholes, whole_in}
-use Rattle.walk.specs.Endings.{refusal_in}
 use Rattle.walk.specs.Machines.{Gave, more, done, Session, began}
 use Rattle.walk.specs.Singles.{Held as Handed}
 use Rattle.sources.specs.Places.{held_of, rest_of}
@@ -78,7 +77,7 @@ pieces : (q : Printed) × Session calls some.trace q
 unfolding label_block arrivals_block records_of record_bytes records_bytes header filled checked bytes words ones_add ones_sum word block_of right_check contents_of label_body label_byte label_ok every arrivals_body count_ok good_records cut start_of begin_of took_of fitting rows_fault run_fault next_of counted_run counted_in count_answer count_places refusal fault_in fault held_of rest_of rising stands_at found put with_place shifted tallied signedWord block_count sound fresh has_counted packets count_all arrival first counted distance reach_of ahead behind jumped remembering pack marks place moved added places ones ones_in wholes whole_in
 pieces = (_, began _ (more some.begun blocks [] 0 _ (done took.state [] (omega arith))))
 
-good : end_fault (some.begun).progress some.zeroth (refusal_in (some.begun).progress.ended) [] ≡ none
+good : end_fault (some.begun).progress some.zeroth (some.begun).progress.ended [] ≡ None
 unfolding label_block arrivals_block records_of record_bytes records_bytes header filled checked bytes words ones_add ones_sum word block_of right_check contents_of label_body label_byte label_ok every start_of begin_of rows_fault run_fault fault_in fault held_of rest_of rising fresh
 good = refl
 

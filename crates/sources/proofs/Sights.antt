@@ -1,8 +1,8 @@
 -- What a walk over the places sees, place by place. Assumes nothing.
+use Rattle.std.specs.Prelude.{Option, Some, None}
 use mathlib.Core.Path.{◌≡◌, refl, sym, ap, subst, ◌∙◌}
 use mathlib.Core.Bool.{Bool, true, false, cond, ◌&&◌}
 use mathlib.Core.List.{List, [], ◌∷◌, map}
-use mathlib.Core.Option.{Option, none, some}
 use Prim.Native.Nat.{ℕ, suc, ◌+◌, ◌≤◌, ◌<◌}
 use native.Mathlib.Numerals.{add-one}
 use native.Mathlib.Omega.{arith}
@@ -212,10 +212,10 @@ module _ (ssrc : ℕ) where
     }
 
     -- no place is held, or all are above it
-    unmet : {qs : List Place} {s r : Seen} → stands_at ssrc qs ≡ 0 → found ssrc qs ≡ none → Before i count s → Same s r → Stood i count qs r
+    unmet : {qs : List Place} {s r : Seen} → stands_at ssrc qs ≡ 0 → found ssrc qs ≡ None → Before i count s → Same s r → Stood i count qs r
     unmet ek ef b a =
         let z : i ≡ i + 0 = omega arith in
-        stood_by_lem 0 none ek ef (a.stands ∙ b.stands ∙ (λ j. record { at = z j; new = true })) (a.ends ∙ b.ends) (a.record_is ∙ b.record_is)
+        stood_by_lem 0 None ek ef (a.stands ∙ b.stands ∙ (λ j. record { at = z j; new = true })) (a.ends ∙ b.ends) (a.record_is ∙ b.record_is)
 
     module _ (s : Seen) (p : Place) (qs : List Place) where
       met_own : p.ssrc ≡ ssrc → {r : Seen} → Same (seen_held s i p ssrc) r → Stood i count (p ∷ qs) r
@@ -225,7 +225,7 @@ module _ (ssrc : ℕ) where
           let high = le-ltb p.ssrc ssrc (omega arith) in
           let z : i ≡ i + 0 = omega arith in
           let y : i + 1 ≡ i + 0 + 1 = omega arith in
-          stood_by_lem 0 (some p.source) (ap (λ (b : Bool). cond b (suc (stands_at ssrc qs)) 0) high) (ap (λ (b : Bool). cond b (some p.source) (found ssrc qs)) own)
+          stood_by_lem 0 (Some p.source) (ap (λ (b : Bool). cond b (suc (stands_at ssrc qs)) 0) high) (ap (λ (b : Bool). cond b (Some p.source) (found ssrc qs)) own)
           (a.stands ∙ ap (λ (b : Bool). cond b (record { at = i; new = false }) (cond (ltb p.ssrc ssrc) (record { at = i + 1; new = true }) s.stand)) own ∙ (λ j. record { at = z j; new = false }))
           (a.ends ∙ ap (λ (b : Bool). cond b (i + 1) s.end) own ∙ y)
           (a.record_is ∙ ap (λ (b : Bool). cond b p.source s.source) own)
@@ -248,7 +248,7 @@ module _ (ssrc : ℕ) where
         let own = ne_eqb p.ssrc ssrc (λ e. omega arith) in
         let low = lt-ltb p.ssrc ssrc l in
         let z : suc i + stands_at ssrc qs ≡ i + suc (stands_at ssrc qs) = omega arith in
-        stood_by_lem (suc (stands_at ssrc qs)) (found ssrc qs) (ap (λ (b : Bool). cond b (suc (stands_at ssrc qs)) 0) low) (ap (λ (b : Bool). cond b (some p.source) (found ssrc qs)) own)
+        stood_by_lem (suc (stands_at ssrc qs)) (found ssrc qs) (ap (λ (b : Bool). cond b (suc (stands_at ssrc qs)) 0) low) (ap (λ (b : Bool). cond b (Some p.source) (found ssrc qs)) own)
         (a.stands ∙ (λ j. record { at = z j; new = is_new (found ssrc qs) }))
         (a.ends ∙ ap (λ (k : ℕ). cond (is_new (found ssrc qs)) count (k + 1)) z)
         a.record_is
@@ -286,9 +286,9 @@ module _ (ssrc : ℕ) where
               none_low : ssrc < p.ssrc → stands_at ssrc (p ∷ held_of ps) ≡ 0
               none_low above = ap (λ (t : Bool). cond t (suc (stands_at ssrc (held_of ps))) 0) (le-ltb p.ssrc ssrc (omega arith))
 
-              none_own : ssrc < p.ssrc → found ssrc (p ∷ held_of ps) ≡ none
+              none_own : ssrc < p.ssrc → found ssrc (p ∷ held_of ps) ≡ None
               none_own above =
-                  ap (λ (t : Bool). cond t (some p.source) (found ssrc (held_of ps))) (ne_eqb p.ssrc ssrc (λ e. omega arith))
+                  ap (λ (t : Bool). cond t (Some p.source) (found ssrc (held_of ps))) (ne_eqb p.ssrc ssrc (λ e. omega arith))
                   ∙ below_none ssrc (p.ssrc + 1) (held_of ps) (omega arith) rises
 
       go : (t : Bool) → held p ≡ t → More → Stood i count (held_of (p ∷ ps)) (seen_from ssrc s i (p ∷ ps))

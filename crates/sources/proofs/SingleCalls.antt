@@ -1,8 +1,8 @@
 -- The calls for one block each, and then for the rows, give what the whole run prints; the order of its lines. Assumes nothing.
+use Rattle.std.specs.Prelude.{Option, Some, None, Result, Ok, Err}
 use mathlib.Core.Path.{◌≡◌, refl, sym, ap, ap₂, ◌∙◌, subst, subst⁻¹}
 use mathlib.Core.Bool.{true}
 use mathlib.Core.List.{List, [], ◌∷◌, ◌++◌, map, append-nil}
-use mathlib.Core.Option.{Option, none, some}
 use Prim.Native.Nat.{ℕ, zero, suc, ◌+◌, ◌≤◌, ◌<◌}
 use native.Mathlib.Numerals.{add-one}
 use native.Mathlib.Omega.{arith}
@@ -62,8 +62,8 @@ module _ (k : Kept) (s : Sound k.zeroth k) where
       ∙ sym (rows_next k.run k.zeroth n j i h)
 
   ends : (e : Option Ending) → end_on k e ≡ closing k e
-  ends none = ap to_output (rows_from_lem n 0 (omega arith))
-  ends (some e) = refl
+  ends None = ap to_output (rows_from_lem n 0 (omega arith))
+  ends (Some e) = refl
 
 -- ---- the blocks
 
@@ -71,11 +71,11 @@ module _ (k : Kept) (s : Sound k.zeroth k) where
 abbrev Same : Kept → Kept → Type 0
 Same k s = (k ≡ s) × Sound k.zeroth k
 
-starts : (b : List ℕ) (r : Block) → block_of b ≡ r
+starts : (b : List ℕ) (r : Result Block Refusal) → block_of b ≡ r
     → Starts Same block_calls ecnstreams (begun b (start_by r)) (started_on b (start_by r).run (start_by r).answer) × ((begun b (start_by r)).printed ≡ to_output head_bytes)
-starts b (read.Label form n ssrc) e = (((refl, record { whole = start_whole b e; rows = start_rows b e; same = refl }), refl), refl)
-starts b (read.Arrivals form n ssrc) e = ((refl, refl), refl)
-starts b (read.Refused refusal) e = ((refl, refl), refl)
+starts b (Ok (read.Label form n ssrc)) e = (((refl, record { whole = start_whole b e; rows = start_rows b e; same = refl }), refl), refl)
+starts b (Ok (read.Arrivals form n ssrc)) e = ((refl, refl), refl)
+starts b (Err refusal) e = ((refl, refl), refl)
 
 turns : (i : ℕ) (k : Kept) (b : List ℕ) → Sound k.zeroth k → Octets b → (n : Next Run) → next_of k.run b ≡ n → Sound k.zeroth (taken k n).state
     → Turns Same k k [] (taken k n) (next_on k.zeroth n)
@@ -144,10 +144,10 @@ lines_rise trace o = go (block_of (blocks_of trace).zeroth) refl
     each : Each Octets (blocks_of trace).others
     each = octets_blocks trace (octets_drop block_bytes trace o)
 
-    go : (r : Block) → block_of (blocks_of trace).zeroth ≡ r → InOrder (lines_of (onward (turned 0 (begun (blocks_of trace).zeroth (start_by r))) rest).state.run)
-    go (read.Label form n ssrc) e = whole_order _ (walk_whole 1 (blocks_of trace).others _ each (start_whole (blocks_of trace).zeroth e))
-    go (read.Arrivals form n ssrc) e = whole_order no_run (empty_whole _ 0 (omega arith))
-    go (read.Refused refusal) e = whole_order no_run (empty_whole _ 0 (omega arith))
+    go : (r : Result Block Refusal) → block_of (blocks_of trace).zeroth ≡ r → InOrder (lines_of (onward (turned 0 (begun (blocks_of trace).zeroth (start_by r))) rest).state.run)
+    go (Ok (read.Label form n ssrc)) e = whole_order _ (walk_whole 1 (blocks_of trace).others _ each (start_whole (blocks_of trace).zeroth e))
+    go (Ok (read.Arrivals form n ssrc)) e = whole_order no_run (empty_whole _ 0 (omega arith))
+    go (Err refusal) e = whole_order no_run (empty_whole _ 0 (omega arith))
 
 -- ---- what is printed
 
@@ -164,8 +164,8 @@ pub head_then_rows : HeadThenRows
 unfolding printed_by closed walked onward start_of
 head_then_rows bs = ap (λ (p : Printed). both p (closing (walked ecnstreams bs).state (walked ecnstreams bs).ended)) (go (block_of bs.zeroth))
   where
-    go : (r : Block) → (onward (turned 0 (begun bs.zeroth (start_by r))) (walk ecnstreams 1 bs.others)).printed ≡ to_output head_bytes
-    go (read.Label form n ssrc) =
-        ap (both (to_output head_bytes)) (walk_silent 1 bs.others (begun bs.zeroth (start_by (read.Label form n ssrc))).state) ∙ λ i. record { out = append-nil head_bytes i; err = [] }
-    go (read.Arrivals form n ssrc) = refl
-    go (read.Refused refusal) = refl
+    go : (r : Result Block Refusal) → (onward (turned 0 (begun bs.zeroth (start_by r))) (walk ecnstreams 1 bs.others)).printed ≡ to_output head_bytes
+    go (Ok (read.Label form n ssrc)) =
+        ap (both (to_output head_bytes)) (walk_silent 1 bs.others (begun bs.zeroth (start_by (Ok (read.Label form n ssrc)))).state) ∙ λ i. record { out = append-nil head_bytes i; err = [] }
+    go (Ok (read.Arrivals form n ssrc)) = refl
+    go (Err refusal) = refl

@@ -1,8 +1,9 @@
 -- What the calls say of a lent slice of places, which is a table whose places are all in use. Assumes nothing.
+use Rattle.std.specs.Prelude.{Some, Result}
+use Rattle.answers.specs.declared.Refusal.{Refusal}
 use mathlib.Core.Path.{◌≡◌, refl, sym, ap, subst, ◌∙◌}
 use mathlib.Core.Bool.{Bool, true, false, cond}
 use mathlib.Core.List.{List, ◌++◌, append-nil}
-use mathlib.Core.Option.{some}
 use Prim.Native.Nat.{ℕ, ◌≤◌}
 use native.Mathlib.Omega.{arith}
 use lib.ListN.{length, drop, drop_of_length-le}
@@ -11,7 +12,6 @@ use Rattle.answers.specs.declared.Refusal.TheVariants.{Rules}
 use Rattle.format.specs.declared.Wire.{Wire}
 use Rattle.sources.specs.declared.Place.{Place}
 use Rattle.sources.specs.declared.Table.{Table}
-use Rattle.sources.specs.declared.Checked.{Checked}
 use Rattle.sources.specs.declared.TableArrived.{TableArrived}
 use Rattle.sources.specs.declared.TableCounted.{TableCounted}
 use Rattle.sources.specs.declared.calls.Arriving.{Arriving}
@@ -46,11 +46,11 @@ module _ (ps : List Place) where
   unfolding checked_in fault_in
   checked_all = go (over all_used) refl
     where
-      go : (b : Bool) → over all_used ≡ b → checked_by (cond b (some Rules) (fault (lent all_used))) (length (held_of (lent all_used))) ≡ checked_by (fault ps) (length (held_of ps))
+      go : (b : Bool) → over all_used ≡ b → checked_by (cond b (Some Rules) (fault (lent all_used))) (length (held_of (lent all_used))) ≡ checked_by (fault ps) (length (held_of ps))
       go true o = ap (λ f. checked_by f (length (held_of ps))) (sym (over_fault ps o))
       go false o = ap (λ (qs : List Place). checked_by (fault qs) (length (held_of qs))) lent_all
 
-  pub check_here : (s : Seen) (r : Checked) → s ≡ seen_in 0 (length ps) ps → r ≡ checked_seen s → r ≡ checked ps
+  pub check_here : (s : Seen) (r : Result ℕ Refusal) → s ≡ seen_in 0 (length ps) ps → r ≡ checked_seen s → r ≡ checked ps
   check_here s r es er = er ∙ ap checked_seen es ∙ checked_seen_lem 0 all_used ∙ checked_all
 
   -- ---- one arrival

@@ -1,8 +1,8 @@
 -- Laws of a place put among rising ones: what is found, the order, and every property of places. Assumes nothing.
+use Rattle.std.specs.Prelude.{Option, Some, None}
 use mathlib.Core.Path.{◌≡◌, refl, sym, ap, ◌∙◌}
 use mathlib.Core.Bool.{Bool, true, false, cond}
 use mathlib.Core.List.{List, [], ◌∷◌, map}
-use mathlib.Core.Option.{Option, none, some}
 use Prim.Native.Nat.{ℕ, suc, ◌+◌, ◌≤◌}
 use native.Mathlib.Omega.{arith}
 use borrow.Author.Tests.{le-leb, leb-true, leb-false, ltb-true, ltb-false, eqb-true, eqb-false, eq-eqb, ne_eqb}
@@ -18,14 +18,14 @@ use Rattle.sources.proofs.Found.{rising_first, rising_rest, below_none}
 
 -- ---- what is found
 
-pub found_put : (other : ℕ) (p : Place) (ps : List Place) → found other (put p ps) ≡ cond (eqb p.ssrc other) (some p.source) (found other ps)
+pub found_put : (other : ℕ) (p : Place) (ps : List Place) → found other (put p ps) ≡ cond (eqb p.ssrc other) (Some p.source) (found other ps)
 unfolding put found
 found_put other p [] = refl
 found_put other p (q ∷ qs) = go (found_put other p qs) (ltb q.ssrc p.ssrc) refl (eqb q.ssrc p.ssrc) refl (eqb p.ssrc other) refl (eqb q.ssrc other) refl
   where
-    go : found other (put p qs) ≡ cond (eqb p.ssrc other) (some p.source) (found other qs) → (l : Bool) → ltb q.ssrc p.ssrc ≡ l → (e : Bool) → eqb q.ssrc p.ssrc ≡ e
+    go : found other (put p qs) ≡ cond (eqb p.ssrc other) (Some p.source) (found other qs) → (l : Bool) → ltb q.ssrc p.ssrc ≡ l → (e : Bool) → eqb q.ssrc p.ssrc ≡ e
         → (o : Bool) → eqb p.ssrc other ≡ o → (k : Bool) → eqb q.ssrc other ≡ k
-        → found other (cond l (q ∷ put p qs) (p ∷ cond e qs (q ∷ qs))) ≡ cond o (some p.source) (cond k (some q.source) (found other qs))
+        → found other (cond l (q ∷ put p qs) (p ∷ cond e qs (q ∷ qs))) ≡ cond o (Some p.source) (cond k (Some q.source) (found other qs))
     go more true hl e he true ho true hk = absurd (let x = ltb-true q.ssrc p.ssrc hl in let y = eqb-true p.ssrc other ho in let z = eqb-true q.ssrc other hk in omega arith)
     go more true hl e he true ho false hk = rw hk (more ∙ rw ho)
     go more true hl e he false ho true hk = rw hk
@@ -83,7 +83,7 @@ put_count p [] least r = refl
 put_count p (q ∷ qs) least r = go (put_count p qs (q.ssrc + 1) (rising_rest least q qs r)) (ltb q.ssrc p.ssrc) refl (eqb q.ssrc p.ssrc) refl
   where
     go : length (put p qs) ≡ length qs + cond (is_new (found p.ssrc qs)) 1 0 → (l : Bool) → ltb q.ssrc p.ssrc ≡ l → (e : Bool) → eqb q.ssrc p.ssrc ≡ e
-        → length (cond l (q ∷ put p qs) (p ∷ cond e qs (q ∷ qs))) ≡ suc (length qs) + cond (is_new (cond e (some q.source) (found p.ssrc qs))) 1 0
+        → length (cond l (q ∷ put p qs) (p ∷ cond e qs (q ∷ qs))) ≡ suc (length qs) + cond (is_new (cond e (Some q.source) (found p.ssrc qs))) 1 0
     go more true hl true he = absurd (let x = ltb-true q.ssrc p.ssrc hl in let y = eqb-true q.ssrc p.ssrc he in omega arith)
     go more true hl false he = omega arith
     go more false hl true he = omega arith
@@ -96,13 +96,13 @@ put_count p (q ∷ qs) least r = go (put_count p qs (q.ssrc + 1) (rising_rest le
 same_record : (p q : Place) → p.ssrc ≡ q.ssrc → p.source ≡ q.source → p ≡ q
 same_record p q e f = λ i. record { ssrc = e i; source = f i }
 
-some_same : {a b : Source} → ◌≡◌ {A = Option Source} (some a) (some b) → a ≡ b
+some_same : {a b : Source} → ◌≡◌ {A = Option Source} (Some a) (Some b) → a ≡ b
 some_same e = cc
 
-never : {a : Source} → ◌≡◌ {A = Option Source} (some a) none → ⊥
+never : {a : Source} → ◌≡◌ {A = Option Source} (Some a) None → ⊥
 never e = let z : ◌≡◌ {A = ℕ} 0 1 = cc in omega arith
 
-first_found : (p : Place) (ps : List Place) → found p.ssrc (p ∷ ps) ≡ some p.source
+first_found : (p : Place) (ps : List Place) → found p.ssrc (p ∷ ps) ≡ Some p.source
 unfolding found
 first_found p ps = rw (eq-eqb p.ssrc p.ssrc refl)
 
@@ -120,17 +120,17 @@ same_found least (p ∷ ps) (q ∷ qs) r s f = go (same_found (p.ssrc + 1) ps qs
     behind e ssrc false h =
         let x = eqb-false p.ssrc ssrc h in
         let g : eqb q.ssrc ssrc ≡ false = ap (λ (k : ℕ). eqb k ssrc) (sym e) ∙ h in
-        sym (ap (λ (b : Bool). cond b (some p.source) (found ssrc ps)) h) ∙ f ssrc ∙ ap (λ (b : Bool). cond b (some q.source) (found ssrc qs)) g
+        sym (ap (λ (b : Bool). cond b (Some p.source) (found ssrc ps)) h) ∙ f ssrc ∙ ap (λ (b : Bool). cond b (Some q.source) (found ssrc qs)) g
 
     go : (rising (p.ssrc + 1) qs ≡ true → ((ssrc : ℕ) → found ssrc ps ≡ found ssrc qs) → ps ≡ qs)
         → (a : Bool) → ltb p.ssrc q.ssrc ≡ a → (b : Bool) → ltb q.ssrc p.ssrc ≡ b → p ∷ ps ≡ q ∷ qs
     go more true ha b hb =
         let l = ltb-true p.ssrc q.ssrc ha in
-        let gone : found p.ssrc (q ∷ qs) ≡ none = rw (ne_eqb q.ssrc p.ssrc (λ z. omega arith)) (below_none p.ssrc (q.ssrc + 1) qs (omega arith) (rising_rest least q qs s)) in
+        let gone : found p.ssrc (q ∷ qs) ≡ None = rw (ne_eqb q.ssrc p.ssrc (λ z. omega arith)) (below_none p.ssrc (q.ssrc + 1) qs (omega arith) (rising_rest least q qs s)) in
         absurd (never (sym (first_found p ps) ∙ f p.ssrc ∙ gone))
     go more false ha true hb =
         let l = ltb-true q.ssrc p.ssrc hb in
-        let gone : found q.ssrc (p ∷ ps) ≡ none = rw (ne_eqb p.ssrc q.ssrc (λ z. omega arith)) (below_none q.ssrc (p.ssrc + 1) ps (omega arith) (rising_rest least p ps r)) in
+        let gone : found q.ssrc (p ∷ ps) ≡ None = rw (ne_eqb p.ssrc q.ssrc (λ z. omega arith)) (below_none q.ssrc (p.ssrc + 1) ps (omega arith) (rising_rest least p ps r)) in
         absurd (never (sym (first_found q qs) ∙ sym (f q.ssrc) ∙ gone))
     go more false ha false hb =
         let x = ltb-false p.ssrc q.ssrc ha in

@@ -1,8 +1,8 @@
 -- The calls over a trace follow the program ecnstreams, and their end has room. Assumes nothing.
+use Rattle.std.specs.Prelude.{Option, Some, None, Result, Ok, Err}
 use mathlib.Core.Path.{◌≡◌, refl, sym, ap, ◌∙◌, subst}
 use mathlib.Core.Bool.{Bool, cond}
 use mathlib.Core.List.{List, [], ◌∷◌}
-use mathlib.Core.Option.{Option, none, some}
 use Prim.Native.Nat.{ℕ, suc, ◌+◌, ◌-◌, ◌^◌, ◌<◌}
 use native.Mathlib.Omega.{arith}
 use borrow.Author.Tests.{le-ltb}
@@ -19,10 +19,8 @@ use Rattle.walk.specs.Programs.{Printed, nothing, both, to_output, Turn}
 use Rattle.walk.specs.Steps.{Next, goes, refuses}
 use Rattle.walk.specs.Pieces.{Octets, wholes, whole_in}
 use Rattle.walk.specs.Fitting.{Took, none_taken, one_more, fitting}
-use Rattle.walk.specs.Endings.{refusal_in, is_going}
+use Rattle.walk.specs.Endings.{is_going}
 use Rattle.walk.specs.Machines.{Standing, begun_by, fitting_by, ending_by, goes_on, Gives, Follows}
-use Rattle.walk.specs.declared.Ended.{Ended}
-use Rattle.walk.specs.declared.Ended.TheVariants as ended
 use Rattle.walk.proofs.Pieces.{whole_many, octets_wholes}
 use Rattle.walk.proofs.Fits.{fitting_fits, fitting_keeps}
 use Rattle.walk.proofs.Standing.{ended_back, number_small}
@@ -39,14 +37,14 @@ use Rattle.sources.proofs.NextRuns.{Whole, next_whole, rows_stay, start_whole, s
 -- ---- a block's turn
 
 -- a part of a block is refused with 1
-pub short_turn : (i : ℕ) (k : Kept) (b : List ℕ) → length b < block_bytes → ecnstreams.step i k b ≡ record { state = k; printed = nothing; refusal = some Incomplete }
+pub short_turn : (i : ℕ) (k : Kept) (b : List ℕ) → length b < block_bytes → ecnstreams.step i k b ≡ record { state = k; printed = nothing; refusal = Some Incomplete }
 unfolding next_of
-short_turn i k b less = ap (λ (r : Block). taken k (next_by k.run b r)) (sym (not_whole b (λ e. omega (arith, e))))
+short_turn i k b less = ap (λ (r : Result Block Refusal). taken k (next_by k.run b r)) (sym (not_whole b (λ e. omega (arith, e))))
 
 -- what is kept: a whole run, of that block 0
 pub record Sound (zeroth : List ℕ) (k : Kept) : Type 0 where
   pub whole : Whole k.run
-  pub rows : rows_fault k.run zeroth ≡ none
+  pub rows : rows_fault k.run zeroth ≡ None
   pub same : k.zeroth ≡ zeroth
 
 pub turn_keeps : (zeroth : List ℕ) (i : ℕ) (k : Kept) (b : List ℕ) → Sound zeroth k → Octets b → Sound zeroth (ecnstreams.step i k b).state
@@ -70,8 +68,8 @@ fitting_silent i [] k room = refl
 fitting_silent i (b ∷ bs) k room = go (ecnstreams.step i k b) (turn_silent i k b) (λ s n. fitting_silent (suc i) bs s n)
   where
     more : (t : Turn Kept) (o : Option Refusal) (w : Took Kept) → t.printed ≡ nothing → w.printed ≡ nothing → (one_more t o w).printed ≡ nothing
-    more t none w e f = λ j. both (e j) (f j)
-    more t (some refusal) w e f = e
+    more t None w e f = λ j. both (e j) (f j)
+    more t (Some refusal) w e f = e
 
     go : (t : Turn Kept) → t.printed ≡ nothing → ((s : Kept) (n : ℕ) → (fitting ecnstreams (suc i) bs s n).printed ≡ nothing)
         → (cond (ltb room (length t.printed.out)) (none_taken k) (one_more t t.refusal (fitting ecnstreams (suc i) bs t.state (room - length t.printed.out)))).printed ≡ nothing
@@ -85,42 +83,42 @@ fitting_silent i (b ∷ bs) k room = go (ecnstreams.step i k b) (turn_silent i k
 -- a held progress stands for the program's run; one that goes on is sound
 record StandsFor (h : Held) (s : Standing Kept) : Type 0 where
   standing : standing h.progress h.zeroth ≡ s
-  sound : h.progress.ended ≡ ended.Going → Sound h.zeroth (record { run = h.progress.run; zeroth = h.zeroth })
+  sound : h.progress.ended ≡ None → Sound h.zeroth (record { run = h.progress.run; zeroth = h.zeroth })
 
-never : {e : Ended} {r : Refusal} → e ≡ ended.Refused r → e ≡ ended.Going → ⊥
+never : {e : Option Refusal} {r : Refusal} → e ≡ Some r → e ≡ None → ⊥
 never e f = let z : ◌≡◌ {A = ℕ} 0 1 = cc in omega arith
 
 -- block 0
 abbrev Begun : List ℕ → Step → Type 0
 Begun b r = StandsFor (record { progress = begin_by (begun b r); zeroth = b }) (begun_by (begun b r)) × (to_output head_bytes ≡ (begun b r).printed)
 
-begins_by : (b : List ℕ) (r : Block) → block_of b ≡ r → Begun b (start_by r)
-begins_by b (read.Label form n ssrc) e = (record { standing = refl; sound = λ q. record { whole = start_whole b e; rows = start_rows b e; same = refl } }, refl)
-begins_by b (read.Arrivals form n ssrc) e = (record { standing = refl; sound = λ q. absurd (never refl q) }, refl)
-begins_by b (read.Refused refusal) e = (record { standing = refl; sound = λ q. absurd (never refl q) }, refl)
+begins_by : (b : List ℕ) (r : Result Block Refusal) → block_of b ≡ r → Begun b (start_by r)
+begins_by b (Ok (read.Label form n ssrc)) e = (record { standing = refl; sound = λ q. record { whole = start_whole b e; rows = start_rows b e; same = refl } }, refl)
+begins_by b (Ok (read.Arrivals form n ssrc)) e = (record { standing = refl; sound = λ q. absurd (never refl q) }, refl)
+begins_by b (Err refusal) e = (record { standing = refl; sound = λ q. absurd (never refl q) }, refl)
 
 begins : (b : List ℕ) → StandsFor (calls.begin b).state (begun_by (ecnstreams.begin b)) × ((calls.begin b).printed ≡ (ecnstreams.begin b).printed)
 unfolding begin_of start_of
 begins b = begins_by b (block_of b) refl
 
 module _ (h : Held) (piece : List ℕ) (room : ℕ) (o : Octets piece) (few : h.progress.block + wholes piece < 2 ^ 64)
-    (sound : h.progress.ended ≡ ended.Going → Sound h.zeroth (record { run = h.progress.run; zeroth = h.zeroth })) where
+    (sound : h.progress.ended ≡ None → Sound h.zeroth (record { run = h.progress.run; zeroth = h.zeroth })) where
   abbrev here : Standing Kept
   here = standing h.progress h.zeroth
 
-  gives_by : (e : Ended) → h.progress.ended ≡ e
-      → Gives StandsFor here (fitting_by ecnstreams here (refusal_in e) piece room) (gave_by h (fitting_by ecnstreams here (refusal_in e) piece room) (piece_fault h.progress h.zeroth e))
-  gives_by (ended.Refused refusal) q =
+  gives_by : (e : Option Refusal) → h.progress.ended ≡ e
+      → Gives StandsFor here (fitting_by ecnstreams here e piece room) (gave_by h (fitting_by ecnstreams here e piece room) (piece_fault h.progress h.zeroth e))
+  gives_by (Some refusal) q =
       let number = number_small h.progress.block 0 (omega arith) in
       record {
         stands = record {
-          standing = λ i. record { state = here.state; block = number i; refusal = some refusal };
+          standing = λ i. record { state = here.state; block = number i; refusal = Some refusal };
           sound = λ q. absurd (never refl q);
         };
         taken = refl;
         printed = refl;
       }
-  gives_by ended.Going q =
+  gives_by None q =
       let w = fitting ecnstreams here.block (whole_in piece) here.state room in
       let small = (fitting_fits Kept ecnstreams here.block (whole_in piece) here.state room).1 in
       let number = number_small here.block w.taken (omega (arith, small, whole_many piece, few)) in
@@ -140,20 +138,20 @@ module _ (h : Held) (piece : List ℕ) (room : ℕ) (o : Octets piece) (few : h.
   unfolding took_of
   gives = gives_by h.progress.ended refl
 
-going_by : (e : Ended) → is_going e ≡ goes_on (refusal_in e)
-going_by ended.Going = refl
-going_by (ended.Refused refusal) = refl
+going_by : (e : Option Refusal) → is_going e ≡ goes_on e
+going_by None = refl
+going_by (Some refusal) = refl
 
 -- no row is refused
-ends_as : (h : Held) (rest : List ℕ) → (h.progress.ended ≡ ended.Going → Sound h.zeroth (record { run = h.progress.run; zeroth = h.zeroth }))
-    → calls.end h rest ≡ ecnstreams.close (standing h.progress h.zeroth).state (ending_by h.progress.block (refusal_in h.progress.ended) rest)
+ends_as : (h : Held) (rest : List ℕ) → (h.progress.ended ≡ None → Sound h.zeroth (record { run = h.progress.run; zeroth = h.zeroth }))
+    → calls.end h rest ≡ ecnstreams.close (standing h.progress h.zeroth).state (ending_by h.progress.block h.progress.ended rest)
 unfolding end_of
-ends_as h rest sound = ap (end_by (closing (standing h.progress h.zeroth).state (ending_by h.progress.block (refusal_in h.progress.ended) rest))) (go h.progress.ended refl rest)
+ends_as h rest sound = ap (end_by (closing (standing h.progress h.zeroth).state (ending_by h.progress.block h.progress.ended rest))) (go h.progress.ended refl rest)
   where
-    go : (e : Ended) → h.progress.ended ≡ e → (rest : List ℕ) → end_fault h.progress h.zeroth (refusal_in e) rest ≡ none
-    go ended.Going q [] = (sound q).rows
-    go ended.Going q (c ∷ rest) = refl
-    go (ended.Refused refusal) q rest = refl
+    go : (e : Option Refusal) → h.progress.ended ≡ e → (rest : List ℕ) → end_fault h.progress h.zeroth e rest ≡ None
+    go None q [] = (sound q).rows
+    go None q (c ∷ rest) = refl
+    go (Some refusal) q rest = refl
 
 pub follows : Follows calls ecnstreams
 follows = record {

@@ -1,6 +1,5 @@
 -- What the calls on a table answer, and the places afterwards (document 02, L1).
-use Rattle.std.specs.Prelude.{ℕ, Bool, cond, not, ◌&&◌, List, eqb, ltb, length}
-use Rattle.std.proofs.Math.Option.{Option, none, some}
+use Rattle.std.specs.Prelude.{ℕ, Bool, cond, not, ◌&&◌, List, eqb, ltb, length, Option, Some, None}
 use Rattle.answers.specs.Conditions.{all}
 use Rattle.answers.specs.declared.Refusal.{Refusal}
 use Rattle.answers.specs.declared.Refusal.TheVariants.{Limits, Places}
@@ -30,21 +29,21 @@ full ps = eqb (length (held_of ps)) (length ps)
 -- 10, then 15 for a new SSRC where every place is held
 abbrev pub seatless : Bool → ℕ → List Place → Option Refusal
 seatless outside ssrc ps =
-    cond outside (some Limits)
-    (cond (new_to ssrc ps && full ps) (some Places)
-    none)
+    cond outside (Some Limits)
+    (cond (new_to ssrc ps && full ps) (Some Places)
+    None)
 
 abbrev pub or_else : Option Refusal → Option Refusal → Option Refusal
-or_else (some refusal) other = some refusal
-or_else none other = other
+or_else (Some refusal) other = Some refusal
+or_else None other = other
 
 unfoldable pub refusal : Bool → ℕ → List Place → Option Refusal
 refusal outside ssrc ps = or_else (fault ps) (seatless outside ssrc ps)
 
 -- the places after a call: as they were where it is so refused
 abbrev pub kept : Option Refusal → List Place → List Place → List Place
-kept (some refusal) ps changed = ps
-kept none ps changed = changed
+kept (Some refusal) ps changed = ps
+kept None ps changed = changed
 
 -- ---- one arrival
 
@@ -55,8 +54,8 @@ told (arrival.Restarted s) = Restarted
 told (arrival.Refused refusal s) = Refused refusal
 
 abbrev pub told_unless : Option Refusal → Arrival → Arrived
-told_unless (some refusal) answer = Refused refusal
-told_unless none answer = told answer
+told_unless (Some refusal) answer = Refused refusal
+told_unless None answer = told answer
 
 unfoldable pub arrive_answer : List Place → ℕ → Wire → ℕ → Arrived
 arrive_answer ps ssrc wire mark = told_unless (refusal (ltb 3 mark) ssrc ps) (arrival (record_of ssrc ps) wire mark)
@@ -81,8 +80,8 @@ told_block at new (block.Counted s jumps restarts) = counted.Block (record { at 
 told_block at new (block.Refused refusal s) = counted.Refused refusal
 
 abbrev pub block_unless : Option Refusal → Counted → Counted
-block_unless (some refusal) answer = counted.Refused refusal
-block_unless none answer = answer
+block_unless (Some refusal) answer = counted.Refused refusal
+block_unless None answer = answer
 
 unfoldable pub count_answer : List Place → ℕ → ℕ → List ℕ → Counted
 count_answer ps ssrc width bytes =

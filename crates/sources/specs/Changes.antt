@@ -1,7 +1,6 @@
 -- What a call does with what a walk over the places saw: its answer, and the places that change. (Calling, in proofs/, says that these are the answer and the
 -- places of the table.)
-use Rattle.std.specs.Prelude.{ℕ, ◌-◌, cond, not, List, ltb}
-use Rattle.std.proofs.Math.Option.{Option, none, some}
+use Rattle.std.specs.Prelude.{ℕ, ◌-◌, cond, not, List, ltb, Option, Some, None}
 use Rattle.answers.specs.declared.Refusal.{Refusal}
 use Rattle.answers.specs.declared.Refusal.TheVariants.{Limits, Places}
 use Rattle.format.specs.declared.Wire.{Wire}
@@ -38,8 +37,8 @@ not_arriving refusal = record { answer = arrived.Refused refusal; change = no_ch
 
 -- 10 for a mark above 3; 15 for a new SSRC and no place
 unfoldable pub arriving_by : Option Refusal → Seen → ℕ → Wire → ℕ → Arriving
-arriving_by (some refusal) s ssrc wire mark = not_arriving refusal
-arriving_by none s ssrc wire mark =
+arriving_by (Some refusal) s ssrc wire mark = not_arriving refusal
+arriving_by None s ssrc wire mark =
     cond (ltb 3 mark) (not_arriving Limits)
     (cond (not (roomy s)) (not_arriving Places)
     (record {
@@ -64,8 +63,8 @@ counted_by s ssrc (block.Counted source jumps restarts) = settled s (record { ss
 counted_by s ssrc (block.Refused refusal source) = not_counting refusal
 
 unfoldable pub counting_by : Option Refusal → Seen → ℕ → ℕ → List ℕ → Counting
-counting_by (some refusal) s ssrc width bytes = not_counting refusal
-counting_by none s ssrc width bytes = counted_by s ssrc (block_count s.source width bytes)
+counting_by (Some refusal) s ssrc width bytes = not_counting refusal
+counting_by None s ssrc width bytes = counted_by s ssrc (block_count s.source width bytes)
 
 abbrev pub counting : Seen → ℕ → ℕ → List ℕ → Counting
 counting s = counting_by (fault_seen s) s

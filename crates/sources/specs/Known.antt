@@ -1,5 +1,5 @@
 -- The blocks of a piece whose SSRCs have places, one by one: what the loop over them does.
-use Rattle.std.specs.Prelude.{◌≡◌, true, List, ℕ, ◌+◌, ◌≤◌, length, take, drop}
+use Rattle.std.specs.Prelude.{◌≡◌, true, List, ℕ, ◌+◌, ◌≤◌, length, take, drop, Option, Some, None, Ok}
 use Rattle.format.specs.Blocks.{block_bytes}
 use Rattle.format.specs.Forms.{shape_of, width}
 use Rattle.format.specs.declared.Form.{Form}
@@ -11,8 +11,6 @@ use Rattle.walk.specs.Steps.{goes}
 use Rattle.sources.specs.declared.Place.{Place}
 use Rattle.sources.specs.declared.runs.Tally.{Tally}
 use Rattle.sources.specs.declared.runs.Run.{Run}
-use Rattle.sources.specs.declared.known.Renewal.{Renewal}
-use Rattle.sources.specs.declared.known.Renewal.TheVariants.{Held, Other}
 use Rattle.sources.specs.Places.{held}
 use Rattle.sources.specs.Tallies.{raised}
 use Rattle.sources.specs.Runs.{records_in, next_of}
@@ -25,20 +23,20 @@ pub record IsCounted (form : Form) (p : Place) (t : Tally) (n : ℕ) (b : List �
   pub ssrc : place.ssrc ≡ p.ssrc
   pub raises : tally ≡ raised t jumps restarts
 
-abbrev pub CountsHere : Form → Place → Tally → ℕ → List ℕ → Renewal → Type 0
-CountsHere form p t n b (Held place tally) = IsCounted form p t n b place tally
-CountsHere form p t n b Other = Unit {0}
+abbrev pub CountsHere : Form → Place → Tally → ℕ → List ℕ → Option (Place × Tally) → Type 0
+CountsHere form p t n b (Some (place, tally)) = IsCounted form p t n b place tally
+CountsHere form p t n b None = Unit {0}
 
 -- they are arrivals of that form and of the place's SSRC, and the place is held
 pub record IsRenewed (form : Form) (p : Place) (t : Tally) (b : List ℕ) (place : Place) (tally : Tally) : Type 0 where
   pub many : ℕ
-  pub is : block_of b ≡ Arrivals form many p.ssrc
+  pub is : block_of b ≡ Ok (Arrivals form many p.ssrc)
   pub stands : held p ≡ true
   pub counted : IsCounted form p t many b place tally
 
-abbrev pub Renews : Form → Place → Tally → List ℕ → Renewal → Type 0
-Renews form p t b (Held place tally) = IsRenewed form p t b place tally
-Renews form p t b Other = Unit {0}
+abbrev pub Renews : Form → Place → Tally → List ℕ → Option (Place × Tally) → Type 0
+Renews form p t b (Some (place, tally)) = IsRenewed form p t b place tally
+Renews form p t b None = Unit {0}
 
 -- from one run and place of a piece to another, block by block
 pub data Onward (piece : List ℕ) (start : Run) (from : ℕ) : Run → ℕ → Type 0 where

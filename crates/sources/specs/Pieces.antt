@@ -1,20 +1,16 @@
 -- The three calls of a run of ecnstreams over pieces of a trace: what each gives, by the program of specs/Streams.
-use Rattle.std.specs.Prelude.{◌≡◌, List, [], ◌∷◌, ℕ, ◌*◌, ◌^◌, ◌≤◌, ◌<◌, length}
-use Rattle.std.proofs.Math.Option.{Option, none, some}
+use Rattle.answers.specs.declared.Unwritten.{Unwritten}
+use Rattle.std.specs.Prelude.{◌≡◌, List, [], ◌∷◌, ℕ, ◌*◌, ◌^◌, ◌≤◌, ◌<◌, length, Option, Some, None, Result, Ok, Err}
 use Rattle.answers.specs.Writers.{Wrote}
 use Rattle.answers.specs.declared.Refusal.{Refusal}
-use Rattle.answers.specs.declared.Written.{Written}
-use Rattle.answers.specs.declared.Written.TheVariants.{Length, Room, Refused}
 use Rattle.format.specs.Blocks.{block_bytes}
 use Rattle.table.specs.Lines.{head_bytes}
 use Rattle.table.specs.Theorems.{row_most}
 use Rattle.walk.specs.Programs.{Printed, nothing, to_output, Turn}
 use Rattle.walk.specs.Pieces.{Octets, whole_in}
 use Rattle.walk.specs.Fitting.{Took, fitting, Reached}
-use Rattle.walk.specs.Endings.{refusal_in, ended_by, is_going, number_after}
+use Rattle.walk.specs.Endings.{is_going, number_after}
 use Rattle.walk.specs.Machines.{Standing, next_behind, fitting_by, ending_by, Gave, Machine, Session}
-use Rattle.walk.specs.declared.Ended.{Ended}
-use Rattle.walk.specs.declared.Ended.TheVariants as ended
 use Rattle.walk.specs.declared.Closed.{Closed}
 use Rattle.sources.specs.declared.Place.{Place}
 use Rattle.sources.specs.declared.runs.Run.{Run}
@@ -29,70 +25,69 @@ use Rattle.sources.specs.Streams.{Kept, closing, ecnstreams, printed}
 -- ---- block 0
 
 abbrev pub begin_by : Turn Kept → Progress
-begin_by t = record { run = t.state.run; block = next_behind t.refusal; ended = ended_by t.refusal }
+begin_by t = record { run = t.state.run; block = next_behind t.refusal; ended = t.refusal }
 
 unfoldable pub begin_of : List ℕ → Progress
 begin_of zeroth = begin_by (ecnstreams.begin zeroth)
 
 abbrev pub not_begun : Progress
-not_begun = record { run = no_run; block = 0; ended = ended.Going }
+not_begun = record { run = no_run; block = 0; ended = None }
 
 -- where the head line has no room, 12, nothing has begun
-abbrev pub begun_in : List ℕ → Written → Progress
-begun_in zeroth (Length n) = begin_of zeroth
-begun_in zeroth (Room n) = not_begun
-begun_in zeroth (Refused refusal) = not_begun
+abbrev pub begun_in : List ℕ → Result ℕ Unwritten → Progress
+begun_in zeroth (Ok n) = begin_of zeroth
+begun_in zeroth (Err why) = not_begun
 
 pub record Begins (zeroth old : List ℕ) (r : Begun) (out : List ℕ) : Type 0 where
-  pub wrote : Wrote none head_bytes old r.answer out
+  pub wrote : Wrote None head_bytes old r.answer out
   pub progress : r.progress ≡ begun_in zeroth r.answer
 
 -- ---- the whole blocks of a piece, of which nothing is printed
 
 -- how the program's run stands
 abbrev pub standing : Progress → List ℕ → Standing Kept
-standing p zeroth = record { state = record { run = p.run; zeroth = zeroth }; block = p.block; refusal = refusal_in p.ended }
+standing p zeroth = record { state = record { run = p.run; zeroth = zeroth }; block = p.block; refusal = p.ended }
 
 -- what is taken of the piece: nothing after a refusal
 unfoldable pub took_of : Progress → List ℕ → List ℕ → ℕ → Took Kept
-took_of p zeroth piece room = fitting_by ecnstreams (standing p zeroth) (refusal_in p.ended) piece room
+took_of p zeroth piece room = fitting_by ecnstreams (standing p zeroth) p.ended piece room
 
 abbrev pub after_taking : Progress → Took Kept → Progress
-after_taking p w = record { run = w.state.run; block = number_after p.block w.taken; ended = ended_by w.refusal }
+after_taking p w = record { run = w.state.run; block = number_after p.block w.taken; ended = w.refusal }
 
 -- a run that goes on is judged, with block 0: 16, then 9
-abbrev pub piece_fault : Progress → List ℕ → Ended → Option Refusal
-piece_fault p zeroth ended.Going = rows_fault p.run zeroth
-piece_fault p zeroth (ended.Refused refusal) = none
+abbrev pub piece_fault : Progress → List ℕ → Option Refusal → Option Refusal
+piece_fault p zeroth None = rows_fault p.run zeroth
+piece_fault p zeroth (Some refusal) = None
 
 abbrev pub TakenBy : Progress → Took Kept → Option Refusal → Taken → Type 0
-TakenBy p w none r = (r.bytes ≡ block_bytes * w.taken) × (r.progress ≡ after_taking p w)
-TakenBy p w (some refusal) r = (r.bytes ≡ 0) × (r.progress ≡ p)
+TakenBy p w None r = (r.bytes ≡ block_bytes * w.taken) × (r.progress ≡ after_taking p w)
+TakenBy p w (Some refusal) r = (r.bytes ≡ 0) × (r.progress ≡ p)
 
 pub record Takes (p : Progress) (zeroth piece old : List ℕ) (r : Taken) (out : List ℕ) : Type 0 where
   pub wrote : Wrote (piece_fault p zeroth p.ended) [] old r.answer out
   pub taken : TakenBy p (took_of p zeroth piece (length old)) (piece_fault p zeroth p.ended) r
 
 -- the loop over the blocks, whatever number the first has and whatever output is lent
-abbrev pub TakesWhole : Run → List ℕ → Run → ℕ → Ended → Type 0
+abbrev pub TakesWhole : Run → List ℕ → Run → ℕ → Option Refusal → Type 0
 TakesWhole start piece run bytes ended =
     (first : ℕ) (zeroth old : List ℕ)
-    → Reached (fitting ecnstreams first (whole_in piece) (record { run = start; zeroth = zeroth }) (length old)) (record { run = run; zeroth = zeroth }) (refusal_in ended) bytes old old 0
+    → Reached (fitting ecnstreams first (whole_in piece) (record { run = start; zeroth = zeroth }) (length old)) (record { run = run; zeroth = zeroth }) ended bytes old old 0
 
 -- ---- the end: what is left is a part of a block, which is refused with 1, or nothing
 
 unfoldable pub end_of : Progress → List ℕ → List ℕ → Printed
-end_of p zeroth rest = closing (record { run = p.run; zeroth = zeroth }) (ending_by p.block (refusal_in p.ended) rest)
+end_of p zeroth rest = closing (record { run = p.run; zeroth = zeroth }) (ending_by p.block p.ended rest)
 
 -- the rows of a run are refused as the run is, with block 0: 16, then 9
 abbrev pub end_fault : Progress → List ℕ → Option Refusal → List ℕ → Option Refusal
-end_fault p zeroth none [] = rows_fault p.run zeroth
-end_fault p zeroth none (c ∷ rest) = none
-end_fault p zeroth (some refusal) rest = none
+end_fault p zeroth None [] = rows_fault p.run zeroth
+end_fault p zeroth None (c ∷ rest) = None
+end_fault p zeroth (Some refusal) rest = None
 
 pub record Ends (p : Progress) (zeroth rest oldOut oldErr : List ℕ) (r : Closed) (out err : List ℕ) : Type 0 where
-  pub printed : Wrote (end_fault p zeroth (refusal_in p.ended) rest) (end_of p zeroth rest).out oldOut r.out out
-  pub told : Wrote none [] oldErr r.err err
+  pub printed : Wrote (end_fault p zeroth p.ended rest) (end_of p zeroth rest).out oldOut r.out out
+  pub told : Wrote None [] oldErr r.err err
 
 -- ---- the calls over a trace, and what they print
 
@@ -101,19 +96,19 @@ pub record Held : Type 0 where
   pub zeroth : List ℕ
 
 abbrev pub gave_by : Held → Took Kept → Option Refusal → Gave Held
-gave_by h w none = record { state = record { progress = after_taking h.progress w; zeroth = h.zeroth }; taken = block_bytes * w.taken; printed = nothing }
-gave_by h w (some refusal) = record { state = h; taken = 0; printed = nothing }
+gave_by h w None = record { state = record { progress = after_taking h.progress w; zeroth = h.zeroth }; taken = block_bytes * w.taken; printed = nothing }
+gave_by h w (Some refusal) = record { state = h; taken = 0; printed = nothing }
 
 -- nothing is printed where the rows are refused
 abbrev pub end_by : Printed → Option Refusal → Printed
-end_by q none = q
-end_by q (some refusal) = nothing
+end_by q None = q
+end_by q (Some refusal) = nothing
 
 abbrev pub calls : Machine Held
 calls = record {
   begin = λ b. record { state = record { progress = begin_of b; zeroth = b }; taken = 0; printed = to_output head_bytes };
   blocks = λ h piece room. gave_by h (took_of h.progress h.zeroth piece room) (piece_fault h.progress h.zeroth h.progress.ended);
-  end = λ h rest. end_by (end_of h.progress h.zeroth rest) (end_fault h.progress h.zeroth (refusal_in h.progress.ended) rest);
+  end = λ h rest. end_by (end_of h.progress h.zeroth rest) (end_fault h.progress h.zeroth h.progress.ended rest);
   going = λ h. is_going h.progress.ended;
 }
 
@@ -129,5 +124,5 @@ Narrow (p ∷ ps) = (p.ssrc < 2 ^ 32) × Narrow ps
 -- room for the longest row for each of 16 places is enough for the end
 abbrev pub EndHasRoom : Type 0
 EndHasRoom =
-    (p : Progress) (zeroth rest : List ℕ) → p.block < 2 ^ 64 → Narrow p.run.table.places → end_fault p zeroth (refusal_in p.ended) rest ≡ none
+    (p : Progress) (zeroth rest : List ℕ) → p.block < 2 ^ 64 → Narrow p.run.table.places → end_fault p zeroth p.ended rest ≡ None
     → length (end_of p zeroth rest).out ≤ most_places * row_most

@@ -1,6 +1,5 @@
 -- The rows of a run (document 02, L1): one for each held place, in rising order of SSRC. `zeroth` is block 0.
-use Rattle.std.specs.Prelude.{ℕ, Bool, cond, ◌≡◌, List, [], ◌∷◌, map, eqb, leb, length, take, drop, get_or}
-use Rattle.std.proofs.Math.Option.{Option, none, some}
+use Rattle.std.specs.Prelude.{ℕ, Bool, cond, ◌≡◌, List, [], ◌∷◌, map, eqb, leb, length, take, drop, get_or, Option, Some, None, Result}
 use Rattle.answers.specs.Conditions.{all}
 use Rattle.answers.specs.declared.Refusal.{Refusal}
 use Rattle.answers.specs.declared.Refusal.TheVariants.{Malformed, Limits}
@@ -15,7 +14,6 @@ use Rattle.walk.specs.Blocks.{joined}
 use Rattle.sources.specs.declared.Place.{Place}
 use Rattle.sources.specs.declared.runs.Tally.{Tally}
 use Rattle.sources.specs.declared.runs.Run.{Run}
-use Rattle.sources.specs.declared.Checked.{Checked}
 use Rattle.sources.specs.Places.{held_of}
 use Rattle.sources.specs.Checks.{checked_by}
 use Rattle.sources.specs.Answers.{or_else}
@@ -65,11 +63,11 @@ own_conditions run zeroth =
 
 -- 9 for another
 unfoldable pub rows_fault : Run → List ℕ → Option Refusal
-rows_fault run zeroth = or_else (run_fault run) (cond (all (own_conditions run zeroth)) none (some Malformed))
+rows_fault run zeroth = or_else (run_fault run) (cond (all (own_conditions run zeroth)) None (Some Malformed))
 
 -- 10 for a line that is not held
 unfoldable pub row_fault : Run → ℕ → List ℕ → Option Refusal
-row_fault run i zeroth = or_else (rows_fault run zeroth) (cond (leb (length (held_of (lent run.table))) i) (some Limits) none)
+row_fault run i zeroth = or_else (rows_fault run zeroth) (cond (leb (length (held_of (lent run.table))) i) (Some Limits) None)
 
 -- there is no line behind the last
 abbrev pub no_line : Line
@@ -81,10 +79,10 @@ row_of run i zeroth = row_in (label_of run zeroth) (get_or (lines_of run) i no_l
 -- ---- what the writers of rows rest on
 
 -- how many places are held, or the refusal
-abbrev pub judged_with : Run → List ℕ → Checked
+abbrev pub judged_with : Run → List ℕ → Result ℕ Refusal
 judged_with run zeroth = checked_by (rows_fault run zeroth) (length (held_of (lent run.table)))
 
 -- neither 16 nor 9, and n places are held
 pub record Judged (run : Run) (zeroth : List ℕ) (n : ℕ) : Type 0 where
-  pub good : rows_fault run zeroth ≡ none
+  pub good : rows_fault run zeroth ≡ None
   pub count : n ≡ length (held_of (lent run.table))

@@ -1,7 +1,6 @@
--- The rules of a table, and the refusals that come before a call's own (document 02, L1): 16, table against these rules or over 16 places; 9, some held
+-- The rules of a table, and the refusals that come before a call's own (document 02, L1): 16, table against these rules or over 16 places; 9, Some held
 -- record is malformed.
-use Rattle.std.specs.Prelude.{ℕ, ◌+◌, Bool, true, cond, not, ◌&&◌, List, [], ◌∷◌, map, leb, length}
-use Rattle.std.proofs.Math.Option.{Option, none, some}
+use Rattle.std.specs.Prelude.{ℕ, ◌+◌, Bool, true, cond, not, ◌&&◌, List, [], ◌∷◌, map, leb, length, Option, Some, None}
 use Rattle.answers.specs.Conditions.{all}
 use Rattle.answers.specs.declared.Refusal.{Refusal}
 use Rattle.answers.specs.declared.Refusal.TheVariants.{Malformed, Rules}
@@ -12,7 +11,7 @@ use Rattle.sources.specs.Places.{empty, sound_place, held_of, rest_of}
 abbrev pub most_places : ℕ
 most_places = 16
 
--- rising order of SSRC, none twice: the first is at least `least`, and each other above the one before
+-- rising order of SSRC, None twice: the first is at least `least`, and each other above the one before
 unfoldable pub rising : ℕ → List Place → Bool
 rising least [] = true
 rising least (p ∷ ps) = leb least p.ssrc && rising (p.ssrc + 1) ps
@@ -32,6 +31,6 @@ all_sound ps = all (map sound_place (held_of ps))
 -- 16, then 9
 unfoldable pub fault : List Place → Option Refusal
 fault ps =
-    cond (not (all (rules ps))) (some Rules)
-    (cond (not (all_sound ps)) (some Malformed)
-    none)
+    cond (not (all (rules ps))) (Some Rules)
+    (cond (not (all_sound ps)) (Some Malformed)
+    None)

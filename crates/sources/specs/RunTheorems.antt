@@ -1,10 +1,8 @@
 -- What holds between the calls of a run for one block each and the whole run, and of the lines that it prints rows of (document 02, L1).
-use Rattle.std.specs.Prelude.{◌≡◌, List, [], ◌∷◌, ◌++◌, map, ℕ, zero, suc, ◌*◌, ◌^◌, ◌≤◌, ◌<◌, length}
-use Rattle.std.proofs.Math.Option.{Option, none, some}
+use Rattle.answers.specs.declared.Unwritten.{Unwritten}
+use Rattle.std.specs.Prelude.{◌≡◌, List, [], ◌∷◌, ◌++◌, map, ℕ, zero, suc, ◌*◌, ◌^◌, ◌≤◌, ◌<◌, length, Option, Some, None, Result, Ok, Err}
 use Rattle.answers.specs.Refusals.{number_of}
 use Rattle.answers.specs.declared.Refusal.{Refusal}
-use Rattle.answers.specs.declared.Written.{Written}
-use Rattle.answers.specs.declared.Written.TheVariants.{Length, Room, Refused}
 use Rattle.format.specs.Blocks.{block_bytes}
 use Rattle.table.specs.Lines.{head_bytes, refused_line}
 use Rattle.walk.specs.Blocks.{Blocks, blocks_of}
@@ -23,10 +21,10 @@ use Rattle.sources.specs.Streams.{Kept, closing, ecnstreams, printed}
 
 -- ---- the calls for one block each, on the run that the call before handed back; then those for the rows
 
-abbrev pub started_on : List ℕ → Run → Written → Next Kept
-started_on zeroth run (Length n) = goes (record { run = run; zeroth = zeroth })
-started_on zeroth run (Room n) = goes (record { run = run; zeroth = zeroth })
-started_on zeroth run (Refused refusal) = refuses refusal
+abbrev pub started_on : List ℕ → Run → Result ℕ Unwritten → Next Kept
+started_on zeroth run (Ok n) = goes (record { run = run; zeroth = zeroth })
+started_on zeroth run (Err (Unwritten.Room n)) = goes (record { run = run; zeroth = zeroth })
+started_on zeroth run (Err (Unwritten.Refused refusal)) = refuses refusal
 
 abbrev pub next_on : List ℕ → Next Run → Next Kept
 next_on zeroth (goes run) = goes (record { run = run; zeroth = zeroth })
@@ -34,8 +32,8 @@ next_on zeroth (refuses refusal) = refuses refusal
 
 -- what the call for line i writes, if it has room
 abbrev pub row_by : Option Refusal → List ℕ → List ℕ
-row_by none row = row
-row_by (some refusal) row = []
+row_by None row = row
+row_by (Some refusal) row = []
 
 abbrev pub row_at : Kept → ℕ → List ℕ
 row_at k i = row_by (row_fault k.run i k.zeroth) (row_of k.run i k.zeroth)
@@ -50,8 +48,8 @@ abbrev pub line_of : Ending → Printed
 line_of e = to_output (refused_line (number_of e.refusal) e.block)
 
 abbrev pub end_on : Kept → Option Ending → Printed
-end_on k none = to_output (rows_from k 0 (length (held_of (lent k.run.table))))
-end_on k (some e) = line_of e
+end_on k None = to_output (rows_from k 0 (length (held_of (lent k.run.table))))
+end_on k (Some e) = line_of e
 
 abbrev pub block_calls : Singles Kept
 block_calls = record {
@@ -75,7 +73,7 @@ Rising [] = Unit {0}
 Rising (a ∷ []) = Unit {0}
 Rising (a ∷ b ∷ ss) = (a < b) × Rising (b ∷ ss)
 
--- lines in rising order of SSRC, so that none has two, and at most 16
+-- lines in rising order of SSRC, so that None has two, and at most 16
 pub record InOrder (ls : List Line) : Type 0 where
   pub rising : Rising (map (λ l. l.ssrc) ls)
   pub few : length ls ≤ most_places

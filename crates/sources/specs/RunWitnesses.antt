@@ -1,6 +1,5 @@
 -- The hypotheses of the theorems on a run of ecnstreams can be met: a trace of two sources, and what it meets, by theorem.
-use Rattle.std.specs.Prelude.{◌≡◌, List, [], ◌∷◌, ◌++◌, ℕ, ◌*◌, ◌^◌, ◌<◌, length, take}
-use Rattle.std.proofs.Math.Option.{none}
+use Rattle.std.specs.Prelude.{◌≡◌, List, [], ◌∷◌, ◌++◌, ℕ, ◌*◌, ◌^◌, ◌<◌, length, take, None}
 use Rattle.format.specs.Blocks.{block_bytes}
 use Rattle.format.specs.Forms.{shape_of}
 use Rattle.format.specs.declared.Form.TheVariants.{One}
@@ -8,7 +7,6 @@ use Rattle.trace.specs.Layout.{label_block, arrivals_block}
 use Rattle.trace.specs.Writing.{records_of}
 use Rattle.walk.specs.Programs.{Printed}
 use Rattle.walk.specs.Pieces.{Octets}
-use Rattle.walk.specs.Endings.{refusal_in}
 use Rattle.walk.specs.Machines.{Machine, Session}
 use Rattle.walk.specs.Singles.{Held as Handed, singly}
 use Rattle.sources.specs.Streams.{Kept}
@@ -43,4 +41,4 @@ pub record MetRun : Type 0 where
   -- EndHasRoom
   pub small : begun.progress.block < 2 ^ 64
   pub narrow : Narrow begun.progress.run.table.places
-  pub good : end_fault begun.progress zeroth (refusal_in begun.progress.ended) [] ≡ none
+  pub good : end_fault begun.progress zeroth begun.progress.ended [] ≡ None

@@ -1,10 +1,9 @@
 -- The calls of a run of ecnstreams (document 02, L1) on block 0 and on later blocks: a table of 16 places, with the jumps and restarts of each source beside it.
-use Rattle.std.specs.Prelude.{ℕ, ◌*◌, Bool, cond, List, [], ◌∷◌, map, eqb, leb, length, take, drop, replicate}
-use Rattle.std.proofs.Math.Option.{Option, none, some}
+use Rattle.answers.specs.declared.Unwritten.{Unwritten}
+use Rattle.std.specs.Prelude.{ℕ, ◌*◌, Bool, cond, List, [], ◌∷◌, map, eqb, leb, length, take, drop, replicate, Option, Some, None, Result, Ok, Err}
 use Rattle.answers.specs.Conditions.{all}
 use Rattle.answers.specs.declared.Refusal.{Refusal}
 use Rattle.answers.specs.declared.Refusal.TheVariants.{Malformed, Contents}
-use Rattle.answers.specs.declared.Written.TheVariants as written
 use Rattle.format.specs.Blocks.{body_at, body_bytes}
 use Rattle.format.specs.Forms.{shape_of, width, same_form}
 use Rattle.format.specs.declared.Form.{Form}
@@ -14,7 +13,6 @@ use Rattle.trace.specs.declared.Block.{Block}
 use Rattle.trace.specs.declared.Block.TheVariants as read
 use Rattle.walk.specs.Steps.{Next, goes, refuses, Stepped}
 use Rattle.sources.specs.declared.Table.{Table}
-use Rattle.sources.specs.declared.Checked.{Checked}
 use Rattle.sources.specs.declared.Counted.{Counted}
 use Rattle.sources.specs.declared.Counted.TheVariants as counted
 use Rattle.sources.specs.declared.runs.Run.{Run}
@@ -37,13 +35,19 @@ abbrev pub no_run : Run
 no_run = empty_run One 0
 
 -- 14 for arrivals
-abbrev pub start_by : Block → Step
-start_by (read.Label form n ssrc) = record { answer = written.Length 0; run = empty_run form n }
-start_by (read.Arrivals form n ssrc) = record { answer = written.Refused Contents; run = no_run }
-start_by (read.Refused refusal) = record { answer = written.Refused refusal; run = no_run }
+abbrev pub start_by : Result Block Refusal → Step
+start_by (Ok (read.Label form n ssrc)) = record { answer = Ok 0; run = empty_run form n }
+start_by (Ok (read.Arrivals form n ssrc)) = record { answer = Err (Unwritten.Refused Contents); run = no_run }
+start_by (Err refusal) = record { answer = Err (Unwritten.Refused refusal); run = no_run }
 
 unfoldable pub start_of : List ℕ → Step
 start_of zeroth = start_by (block_of zeroth)
+
+-- the refusal in a block's answer, if there is one
+abbrev pub refusal_in : Result ℕ Unwritten → Option Refusal
+refusal_in (Ok n) = None
+refusal_in (Err (Unwritten.Room n)) = None
+refusal_in (Err (Unwritten.Refused refusal)) = Some refusal
 
 -- ---- a later block: arrivals of the label's form, counted by the table's call
 
@@ -63,10 +67,10 @@ counted_run run n ssrc b =
     counted_by run t.table t.answer
 
 -- 14 for a label, and for another form
-abbrev pub next_by : Run → List ℕ → Block → Next Run
-next_by run b (read.Arrivals form n ssrc) = cond (same_form form run.form) (counted_run run n ssrc b) (refuses Contents)
-next_by run b (read.Label form n ssrc) = refuses Contents
-next_by run b (read.Refused refusal) = refuses refusal
+abbrev pub next_by : Run → List ℕ → Result Block Refusal → Next Run
+next_by run b (Ok (read.Arrivals form n ssrc)) = cond (same_form form run.form) (counted_run run n ssrc b) (refuses Contents)
+next_by run b (Ok (read.Label form n ssrc)) = refuses Contents
+next_by run b (Err refusal) = refuses refusal
 
 unfoldable pub next_of : Run → List ℕ → Next Run
 next_of run b = next_by run b (block_of b)
@@ -79,15 +83,15 @@ own_fields run = eqb run.table.count most_places ∷ leb run.length body_bytes �
 
 -- 16, and 9 for a held record, as the table says; then 9 for the run's own fields
 unfoldable pub run_fault : Run → Option Refusal
-run_fault run = or_else (fault_in run.table) (cond (all (own_fields run)) none (some Malformed))
+run_fault run = or_else (fault_in run.table) (cond (all (own_fields run)) None (Some Malformed))
 
 -- how many places are held, or the refusal
-abbrev pub judged : Run → Checked
+abbrev pub judged : Run → Result ℕ Refusal
 judged run = checked_by (run_fault run) (length (held_of (lent run.table)))
 
 abbrev pub unless : {A : Type 0} → Option Refusal → Next A → Next A
-unless (some refusal) next = refuses refusal
-unless none next = next
+unless (Some refusal) next = refuses refusal
+unless None next = next
 
 unfoldable pub call_next : Run → List ℕ → Next Run
 call_next run b = unless (run_fault run) (next_of run b)

@@ -1,13 +1,11 @@
 -- What a walk over the places of a table sees for one SSRC, place by place, and which places a call then changes: what the loops do.
-use Rattle.std.specs.Prelude.{ℕ, suc, ◌+◌, Bool, true, false, cond, not, ◌&&◌, ◌||◌, List, [], ◌∷◌, eqb, leb, ltb, take}
-use Rattle.std.proofs.Math.Option.{Option, none, some}
+use Rattle.std.specs.Prelude.{ℕ, suc, ◌+◌, Bool, true, false, cond, not, ◌&&◌, ◌||◌, List, [], ◌∷◌, eqb, leb, ltb, take, Option, Some, None, Result}
 use Rattle.answers.specs.declared.Refusal.{Refusal}
 use Rattle.answers.specs.declared.Refusal.TheVariants.{Malformed, Rules}
 use Rattle.source.specs.declared.Source.{Source}
 use Rattle.source.specs.Record.{fresh_record}
 use Rattle.sources.specs.declared.Place.{Place}
 use Rattle.sources.specs.declared.Stand.{Stand}
-use Rattle.sources.specs.declared.Checked.{Checked}
 use Rattle.sources.specs.declared.finding.Seen.{Seen}
 use Rattle.sources.specs.Places.{held, empty, sound_place}
 use Rattle.sources.specs.Rules.{most_places}
@@ -80,7 +78,7 @@ unfoldable pub seen_from : ℕ → Seen → ℕ → List Place → Seen
 seen_from ssrc s i [] = s
 seen_from ssrc s i (p ∷ ps) = seen_from ssrc (seen_next s i p ssrc) (suc i) ps
 
--- the first `count` places; none where there are over 16
+-- the first `count` places; None where there are over 16
 unfoldable pub seen_in : ℕ → ℕ → List Place → Seen
 seen_in ssrc count ps = seen_from ssrc (seen_first count) 0 (take (in_use count) ps)
 
@@ -89,11 +87,11 @@ seen_in ssrc count ps = seen_from ssrc (seen_first count) 0 (take (in_use count)
 -- 16, then 9
 abbrev pub fault_seen : Seen → Option Refusal
 fault_seen s =
-    cond (not s.ruled) (some Rules)
-    (cond (not s.sound) (some Malformed)
-    none)
+    cond (not s.ruled) (Some Rules)
+    (cond (not s.sound) (Some Malformed)
+    None)
 
-abbrev pub checked_seen : Seen → Checked
+abbrev pub checked_seen : Seen → Result ℕ Refusal
 checked_seen s = checked_by (fault_seen s) s.held
 
 -- a place for the SSRC

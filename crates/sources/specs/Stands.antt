@@ -1,7 +1,6 @@
 -- Where an SSRC stands among the held places of a table, and how a record is put there (document 02, L1: "a new one is put in its place and the others
 -- keep their contents").
-use Rattle.std.specs.Prelude.{ℕ, suc, Bool, true, false, cond, List, [], ◌∷◌, ◌++◌, eqb, ltb, length, take}
-use Rattle.std.proofs.Math.Option.{Option, none, some}
+use Rattle.std.specs.Prelude.{ℕ, suc, Bool, true, false, cond, List, [], ◌∷◌, ◌++◌, eqb, ltb, length, take, Option, Some, None}
 use Rattle.source.specs.declared.Source.{Source}
 use Rattle.source.specs.Record.{fresh_record}
 use Rattle.sources.specs.declared.Place.{Place}
@@ -14,17 +13,17 @@ stands_at ssrc (p ∷ ps) = cond (ltb p.ssrc ssrc) (suc (stands_at ssrc ps)) 0
 
 -- the record of an SSRC, if a place has it
 unfoldable pub found : ℕ → List Place → Option Source
-found ssrc [] = none
-found ssrc (p ∷ ps) = cond (eqb p.ssrc ssrc) (some p.source) (found ssrc ps)
+found ssrc [] = None
+found ssrc (p ∷ ps) = cond (eqb p.ssrc ssrc) (Some p.source) (found ssrc ps)
 
 abbrev pub is_new : Option Source → Bool
-is_new none = true
-is_new (some s) = false
+is_new None = true
+is_new (Some s) = false
 
 -- that of a new SSRC is fresh
 abbrev pub record_in : Option Source → Source
-record_in none = fresh_record
-record_in (some s) = s
+record_in None = fresh_record
+record_in (Some s) = s
 
 -- the places with one put among them by its SSRC: in place of the one that has it, or as a new one
 unfoldable pub put : Place → List Place → List Place

@@ -1,6 +1,5 @@
 -- A table by value: 16 places, of which the first `count` are in use. A call answers as on a lent slice of those, and leaves the others alone.
-use Rattle.std.specs.Prelude.{ℕ, Bool, cond, List, ◌++◌, ltb, length, take, drop, replicate}
-use Rattle.std.proofs.Math.Option.{Option, some}
+use Rattle.std.specs.Prelude.{ℕ, Bool, cond, List, ◌++◌, ltb, length, take, drop, replicate, Option, Some}
 use Rattle.answers.specs.declared.Refusal.{Refusal}
 use Rattle.answers.specs.declared.Refusal.TheVariants.{Rules}
 use Rattle.format.specs.declared.Wire.{Wire}
@@ -31,7 +30,7 @@ over t = ltb most_places t.count
 
 -- such a count is 16, first of all; else the refusals of the places in use
 unfoldable pub fault_in : Table → Option Refusal
-fault_in t = cond (over t) (some Rules) (fault (lent t))
+fault_in t = cond (over t) (Some Rules) (fault (lent t))
 
 -- 16 for such a count, and the table as it was; else as on the places in use
 unfoldable pub arrived_in : Table → ℕ → Wire → ℕ → TableArrived

@@ -1,6 +1,5 @@
 -- What holds of a table (document 02, L1).
-use Rattle.std.specs.Prelude.{◌≡◌, Bool, true, false, cond, not, ◌&&◌, List, [], ◌∷◌, ◌++◌, ℕ, ◌<◌, eqb, ltb, get_or}
-use Rattle.std.proofs.Math.Option.{none, some}
+use Rattle.std.specs.Prelude.{◌≡◌, Bool, true, false, cond, not, ◌&&◌, List, [], ◌∷◌, ◌++◌, ℕ, ◌<◌, eqb, ltb, get_or, Some, None}
 use Rattle.answers.specs.Refusals.{number_of}
 use Rattle.answers.specs.declared.Refusal.{Refusal}
 use Rattle.format.specs.declared.Wire.{Wire}
@@ -19,11 +18,11 @@ use Rattle.sources.specs.Answers.{refusal, arrive_answer, arrive_places, count_a
 
 abbrev pub ArrivalKeepsRules : Type 0
 ArrivalKeepsRules =
-    (ps : List Place) (ssrc : ℕ) (wire : Wire) (mark : ℕ) → wire.0 < 65536 → fault ps ≡ none → fault (arrive_places ps ssrc wire mark) ≡ none
+    (ps : List Place) (ssrc : ℕ) (wire : Wire) (mark : ℕ) → wire.0 < 65536 → fault ps ≡ None → fault (arrive_places ps ssrc wire mark) ≡ None
 
 abbrev pub BlockKeepsRules : Type 0
 BlockKeepsRules =
-    (ps : List Place) (ssrc width : ℕ) (bytes : List ℕ) → ((i : ℕ) → get_or bytes i 0 < 256) → fault ps ≡ none → fault (count_places ps ssrc width bytes) ≡ none
+    (ps : List Place) (ssrc width : ℕ) (bytes : List ℕ) → ((i : ℕ) → get_or bytes i 0 < 256) → fault ps ≡ None → fault (count_places ps ssrc width bytes) ≡ None
 
 -- ---- every refusal but 7 leaves the places as they were, 8 among them
 
@@ -49,15 +48,15 @@ pub record PutIn (p : Place) (before behind : List Place) : Type 0 where
 
 abbrev pub NewIsPutIn : Type 0
 NewIsPutIn =
-    (ps : List Place) (ssrc : ℕ) (wire : Wire) (mark : ℕ) → wire.0 < 65536 → refusal (ltb 3 mark) ssrc ps ≡ none → new_to ssrc ps ≡ true
+    (ps : List Place) (ssrc : ℕ) (wire : Wire) (mark : ℕ) → wire.0 < 65536 → refusal (ltb 3 mark) ssrc ps ≡ None → new_to ssrc ps ≡ true
     → PutIn (record { ssrc = ssrc; source = after (arrival (record_of ssrc ps) wire mark) }) ps (arrive_places ps ssrc wire mark)
 
 -- what is found of every SSRC after a call that was not so refused
 abbrev pub OthersKeep : Type 0
 OthersKeep =
-    (ps : List Place) (ssrc : ℕ) (wire : Wire) (mark : ℕ) → wire.0 < 65536 → refusal (ltb 3 mark) ssrc ps ≡ none → (other : ℕ)
+    (ps : List Place) (ssrc : ℕ) (wire : Wire) (mark : ℕ) → wire.0 < 65536 → refusal (ltb 3 mark) ssrc ps ≡ None → (other : ℕ)
     → found other (held_of (arrive_places ps ssrc wire mark))
-    ≡ cond (eqb ssrc other) (some (after (arrival (record_of ssrc ps) wire mark))) (found other (held_of ps))
+    ≡ cond (eqb ssrc other) (Some (after (arrival (record_of ssrc ps) wire mark))) (found other (held_of ps))
 
 -- ---- two arrivals for different sources give the same table in either order where neither is refused in either order
 
@@ -114,8 +113,8 @@ unfoldable pub Wires : List Arrival → Type 0
 Wires [] = Unit {0}
 Wires (a ∷ rest) = (a.wire.0 < 65536) × Wires rest
 
--- whatever calls for other sources come between; from the fresh record where the table had none
+-- whatever calls for other sources come between; from the fresh record where the table had None
 abbrev pub EachSourceAlone : Type 0
 EachSourceAlone =
-    (ps : List Place) (calls : List Arrival) (ssrc : ℕ) → Wires calls → fault ps ≡ none → places_suffice ssrc ps calls ≡ true
+    (ps : List Place) (calls : List Arrival) (ssrc : ℕ) → Wires calls → fault ps ≡ None → places_suffice ssrc ps calls ≡ true
     → record_of ssrc (behind_all ps calls) ≡ record_behind (record_of ssrc ps) (naming ssrc calls)

@@ -1,8 +1,6 @@
 -- The hypotheses of the theorems on a table can be met: a table and calls on it, and what they meet, by theorem.
-use Rattle.std.specs.Prelude.{◌≡◌, true, List, [], ◌∷◌, ℕ, ◌-◌, ◌^◌, ◌<◌, ltb, pos, get_or}
-use Rattle.std.proofs.Math.Option.{none}
+use Rattle.std.specs.Prelude.{◌≡◌, true, List, [], ◌∷◌, ℕ, ◌-◌, ◌^◌, ◌<◌, ltb, pos, get_or, None}
 use Rattle.answers.specs.declared.Refusal.TheVariants.{Full, Limits}
-use Rattle.source.specs.declared.Remembered.TheVariants.{Nothing}
 use Rattle.source.specs.Arrivals.{extended}
 use Rattle.sources.specs.declared.Place.{Place}
 use Rattle.sources.specs.declared.Arrived.TheVariants.{Refused}
@@ -27,7 +25,7 @@ some_table =
         ce = 0;
         duplicates = 0;
         history = record { recent = 1; older = 0 };
-        remembered = Nothing;
+        remembered = None;
       };
     }
     ∷ empty_place
@@ -44,7 +42,7 @@ lower = calling 3 100 1
 abbrev pub next : Arrival
 next = calling 7 0 3
 
--- with them a jump, a mark above 3, a source that takes the last place, and one that finds none
+-- with them a jump, a mark above 3, a source that takes the last place, and one that finds None
 abbrev pub some_calls : List Arrival
 some_calls = lower ∷ calling 7 30000 2 ∷ next ∷ calling 3 101 4 ∷ calling 9 5 0 ∷ calling 11 5 0 ∷ []
 
@@ -66,7 +64,7 @@ full_table =
         ce = 0;
         duplicates = 2 ^ 48 - 1;
         history = record { recent = 1; older = 0 };
-        remembered = Nothing;
+        remembered = None;
       };
     }
     ∷ []
@@ -76,11 +74,11 @@ pub record Met : Type 0 where
   pub all_counted : answer full_table next ≡ Refused Full
   pub no_records : count_answer some_table 3 8 [] ≡ NotCounted Limits
   -- ArrivalKeepsRules, BlockKeepsRules
-  pub good : fault some_table ≡ none
+  pub good : fault some_table ≡ None
   pub wire : lower.wire.0 < 65536
   pub bytes : (i : ℕ) → get_or some_bytes i 0 < 256
   -- NewIsPutIn, OthersKeep
-  pub free : refusal (ltb 3 1) 3 some_table ≡ none
+  pub free : refusal (ltb 3 1) 3 some_table ≡ None
   pub new : new_to 3 some_table ≡ true
   -- EitherOrder
   pub lower_first : taken (answer some_table lower) ≡ true

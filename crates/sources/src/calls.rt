@@ -1,13 +1,12 @@
 // What a call does with what a walk over the places saw: its answer, and the places that change.
 ghost use Rattle.std.specs.Prelude.{◌≡◌, ltb};
-ghost use Rattle.std.proofs.Math.Option.{none, some};
 ghost use Rattle.source.specs.Arrivals.{after};
 ghost use Rattle.sources.specs.Places.{empty_place};
 ghost use Rattle.sources.specs.Answers.{told};
 ghost use Rattle.sources.specs.Changes.{no_change, change_of, not_arriving, arriving_by, arriving, not_counting, settled, counting_by, counting};
 
 use crate::finding::Seen;
-use crate::{Arrived, Checked, Counted, Place, finding};
+use crate::{Arrived, Counted, Place, finding};
 use answers::Refusal;
 use format::Wire;
 use source::{Arrival, BlockCount, Source};
@@ -91,7 +90,7 @@ fn not_arriving(refusal: Refusal) -> Arriving
 
 // An arrival in a table that neither 16 nor 9 refuses.
 fn arrive_held(seen: Seen, ssrc: u32, wire: Wire, mark: u8) -> Arriving
-    ensures { result ≡ arriving_by none seen ssrc wire mark }
+    ensures { result ≡ arriving_by None seen ssrc wire mark }
 {
     if 3 < mark {
         return not_arriving(Refusal::Limits);
@@ -115,8 +114,8 @@ pub fn arrive(seen: Seen, ssrc: u32, wire: Wire, mark: u8) -> Arriving
     ensures { result ≡ arriving seen ssrc wire mark }
 {
     match finding::judged(seen) {
-        Checked::Refused(refusal) => not_arriving(refusal),
-        Checked::Held(_) => arrive_held(seen, ssrc, wire, mark),
+        Err(refusal) => not_arriving(refusal),
+        Ok(_) => arrive_held(seen, ssrc, wire, mark),
     }
 }
 
@@ -147,7 +146,7 @@ fn settled(seen: Seen, place: Place, jumps: u64, restarts: u64) -> Counting
 
 // A block in a table that neither 16 nor 9 refuses.
 fn count_held(seen: Seen, ssrc: u32, records: &[u8], width: usize) -> Counting
-    ensures { result ≡ counting_by none seen ssrc width records.now }
+    ensures { result ≡ counting_by None seen ssrc width records.now }
 {
     let s = seen.source;
     match engine::count_block(s, records, width) {
@@ -163,7 +162,7 @@ pub fn count_block(seen: Seen, ssrc: u32, records: &[u8], width: usize) -> Count
     ensures { result ≡ counting seen ssrc width records.now }
 {
     match finding::judged(seen) {
-        Checked::Refused(refusal) => not_counting(refusal),
-        Checked::Held(_) => count_held(seen, ssrc, records, width),
+        Err(refusal) => not_counting(refusal),
+        Ok(_) => count_held(seen, ssrc, records, width),
     }
 }

@@ -8,8 +8,8 @@ ghost use Rattle.sources.specs.Compounds.{receiver_report, feedbacks, compound_b
 ghost use Rattle.sources.specs.Tables.{lent, fault_in};
 ghost use Rattle.sources.specs.Checks.{Good};
 
-use crate::{Checked, Table, finding, tables};
-use answers::Written;
+use crate::{Table, finding, tables};
+use answers::Unwritten;
 use numbers::big_endian::write32;
 
 // The RR's first word: version 2, no report blocks, type 201, length 1.
@@ -38,30 +38,30 @@ fn put_feedbacks(t: Table, n: usize, sender: u32, out: &mut [u8])
         let p = t.places[i];
         let s = p.source;
         let at = HEAD + PACKET * i;
-        report::write_feedback(s, sender, p.ssrc, &mut out[at..]);
+        let _ = report::write_feedback(s, sender, p.ssrc, &mut out[at..]);
         i += 1;
     }
 }
 
 // The compound of a table of which n places are held.
-fn write_held(t: Table, n: usize, sender: u32, out: &mut [u8]) -> Written
+fn write_held(t: Table, n: usize, sender: u32, out: &mut [u8]) -> Result<usize, Unwritten>
     requires { Good t n }
     ensures { Wrote (fault_in t) (compound_bytes sender (lent t)) out.old result out.new }
 {
     let size = HEAD + PACKET * n;
     if out.len() < size {
-        return Written::Room(size);
+        return Err(Unwritten::Room(size));
     }
     put_report(sender, out);
     put_feedbacks(t, n, sender, out);
-    Written::Length(size)
+    Ok(size)
 }
 
-pub fn write(t: Table, sender: u32, out: &mut [u8]) -> Written
+pub fn write(t: Table, sender: u32, out: &mut [u8]) -> Result<usize, Unwritten>
     ensures { Wrote (fault_in t) (compound_bytes sender (lent t)) out.old result out.new }
 {
     match finding::judged(tables::find(t, 0)) {
-        Checked::Refused(refusal) => Written::Refused(refusal),
-        Checked::Held(n) => write_held(t, n, sender, out),
+        Err(refusal) => Err(Unwritten::Refused(refusal)),
+        Ok(n) => write_held(t, n, sender, out),
     }
 }

@@ -3,7 +3,7 @@ ghost use Rattle.std.specs.Prelude.{◌≡◌, not, ◌&&◌, ◌||◌, ◌<◌,
 ghost use Rattle.sources.specs.Places.{held, empty};
 ghost use Rattle.sources.specs.Seeing.{seen_first, seen_next, seen_held, seen_other, stand_seen, end_seen, source_seen, checked_seen, roomy};
 
-use crate::{Checked, Place, Stand, Table};
+use crate::{Place, Stand, Table};
 use answers::Refusal;
 use source::Source;
 
@@ -145,16 +145,16 @@ pub fn with(seen: Seen, i: usize, p: Place, ssrc: u32) -> Seen
 }
 
 // 16, then 9; or how many places are held.
-pub fn judged(seen: Seen) -> Checked
+pub fn judged(seen: Seen) -> Result<usize, Refusal>
     ensures { result ≡ checked_seen seen }
 {
     if !seen.ruled {
-        return Checked::Refused(Refusal::Rules);
+        return Err(Refusal::Rules);
     }
     if !seen.sound {
-        return Checked::Refused(Refusal::Malformed);
+        return Err(Refusal::Malformed);
     }
-    Checked::Held(seen.held)
+    Ok(seen.held)
 }
 
 // Whether there is a place for the SSRC.

@@ -7,8 +7,8 @@ ghost use Rattle.sources.specs.Tallies.{sound_tally};
 ghost use Rattle.sources.specs.Runs.{own_fields, judged};
 ghost use Rattle.sources.specs.Rows.{own_conditions, judged_with};
 
+use crate::Table;
 use crate::runs::{Run, Tally};
-use crate::{Checked, Table};
 use answers::Refusal;
 use format::Form;
 use format::block::{BLOCK, BODY, BODY_BYTES, COUNT, KIND};
@@ -57,17 +57,17 @@ fn has_fields(run: Run) -> bool
 }
 
 // How many places are held. Refusals: 16, then 9.
-pub fn judge(run: Run) -> Checked
+pub fn judge(run: Run) -> Result<usize, Refusal>
     ensures { result ≡ judged run }
 {
     let table = run.table;
     match table.check() {
-        Checked::Refused(refusal) => Checked::Refused(refusal),
-        Checked::Held(n) => {
+        Err(refusal) => Err(refusal),
+        Ok(n) => {
             if !has_fields(run) {
-                return Checked::Refused(Refusal::Malformed);
+                return Err(Refusal::Malformed);
             }
-            Checked::Held(n)
+            Ok(n)
         }
     }
 }
@@ -100,16 +100,16 @@ fn is_own(run: Run, zeroth: &[u8]) -> bool
 }
 
 // How many places are held, where block 0 is the run's own. Refusals: 16, then 9.
-pub fn judge_with(run: Run, zeroth: &[u8]) -> Checked
+pub fn judge_with(run: Run, zeroth: &[u8]) -> Result<usize, Refusal>
     ensures { result ≡ judged_with run zeroth.now }
 {
     match judge(run) {
-        Checked::Refused(refusal) => Checked::Refused(refusal),
-        Checked::Held(n) => {
+        Err(refusal) => Err(refusal),
+        Ok(n) => {
             if !is_own(run, zeroth) {
-                return Checked::Refused(Refusal::Malformed);
+                return Err(Refusal::Malformed);
             }
-            Checked::Held(n)
+            Ok(n)
         }
     }
 }

@@ -1,9 +1,8 @@
 // The blocks of a piece whose SSRCs have places: each is counted where it stands. No check of the table is paid per block: the run was judged, and a counted block
 // keeps the rules (`block_keeps_rules`).
 ghost use Rattle.std.specs.Prelude.{◌≡◌, ◌≤◌, ◌<◌, length};
-ghost use Rattle.std.proofs.Math.Option.{none};
-ghost use Rattle.trace.specs.Reading.{block_of};
 ghost use Rattle.trace.specs.declared.Block.{Block};
+ghost use Rattle.trace.specs.Reading.{block_of};
 ghost use Rattle.sources.specs.Runs.{run_fault};
 ghost use Rattle.sources.specs.Known.{CountsHere, Renews, Onward};
 
@@ -19,13 +18,6 @@ use numbers::big_endian::read32;
 use source::BlockCount;
 use trace::Block;
 use trace::read::read_block;
-
-// A place and its tally with the arrivals of a block; or it is no block of arrivals of that SSRC.
-#[derive(Clone, Copy)]
-pub enum Renewal {
-    Held(Place, Tally),
-    Other,
-}
 
 // How far the loop came: the run, and the place of the next block in the piece.
 #[derive(Clone, Copy)]
@@ -61,54 +53,55 @@ fn place_of(ssrcs: [u32; 16], ssrc: u32) -> usize
 }
 
 // A held place with the n arrivals of a block.
-fn counted(form: Form, p: Place, t: Tally, n: usize, block: &[u8]) -> Renewal
-    requires { block_of block.now ≡ Block.Arrivals form n p.ssrc }
+fn counted(form: Form, p: Place, t: Tally, n: usize, block: &[u8]) -> Option<(Place, Tally)>
+    requires { block_of block.now ≡ Ok (Block.Arrivals form n p.ssrc) }
     ensures { CountsHere form p t n block.now result }
 {
     let s = p.source;
     let width = form.width();
     let end = BODY + n * width;
     match count_block(s, &block[BODY..end], width) {
-        BlockCount::Refused(_, _) => Renewal::Other,
+        BlockCount::Refused(_, _) => None,
         BlockCount::Counted(source, jumps, restarts) => {
             let place = Place {
                 ssrc: p.ssrc,
                 source,
             };
-            Renewal::Held(place, raised(t, jumps, restarts))
+            Some((place, raised(t, jumps, restarts)))
         }
     }
 }
 
 // A place with the arrivals of a block, if it is the held one of their SSRC.
-fn renewed(form: Form, p: Place, t: Tally, block: &[u8]) -> Renewal
+fn renewed(form: Form, p: Place, t: Tally, block: &[u8]) -> Option<(Place, Tally)>
     ensures { Renews form p t block.now result }
 {
-    let read = read_block(block);
-    let Block::Arrivals {
-        form: its,
-        count,
-        ssrc,
-    } = read
+    let Ok(
+        Block::Arrivals {
+            form: its,
+            count,
+            ssrc,
+        },
+    ) = read_block(block)
     else {
-        return Renewal::Other;
+        return None;
     };
     if !is_of_trace(form, its) {
-        return Renewal::Other;
+        return None;
     }
     if ssrc != p.ssrc {
-        return Renewal::Other;
+        return None;
     }
     if !is_held(p) {
-        return Renewal::Other;
+        return None;
     }
     counted(form, p, t, count, block)
 }
 
 // Takes the blocks of a piece from a place on: to the last, or to one that is refused or whose SSRC is new.
 pub fn take(start: Run, piece: &[u8], from: usize) -> Known
-    requires { (run_fault start ≡ none) × (from ≤ length piece.now) }
-    ensures { Onward piece.now start from result.run result.at × (run_fault result.run ≡ none) }
+    requires { (run_fault start ≡ None) × (from ≤ length piece.now) }
+    ensures { Onward piece.now start from result.run result.at × (run_fault result.run ≡ None) }
 {
     let form = start.form;
     let length = start.length;
@@ -122,11 +115,11 @@ pub fn take(start: Run, piece: &[u8], from: usize) -> Known
         let p = table.places[i];
         let t = tallies[i];
         match renewed(form, p, t, &piece[at..end]) {
-            Renewal::Held(place, tally) => {
+            Some((place, tally)) => {
                 table.places[i] = place;
                 tallies[i] = tally;
             }
-            Renewal::Other => {
+            None => {
                 let run = Run {
                     form,
                     length,

@@ -23,7 +23,7 @@ pub mod runs;
 mod stepping;
 mod tables;
 
-use answers::{Refusal, Written};
+use answers::{Refusal, Unwritten};
 use format::Wire;
 use source::Source;
 
@@ -39,13 +39,6 @@ pub struct Place {
 pub struct Table {
     pub places: [Place; 16],
     pub count: usize,
-}
-
-// How many places are held, all in front; or the refusal.
-#[derive(Clone, Copy)]
-pub enum Checked {
-    Held(usize),
-    Refused(Refusal),
 }
 
 // The answer to an arrival.
@@ -110,7 +103,7 @@ impl Table {
     }
 
     // Which of the places in use are held: the first so many. Refusals: 16 table against the rules, 9 a malformed record.
-    pub fn check(self) -> Checked
+    pub fn check(self) -> Result<usize, Refusal>
         ensures { result ≡ checked_in self }
     {
         finding::judged(tables::find(self, 0))
@@ -139,7 +132,7 @@ impl Table {
 
     // Writes the compound: an RR without report blocks and one ECN feedback packet for each held place, from the SSRC `sender`. Refusals: 16 table against
     // the rules, 9 a malformed record, 12 no room.
-    pub fn write_compound(self, sender: u32, out: &mut [u8]) -> Written
+    pub fn write_compound(self, sender: u32, out: &mut [u8]) -> Result<usize, Unwritten>
         ensures { Wrote (fault_in self) (compound_bytes sender (lent self)) out.old result out.new }
     {
         compound::write(self, sender, out)
@@ -147,7 +140,7 @@ impl Table {
 }
 
 // How many places of a lent table are held, all in front. Refusals: 16 table against the rules, 9 a malformed record.
-pub fn check(places: &[Place]) -> Checked
+pub fn check(places: &[Place]) -> Result<usize, Refusal>
     ensures { result ≡ checked places.now }
 {
     let seen = lending::find(places, 0);
@@ -176,7 +169,7 @@ pub fn count_block(places: &mut [Place], ssrc: u32, records: &[u8], width: usize
 }
 
 // Writes the compound of a lent table, from the SSRC `sender`. Refusals: 16 table against the rules, 9 a malformed record, 12 no room.
-pub fn write_compound(places: &[Place], sender: u32, out: &mut [u8]) -> Written
+pub fn write_compound(places: &[Place], sender: u32, out: &mut [u8]) -> Result<usize, Unwritten>
     ensures { Wrote (fault places.now) (compound_bytes sender places.now) out.old result out.new }
 {
     let t = lending::load(places);

@@ -1,44 +1,42 @@
 // A run of ecnstreams over pieces of a trace, in three calls: block 0; the whole blocks of a piece; the end. What they write, joined, is what the program prints,
 // however the trace is cut (specs/Pieces, `trace_prints`).
 ghost use Rattle.std.specs.Prelude.{◌≡◌};
-ghost use Rattle.std.proofs.Math.Option.{none};
 ghost use Rattle.answers.specs.Refusals.{number_of};
 ghost use Rattle.answers.specs.Writers.{Wrote};
-ghost use Rattle.answers.specs.declared.Written.TheVariants.{Length};
 ghost use Rattle.table.specs.Lines.{refused_line};
 ghost use Rattle.sources.specs.Runs.{run_fault};
 ghost use Rattle.sources.specs.Pieces.{begin_of, not_begun, Begins, TakesWhole, Takes, Ends};
 
 use crate::judging::judge_with;
+use crate::known;
 use crate::rows::write_rows;
 use crate::runs::Run;
-use crate::stepping::step;
-use crate::{Checked, known};
-use answers::{Refusal, Written};
+use crate::stepping::{refusal_in, step};
+use answers::{Refusal, Unwritten};
 use format::Form;
 use format::block::BLOCK;
 use table::{write_head, write_refused};
-use walk::{Closed, Ended, number_after};
+use walk::{Closed, number_after};
 
 // How far a run has come: what is kept between blocks, the number of the next block, and whether that was refused.
 #[derive(Clone, Copy)]
 pub struct Progress {
     pub run: Run,
     pub block: u64,
-    pub ended: Ended,
+    pub ended: Option<Refusal>,
 }
 
 // The answer to block 0: what the writer of the head line says, and the progress.
 #[derive(Clone, Copy)]
 pub struct Begun {
-    pub answer: Written,
+    pub answer: Result<usize, Unwritten>,
     pub progress: Progress,
 }
 
 // The answer to a piece: what was written, how many bytes of the piece were taken, and the progress.
 #[derive(Clone, Copy)]
 pub struct Taken {
-    pub answer: Written,
+    pub answer: Result<usize, Unwritten>,
     pub bytes: usize,
     pub progress: Progress,
 }
@@ -48,7 +46,7 @@ pub struct Taken {
 struct Reach {
     run: Run,
     bytes: usize,
-    ended: Ended,
+    ended: Option<Refusal>,
 }
 
 // The progress behind block 0.
@@ -56,18 +54,16 @@ fn started(zeroth: &[u8]) -> Progress
     ensures { result ≡ begin_of zeroth.now }
 {
     let first = Run::start(zeroth);
-    let run = first.run;
-    let answer = first.answer;
-    match answer {
-        Written::Refused(refusal) => Progress {
-            run,
+    match refusal_in(first.answer) {
+        Some(refusal) => Progress {
+            run: first.run,
             block: 0,
-            ended: Ended::Refused(refusal),
+            ended: Some(refusal),
         },
-        _ => Progress {
-            run,
+        None => Progress {
+            run: first.run,
             block: 1,
-            ended: Ended::Going,
+            ended: None,
         },
     }
 }
@@ -79,13 +75,13 @@ fn not_begun() -> Progress
     Progress {
         run: Run::empty(Form::One, 0),
         block: 0,
-        ended: Ended::Going,
+        ended: None,
     }
 }
 
 // Takes the whole blocks of a piece in turn. A refused block ends the run.
 fn take_whole(start: Run, piece: &[u8]) -> Reach
-    requires { run_fault start ≡ none }
+    requires { run_fault start ≡ None }
     ensures { TakesWhole start piece.now result.run result.bytes result.ended }
 {
     let mut run = start;
@@ -98,17 +94,16 @@ fn take_whole(start: Run, piece: &[u8]) -> Reach
             return Reach {
                 run: here,
                 bytes: from,
-                ended: Ended::Going,
+                ended: None,
             };
         }
         let end = from + BLOCK;
         let next = step(here, &piece[from..end]);
-        let answer = next.answer;
-        if let Written::Refused(refusal) = answer {
+        if let Some(refusal) = refusal_in(next.answer) {
             return Reach {
                 run: here,
                 bytes: from,
-                ended: Ended::Refused(refusal),
+                ended: Some(refusal),
             };
         }
         run = next.run;
@@ -117,12 +112,12 @@ fn take_whole(start: Run, piece: &[u8]) -> Reach
     Reach {
         run,
         bytes: at,
-        ended: Ended::Going,
+        ended: None,
     }
 }
 
 // A piece of which nothing is taken.
-fn none_taken(progress: Progress, answer: Written) -> Taken
+fn none_taken(progress: Progress, answer: Result<usize, Unwritten>) -> Taken
     ensures { result ≡ record { answer = answer; bytes = 0; progress = progress } }
 {
     Taken {
@@ -134,12 +129,12 @@ fn none_taken(progress: Progress, answer: Written) -> Taken
 
 // The end of a run by a refusal at a block.
 fn refused_at(refusal: Refusal, block: u64, out: &mut [u8]) -> Closed
-    ensures { (result.err ≡ Length 0) × Wrote none (refused_line (number_of refusal) block) out.old result.out out.new }
+    ensures { (result.err ≡ Ok 0) × Wrote None (refused_line (number_of refusal) block) out.old result.out out.new }
 {
     let line = write_refused(refusal.number(), block, out);
     Closed {
         out: line,
-        err: Written::Length(0),
+        err: Ok(0),
     }
 }
 
@@ -151,11 +146,11 @@ impl Progress {
     {
         let answer = write_head(out);
         match answer {
-            Written::Length(_) => Begun {
+            Ok(_) => Begun {
                 answer,
                 progress: started(zeroth),
             },
-            _ => Begun {
+            Err(_) => Begun {
                 answer,
                 progress: not_begun(),
             },
@@ -169,12 +164,11 @@ impl Progress {
         ensures { Takes self zeroth.now piece.now out.old result out.new }
     {
         let run = self.run;
-        let before = self.ended;
-        let Ended::Going = before else {
-            return none_taken(self, Written::Length(0));
-        };
-        if let Checked::Refused(refusal) = judge_with(run, zeroth) {
-            return none_taken(self, Written::Refused(refusal));
+        if let Some(_) = self.ended {
+            return none_taken(self, Ok(0));
+        }
+        if let Err(refusal) = judge_with(run, zeroth) {
+            return none_taken(self, Err(Unwritten::Refused(refusal)));
         }
         let reach = take_whole(run, piece);
         let next = reach.run;
@@ -185,7 +179,7 @@ impl Progress {
             ended,
         };
         Taken {
-            answer: Written::Length(0),
+            answer: Ok(0),
             bytes: reach.bytes,
             progress,
         }
@@ -200,13 +194,13 @@ impl Progress {
         let run = self.run;
         let ended = self.ended;
         match ended {
-            Ended::Refused(refusal) => refused_at(refusal, self.block, out),
-            Ended::Going => {
+            Some(refusal) => refused_at(refusal, self.block, out),
+            None => {
                 if rest.len() == 0 {
                     let written = write_rows(run, zeroth, out);
                     return Closed {
                         out: written,
-                        err: Written::Length(0),
+                        err: Ok(0),
                     };
                 }
                 refused_at(Refusal::Incomplete, self.block, out)

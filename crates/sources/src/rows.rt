@@ -1,31 +1,35 @@
 // The rows of a run's lines.
 ghost use Rattle.std.specs.Prelude.{◌≡◌, ◌+◌, ◌≤◌, ◌<◌, length};
-ghost use Rattle.std.proofs.Math.Option.{none};
 ghost use Rattle.std.proofs.lemmas.List.Edits.{sets};
 ghost use Rattle.answers.specs.Writers.{Wrote};
 ghost use Rattle.table.specs.Lines as table;
 ghost use Rattle.sources.specs.Rows.{lines_of, label_of, rows_of, rows_fault, row_fault, row_of, Judged};
 
-use crate::Checked;
 use crate::judging::judge_with;
 use crate::runs::Run;
-use answers::{Refusal, Written};
+use answers::{Refusal, Unwritten};
 use format::block::BODY;
 use source::Totals;
 use table::write_row;
 
 // Writes the row of a line, which is not refused.
-fn write_line(label: &[u8], ssrc: u32, totals: Totals, out: &mut [u8]) -> Written
-    requires { table.row_fault label.now totals ≡ none }
-    ensures { Wrote none (table.row_bytes label.now ssrc totals) out.old result out.new × (length (table.row_bytes label.now ssrc totals) ≤ 1228) }
+fn write_line(label: &[u8], ssrc: u32, totals: Totals, out: &mut [u8]) -> Result<usize, Unwritten>
+    requires { table.row_fault label.now totals ≡ None }
+    ensures { Wrote None (table.row_bytes label.now ssrc totals) out.old result out.new × (length (table.row_bytes label.now ssrc totals) ≤ 1228) }
 {
     write_row(label, ssrc, totals, out)
 }
 
 // Writes the row of the line in place i, of a run that was judged.
-fn write_held(run: Run, n: usize, i: usize, zeroth: &[u8], out: &mut [u8]) -> Written
+fn write_held(
+    run: Run,
+    n: usize,
+    i: usize,
+    zeroth: &[u8],
+    out: &mut [u8],
+) -> Result<usize, Unwritten>
     requires { Judged run zeroth.now n × (i < n) }
-    ensures { Wrote none (row_of run i zeroth.now) out.old result out.new × (length (row_of run i zeroth.now) ≤ 1228) }
+    ensures { Wrote None (row_of run i zeroth.now) out.old result out.new × (length (row_of run i zeroth.now) ≤ 1228) }
 {
     let table = run.table;
     let p = table.places[i];
@@ -41,14 +45,14 @@ fn write_held(run: Run, n: usize, i: usize, zeroth: &[u8], out: &mut [u8]) -> Wr
 }
 
 // Writes the row of line i.
-pub fn write(run: Run, i: usize, zeroth: &[u8], out: &mut [u8]) -> Written
+pub fn write(run: Run, i: usize, zeroth: &[u8], out: &mut [u8]) -> Result<usize, Unwritten>
     ensures { Wrote (row_fault run i zeroth.now) (row_of run i zeroth.now) out.old result out.new }
 {
     match judge_with(run, zeroth) {
-        Checked::Refused(refusal) => Written::Refused(refusal),
-        Checked::Held(n) => {
+        Err(refusal) => Err(Unwritten::Refused(refusal)),
+        Ok(n) => {
             if n <= i {
-                return Written::Refused(Refusal::Limits);
+                return Err(Unwritten::Refused(Refusal::Limits));
             }
             write_held(run, n, i, zeroth, out)
         }
@@ -62,9 +66,9 @@ fn row_size(run: Run, n: usize, i: usize, zeroth: &[u8]) -> usize
 {
     let mut little = [0u8; 1];
     match write_held(run, n, i, zeroth, &mut little) {
-        Written::Length(size) => size,
-        Written::Room(size) => size,
-        Written::Refused(_) => 0,
+        Ok(size) => size,
+        Err(Unwritten::Room(size)) => size,
+        Err(Unwritten::Refused(_)) => 0,
     }
 }
 
@@ -88,8 +92,8 @@ fn put_row(run: Run, n: usize, i: usize, zeroth: &[u8], out: &mut [u8], at: usiz
     ensures { (result ≡ length (row_of run i zeroth.now)) × (out.new ≡ sets out.old at (row_of run i zeroth.now)) }
 {
     match write_held(run, n, i, zeroth, &mut out[at..]) {
-        Written::Length(size) => size,
-        _ => 0,
+        Ok(size) => size,
+        Err(_) => 0,
     }
 }
 
@@ -107,24 +111,24 @@ fn put_rows(run: Run, n: usize, zeroth: &[u8], out: &mut [u8])
 }
 
 // Writes the rows of all n lines of a run that was judged.
-fn write_all(run: Run, n: usize, zeroth: &[u8], out: &mut [u8]) -> Written
+fn write_all(run: Run, n: usize, zeroth: &[u8], out: &mut [u8]) -> Result<usize, Unwritten>
     requires { Judged run zeroth.now n }
-    ensures { Wrote none (rows_of (label_of run zeroth.now) (lines_of run)) out.old result out.new }
+    ensures { Wrote None (rows_of (label_of run zeroth.now) (lines_of run)) out.old result out.new }
 {
     let size = rows_size(run, n, zeroth);
     if out.len() < size {
-        return Written::Room(size);
+        return Err(Unwritten::Room(size));
     }
     put_rows(run, n, zeroth, out);
-    Written::Length(size)
+    Ok(size)
 }
 
 // Writes the rows of all lines.
-pub fn write_rows(run: Run, zeroth: &[u8], out: &mut [u8]) -> Written
+pub fn write_rows(run: Run, zeroth: &[u8], out: &mut [u8]) -> Result<usize, Unwritten>
     ensures { Wrote (rows_fault run zeroth.now) (rows_of (label_of run zeroth.now) (lines_of run)) out.old result out.new }
 {
     match judge_with(run, zeroth) {
-        Checked::Refused(refusal) => Written::Refused(refusal),
-        Checked::Held(n) => write_all(run, n, zeroth, out),
+        Err(refusal) => Err(Unwritten::Refused(refusal)),
+        Ok(n) => write_all(run, n, zeroth, out),
     }
 }

@@ -6,11 +6,10 @@ ghost use Rattle.sources.specs.Tallies.{no_tally};
 ghost use Rattle.sources.specs.Runs.{empty_run, start_of, call_next, TakesBlock};
 ghost use Rattle.sources.specs.Rows.{row_fault, row_of};
 
-use crate::{Checked, Table, judging, rows, stepping};
-use answers::Written;
+use crate::{Table, judging, rows, stepping};
+use answers::Unwritten;
 use format::Form;
-use trace::Block;
-use trace::read::{fault_of, read_block};
+use trace::places::read_label;
 
 // Jumped and restarts of one source.
 #[derive(Clone, Copy)]
@@ -31,7 +30,7 @@ pub struct Run {
 // The answer to a block: a writer's that has no bytes to write, and the next run, or with a refusal the run that was given (for block 0 an empty one).
 #[derive(Clone, Copy)]
 pub struct Step {
-    pub answer: Written,
+    pub answer: Result<usize, Unwritten>,
     pub run: Run,
 }
 
@@ -66,18 +65,10 @@ impl Run {
     pub fn start(zeroth: &[u8]) -> Step
         ensures { result ≡ start_of zeroth.now }
     {
-        let read = read_block(zeroth);
-        let Block::Label {
-            form,
-            length,
-            ssrc: _,
-        } = read
-        else {
-            let run = Run::empty(Form::One, 0);
-            return stepping::refused(run, fault_of(read));
-        };
-        let run = Run::empty(form, length);
-        stepping::taken(run)
+        match read_label(zeroth) {
+            Ok(label) => stepping::taken(Run::empty(label.form, label.length)),
+            Err(refusal) => stepping::refused(Run::empty(Form::One, 0), refusal),
+        }
     }
 
     // Takes a later block, which must hold arrivals of the label's form: they are counted in the place of their SSRC. Refusals: 16 held places against the
@@ -86,14 +77,14 @@ impl Run {
         ensures { TakesBlock self (call_next self block.now) result }
     {
         match judging::judge(self) {
-            Checked::Refused(refusal) => stepping::refused(self, refusal),
-            Checked::Held(_) => stepping::step(self, block),
+            Err(refusal) => stepping::refused(self, refusal),
+            Ok(_) => stepping::step(self, block),
         }
     }
 
     // Writes the row of line i, which stands in place i, at the front of out. `zeroth` is block 0. Refusals: 16 held places against the rules of a table; 9 a
     // malformed record, tally or run, or a block 0 that is not its own; 10 no such line; 12 output too small, with the row's length.
-    pub fn row(self, i: usize, zeroth: &[u8], out: &mut [u8]) -> Written
+    pub fn row(self, i: usize, zeroth: &[u8], out: &mut [u8]) -> Result<usize, Unwritten>
         ensures { Wrote (row_fault self i zeroth.now) (row_of self i zeroth.now) out.old result out.new }
     {
         rows::write(self, i, zeroth, out)

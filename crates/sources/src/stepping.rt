@@ -1,37 +1,43 @@
 // A block of a run: its arrivals counted by the table's call, and the tallies that move with the table.
 ghost use Rattle.std.specs.Prelude.{◌≡◌, ◌-◌, ◌≤◌, get_or};
-ghost use Rattle.answers.specs.declared.Written.TheVariants.{Refused, Length};
-ghost use Rattle.trace.specs.Reading.{block_of};
 ghost use Rattle.trace.specs.declared.Block.{Block};
+ghost use Rattle.trace.specs.Reading.{block_of};
 ghost use Rattle.sources.specs.Tallies.{no_tally, raised, shifted, tallied};
-ghost use Rattle.sources.specs.Runs.{counted_run, next_of, TakesBlock};
+ghost use Rattle.sources.specs.Runs.{refusal_in, counted_run, next_of, TakesBlock};
 
 use crate::judging::is_of_trace;
 use crate::runs::{Run, Step, Tally};
 use crate::{Counted, Stand};
-use answers::{Refusal, Written};
+use answers::{Refusal, Unwritten};
 use format::block::BODY;
 use source::{BlockCount, Source, Totals};
 use trace::Block;
-use trace::read::{fault_of, read_block};
+use trace::read::read_block;
 
 // A refusal, with the run that was given.
 pub fn refused(run: Run, refusal: Refusal) -> Step
-    ensures { result ≡ record { answer = Refused refusal; run = run } }
+    ensures { result ≡ record { answer = Err (Unwritten.Refused refusal); run = run } }
 {
     Step {
-        answer: Written::Refused(refusal),
+        answer: Err(Unwritten::Refused(refusal)),
         run,
     }
 }
 
 // The next run.
 pub fn taken(run: Run) -> Step
-    ensures { result ≡ record { answer = Length 0; run = run } }
+    ensures { result ≡ record { answer = Ok 0; run = run } }
 {
-    Step {
-        answer: Written::Length(0),
-        run,
+    Step { answer: Ok(0), run }
+}
+
+// The refusal in a block's answer, if there is one.
+pub fn refusal_in(answer: Result<usize, Unwritten>) -> Option<Refusal>
+    ensures { result ≡ refusal_in answer }
+{
+    match answer {
+        Err(Unwritten::Refused(refusal)) => Some(refusal),
+        _ => None,
     }
 }
 
@@ -88,7 +94,7 @@ fn tallied(tallies: [Tally; 16], stand: Stand, jumps: u64, restarts: u64) -> [Ta
 
 // The run with the n arrivals of a block.
 pub fn count_in(run: Run, n: usize, ssrc: u32, block: &[u8]) -> Step
-    requires { block_of block.now ≡ Block.Arrivals run.form n ssrc }
+    requires { block_of block.now ≡ Ok (Block.Arrivals run.form n ssrc) }
     ensures { TakesBlock run (counted_run run n ssrc block.now) result }
 {
     let form = run.form;
@@ -118,13 +124,14 @@ pub fn count_in(run: Run, n: usize, ssrc: u32, block: &[u8]) -> Step
 pub fn step(run: Run, block: &[u8]) -> Step
     ensures { TakesBlock run (next_of run block.now) result }
 {
-    let own = run.form;
-    let read = read_block(block);
-    let Block::Arrivals { form, count, ssrc } = read else {
-        return refused(run, fault_of(read));
-    };
-    if !is_of_trace(own, form) {
-        return refused(run, Refusal::Contents);
+    match read_block(block) {
+        Ok(Block::Arrivals { form, count, ssrc }) => {
+            if !is_of_trace(run.form, form) {
+                return refused(run, Refusal::Contents);
+            }
+            count_in(run, count, ssrc, block)
+        }
+        Ok(Block::Label { .. }) => refused(run, Refusal::Contents),
+        Err(refusal) => refused(run, refusal),
     }
-    count_in(run, count, ssrc, block)
 }

@@ -1,12 +1,13 @@
 -- Laws of a row's parts: numbers behind commas, the end of a row, a whole row. Assumes nothing.
-use mathlib.Core.Path.{◌≡◌, refl, ap, ◌∙◌}
+use mathlib.Core.Path.{◌≡◌, refl, sym, ap, ap₂, ◌∙◌}
 use mathlib.Core.Bool.{Bool, true, false}
-use mathlib.Core.List.{List, [], ◌∷◌, ◌++◌, append_assoc}
+use mathlib.Core.List.{List, [], ◌∷◌, ◌++◌, append_assoc, reverse}
 use Prim.Native.Nat.{ℕ, zero, suc, ◌+◌, ◌-◌, ◌^◌, ◌≤◌, ◌<◌}
 use native.Mathlib.Numerals.{add-one}
 use native.Mathlib.Omega.{arith}
 use lib.ListN.{length, drop, get_or, length-append, drop_of_length-le}
 use lib.Seq.{drop-cons}
+use Rattle.std.proofs.lemmas.List.{get_or-reverse, get_or_default, length-reverse}
 use Rattle.source.specs.declared.Source.{Source}
 use Rattle.source.specs.declared.Totals.{Totals}
 use Rattle.source.specs.Record.{lost}
@@ -40,19 +41,23 @@ commas_rest [] (suc i) h = absurd (omega arith)
 commas_rest (n ∷ ns) (suc i) h =
     omega (arith, commas_rest ns i (omega arith), length-append (44 ∷ decimal n) (behind_commas ns))
 
--- the last of the first `left` numbers, and those behind it
-module _ (ns : List ℕ) (left : ℕ) (some : 0 < left) (h : left ≤ length ns) where
-  back : left - 1 + 1 ≡ left
-  back = omega arith
+-- the number n before the last k, and those
+backwards : (ns : List ℕ) (k n : ℕ) → (k < length (reverse ns)) × (n ≡ get_or (reverse ns) k n) → (k < length ns) × (n ≡ get_or ns (length ns - (k + 1)) 0)
+backwards ns k n t =
+    let h : k < length ns = omega (arith, length-reverse ns, t.0) in
+    (h, t.1 ∙ get_or-reverse ns k n h ∙ get_or_default ns (length ns - 1 - k) n 0 (omega arith) ∙ ap (λ (i : ℕ). get_or ns i 0) (omega arith))
 
-  pub commas_back : behind_commas (drop (left - 1) ns) ≡ (44 ∷ decimal (get_or ns (left - 1) 0)) ++ behind_commas (drop left ns)
+module _ (ns : List ℕ) (k n : ℕ) (t : (k < length (reverse ns)) × (n ≡ get_or (reverse ns) k n)) where
+  pub commas_back : behind_commas (drop (length ns - (k + 1)) ns) ≡ (44 ∷ decimal n) ++ behind_commas (drop (length ns - k) ns)
   commas_back =
-      commas_turn ns (left - 1) (omega arith) ∙ ap (λ (i : ℕ). (44 ∷ decimal (get_or ns (left - 1) 0)) ++ behind_commas (drop i ns)) back
+      let b = backwards ns k n t in
+      commas_turn ns (length ns - (k + 1)) (omega (arith, b.0))
+      ∙ ap₂ (λ (m i : ℕ). (44 ∷ decimal m) ++ behind_commas (drop i ns)) (sym b.1) (omega (arith, b.0))
 
-  pub commas_fit : length (decimal (get_or ns (left - 1) 0)) + 1 + length (behind_commas (drop left ns)) ≤ length (behind_commas ns)
+  pub commas_fit : length (decimal n) + 1 + length (behind_commas (drop (length ns - k) ns)) ≤ length (behind_commas ns)
   commas_fit =
-      let whole = commas_rest ns (left - 1) (omega arith) in
-      let one = length-append (44 ∷ decimal (get_or ns (left - 1) 0)) (behind_commas (drop left ns)) in
+      let whole = commas_rest ns (length ns - (k + 1)) (omega arith) in
+      let one = length-append (44 ∷ decimal n) (behind_commas (drop (length ns - k) ns)) in
       omega (arith, ap length commas_back)
 
 -- ---- the lengths

@@ -1,7 +1,7 @@
 -- Laws of decimal digits. Assumes nothing.
+use Rattle.std.specs.Prelude.{Some}
 use mathlib.Core.Path.{◌≡◌, refl, sym, ap, ◌∙◌}
 use mathlib.Core.Bool.{true, cond}
-use mathlib.Core.Option.{some}
 use mathlib.Core.List.{List, [], ◌∷◌, ◌++◌}
 use Prim.Native.Nat.{ℕ, suc, zero, ◌+◌, ◌-◌, ◌*◌, ◌/◌, ◌%◌, ◌^◌, ◌≤◌, ◌<◌}
 use native.Mathlib.Decide.{dec_lt}
@@ -192,6 +192,6 @@ digits_say : (n : ℕ) → read_on 0 (decimal n) ≡ n
 unfolding decimal
 digits_say n = read_digits n n (omega arith)
 
-pub read_decimal : (n : ℕ) → number_in (decimal n) ≡ some n
+pub read_decimal : (n : ℕ) → number_in (decimal n) ≡ Some n
 unfolding number_in
-read_decimal n = rw (is_numeral_lem n) (ap some (digits_say n))
+read_decimal n = rw (is_numeral_lem n) (ap Some (digits_say n))

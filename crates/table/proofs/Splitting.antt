@@ -1,7 +1,7 @@
 -- A line, split by RFC 4180, gives the texts that it was made of; a number is such a text as it stands. Assumes nothing.
+use Rattle.std.specs.Prelude.{Option, Some}
 use mathlib.Core.Path.{◌≡◌, refl, sym, ap, ◌∙◌}
 use mathlib.Core.Bool.{Bool, true, false, ◌&&◌, ◌||◌}
-use mathlib.Core.Option.{Option, some}
 use mathlib.Core.List.{List, [], ◌∷◌, ◌++◌, append_assoc, map}
 use Prim.Native.Nat.{ℕ, suc, zero, ◌+◌, ◌/◌, ◌%◌, ◌≤◌, ◌<◌}
 use native.Mathlib.Decide.{ℕ_discrete}
@@ -84,7 +84,7 @@ inner_byte c p q = go (text_data c) refl
 -- a field with a byte c behind it that is neither text nor a double quote
 module _ (c : ℕ) (t : List ℕ) (no_text : text_data c ≡ false) (no-quote : eqb c 34 ≡ false) where
   abbrev took : List ℕ → Option Taken
-  took v = some (record { value = v; rest = c ∷ t })
+  took v = Some (record { value = v; rest = c ∷ t })
 
   bare_run : (v : List ℕ) → plain v ≡ true → any_special v ≡ false → non_escaped (v ++ (c ∷ t)) ≡ took v
   unfolding non_escaped plain any_special
@@ -136,7 +136,7 @@ unfolding text_data
 return_text = refl
 
 line_from : (most : ℕ) (first : List ℕ) (more : List (List ℕ)) (rest : List ℕ) → length more < most → all_plain (first ∷ more) ≡ true
-    → record_of most (line (as_field first) (map as_field more) ++ rest) ≡ some (record { fields = first ∷ more; rest = rest })
+    → record_of most (line (as_field first) (map as_field more) ++ rest) ≡ Some (record { fields = first ∷ more; rest = rest })
 unfolding record_of behind crlf line all_plain
 line_from zero first more rest h p = absurd (omega arith)
 line_from (suc most) first [] rest h p =
@@ -208,7 +208,7 @@ pub decimal_field : DecimalField
 decimal_field n = (bare_number (decimal n) (bare_digits (decimal n) (decimal_digits n)), read_decimal n)
 
 -- digits have no "-" in front
-unsigned : (s : List ℕ) → Digits s → {n : ℕ} → number_in s ≡ some n → signed_in s ≡ some (pos n)
+unsigned : (s : List ℕ) → Digits s → {n : ℕ} → number_in s ≡ Some n → signed_in s ≡ Some (pos n)
 unfolding signed_in number_in is_numeral
 unsigned [] h e = let z : ◌≡◌ {A = ℕ} 0 1 = cc in absurd (omega arith)
 unsigned (c ∷ s) h e = rw (ne_eqb c 45 (λ q. omega arith)) (ap natural e)

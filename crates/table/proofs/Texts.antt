@@ -1,7 +1,6 @@
 -- Laws of a text as a field. Assumes nothing.
 use mathlib.Core.Path.{◌≡◌, refl, sym, ap, ◌∙◌}
-use mathlib.Core.Bool.{Bool, true, false}
-use mathlib.Core.Logic.{◌⊎◌, inl, inr}
+use mathlib.Core.Bool.{Bool, true, false, ◌||◌}
 use mathlib.Core.List.{List, [], ◌∷◌, ◌++◌}
 use Prim.Native.Nat.{ℕ, suc, ◌+◌, ◌*◌, ◌≤◌, ◌<◌}
 use native.Mathlib.Decide.{ℕ_discrete}
@@ -10,30 +9,11 @@ use native.Mathlib.Omega.{arith}
 use borrow.Author.Tests.{ne_eqb}
 use lib.ListN.{length, drop, get_or, set, length-append, drop_of_length-le}
 use lib.Seq.{sets, drop-cons}
+use Rattle.std.specs.List.{list_any}
 use Rattle.answers.proofs.Stores.{sets-append}
 use Rattle.table.specs.Field.{special, any_special, doubled_byte, doubled, as_field}
 
 -- ---- a byte
-
-abbrev pub IsSpecial : ℕ → Type 0
-IsSpecial c = (c ≡ 10) ⊎ ((c ≡ 13) ⊎ ((c ≡ 34) ⊎ (c ≡ 44)))
-
-pub special_yes : (c : ℕ) → IsSpecial c → special c ≡ true
-unfolding special
-special_yes c (inl e) = rw e
-special_yes c (inr (inl e)) = rw e
-special_yes c (inr (inr (inl e))) = rw e
-special_yes c (inr (inr (inr e))) = rw e
-
-pub special_no : (c : ℕ) → (IsSpecial c → ⊥) → special c ≡ false
-unfolding special
-special_no c h =
-    rw (
-      ne_eqb c 10 (λ e. h (inl e)),
-      ne_eqb c 13 (λ e. h (inr (inl e))),
-      ne_eqb c 34 (λ e. h (inr (inr (inl e)))),
-      ne_eqb c 44 (λ e. h (inr (inr (inr e)))),
-    )
 
 pub byte_quote : (c : ℕ) → c ≡ 34 → doubled_byte c ≡ c ∷ c ∷ []
 unfolding doubled_byte
@@ -63,22 +43,16 @@ module _ (s : List ℕ) (i : ℕ) (h : i < length s) where
   pub length-turn : length (doubled (drop i s)) ≡ length (doubled_byte (get_or s i 0)) + length (doubled (drop (i + 1) s))
   length-turn = ap length doubled_turn ∙ length-append (doubled_byte (get_or s i 0)) (doubled (drop (i + 1) s))
 
-  pub any_yes : special (get_or s i 0) ≡ true → true ≡ any_special (drop i s)
-  unfolding any_special
-  any_yes e = rw (next, e)
-
-  pub any_no : special (get_or s i 0) ≡ false → any_special (drop (i + 1) s) ≡ any_special (drop i s)
-  unfolding any_special
-  any_no e = rw (next, e)
-
 module _ (s : List ℕ) (i : ℕ) (h : length s ≤ i) where
   pub doubled_done : doubled (drop i s) ≡ []
   unfolding doubled
   doubled_done = rw (drop_of_length-le s h)
 
-  pub any_done : false ≡ any_special (drop i s)
-  unfolding any_special
-  any_done = rw (drop_of_length-le s h)
+-- the test of each byte, as std has it
+pub any_is : (s : List ℕ) → list_any special s ≡ any_special s
+unfolding any_special
+any_is [] = refl
+any_is (c ∷ s) = ap (λ (t : Bool). special c || t) (any_is s)
 
 -- ---- the two forms of a field
 

@@ -1,6 +1,5 @@
 -- Document 01, "Table": numbers are decimal, a negative one with "-"; and what such a text says.
-use Rattle.std.specs.Prelude.{ℕ, zero, suc, ◌+◌, ◌-◌, ◌*◌, ◌/◌, ◌%◌, Bool, true, false, cond, not, ◌&&◌, List, [], ◌∷◌, ◌++◌, leb, ltb, eqb, ℤ, pos, negsuc}
-use Rattle.std.proofs.Math.Option.{Option, none, some}
+use Rattle.std.specs.Prelude.{ℕ, zero, suc, ◌+◌, ◌-◌, ◌*◌, ◌/◌, ◌%◌, Bool, true, false, cond, not, ◌&&◌, List, [], ◌∷◌, ◌++◌, leb, ltb, eqb, ℤ, pos, negsuc, Option, Some, None}
 
 -- the digits of n in ASCII, the highest first; n has at most `more` digits before the last
 unfoldable pub digits_of : ℕ → ℕ → List ℕ
@@ -37,18 +36,18 @@ is_numeral (d ∷ e ∷ ds) = not (eqb d 48) && all_digits (d ∷ e ∷ ds)
 
 -- what a text says, if it is a number
 unfoldable pub number_in : List ℕ → Option ℕ
-number_in s = cond (is_numeral s) (some (read_on 0 s)) none
+number_in s = cond (is_numeral s) (Some (read_on 0 s)) None
 
 -- and with a "-" in front, if it is a negative number
 abbrev pub negative : Option ℕ → Option ℤ
-negative none = none
-negative (some zero) = none
-negative (some (suc n)) = some (negsuc n)
+negative None = None
+negative (Some zero) = None
+negative (Some (suc n)) = Some (negsuc n)
 
 abbrev pub natural : Option ℕ → Option ℤ
-natural none = none
-natural (some n) = some (pos n)
+natural None = None
+natural (Some n) = Some (pos n)
 
 unfoldable pub signed_in : List ℕ → Option ℤ
-signed_in [] = none
+signed_in [] = None
 signed_in (c ∷ s) = cond (eqb c 45) (negative (number_in s)) (natural (number_in (c ∷ s)))

@@ -1,6 +1,5 @@
 -- Document 01, "Table": the head line, a row, and the line of a refused block; request L14: the line of a number.
-use Rattle.std.specs.Prelude.{ℕ, cond, not, ◌&&◌, List, [], ◌∷◌, ◌++◌, leb}
-use Rattle.std.proofs.Math.Option.{Option, none, some}
+use Rattle.std.specs.Prelude.{ℕ, cond, not, ◌&&◌, List, [], ◌∷◌, ◌++◌, leb, Option, Some, None}
 use Rattle.answers.specs.declared.Refusal.{Refusal}
 use Rattle.answers.specs.declared.Refusal.TheVariants.{Malformed, Limits}
 use Rattle.source.specs.declared.Totals.{Totals}
@@ -53,9 +52,9 @@ row_bytes label ssrc t = line (as_field label) (numbers ssrc t)
 -- the refusals of a row's values: 9 a malformed record, 10 a label outside the trace rules or more than 2^48 jumps or restarts
 unfoldable pub row_fault : List ℕ → Totals → Option Refusal
 row_fault label t =
-    cond (not (sound t.source)) (some Malformed)
-    (cond (not (label_ok label && (leb t.jumped most_told && leb t.restarts most_told))) (some Limits)
-    none)
+    cond (not (sound t.source)) (Some Malformed)
+    (cond (not (label_ok label && (leb t.jumped most_told && leb t.restarts most_told))) (Some Limits)
+    None)
 
 -- `refused N block I`
 unfoldable pub refused_line : ℕ → ℕ → List ℕ

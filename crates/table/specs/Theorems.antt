@@ -1,6 +1,5 @@
 -- What holds between writing a line and splitting it by RFC 4180 (document 01, "Table").
-use Rattle.std.specs.Prelude.{◌≡◌, Bool, true, ◌||◌, ◌&&◌, List, [], ◌∷◌, ◌++◌, map, ℕ, ◌^◌, ◌≤◌, ◌<◌, leb, eqb, ℤ, length, get_or}
-use Rattle.std.proofs.Math.Option.{none, some}
+use Rattle.std.specs.Prelude.{◌≡◌, Bool, true, ◌||◌, ◌&&◌, List, [], ◌∷◌, ◌++◌, map, ℕ, ◌^◌, ◌≤◌, ◌<◌, leb, eqb, ℤ, length, get_or, Some, None}
 use Rattle.source.specs.declared.Totals.{Totals}
 use Rattle.source.specs.Record.{lost as lost_of}
 use Rattle.trace.specs.Contents.{label_ok}
@@ -22,7 +21,7 @@ all_plain (t ∷ ts) = plain t && all_plain ts
 abbrev pub LineSplits : Type 0
 LineSplits =
     (first : List ℕ) (more : List (List ℕ)) (rest : List ℕ) → all_plain (first ∷ more) ≡ true
-    → split (line (as_field first) (map as_field more) ++ rest) ≡ some (record { fields = first ∷ more; rest = rest })
+    → split (line (as_field first) (map as_field more) ++ rest) ≡ Some (record { fields = first ∷ more; rest = rest })
 
 -- a number is a field as it stands, and reads back
 pub record IsNumber (text : List ℕ) : Type 0 where
@@ -30,38 +29,38 @@ pub record IsNumber (text : List ℕ) : Type 0 where
   pub plain : plain text ≡ true
 
 abbrev pub DecimalField : Type 0
-DecimalField = (n : ℕ) → IsNumber (decimal n) × (number_in (decimal n) ≡ some n)
+DecimalField = (n : ℕ) → IsNumber (decimal n) × (number_in (decimal n) ≡ Some n)
 
 abbrev pub SignedField : Type 0
-SignedField = (z : ℤ) → IsNumber (signed z) × (signed_in (signed z) ≡ some z)
+SignedField = (z : ℤ) → IsNumber (signed z) × (signed_in (signed z) ≡ Some z)
 
 -- ---- the table's lines
 
 -- the head line splits into the names of the eleven columns
 abbrev pub HeadSplits : Type 0
-HeadSplits = (rest : List ℕ) → split (head_bytes ++ rest) ≡ some (record { fields = label_name ∷ names; rest = rest })
+HeadSplits = (rest : List ℕ) → split (head_bytes ++ rest) ≡ Some (record { fields = label_name ∷ names; rest = rest })
 
 -- eleven fields that say the eleven values of a row
 pub record Says (text : List ℕ) (from : ℕ) (t : Totals) (fields : List (List ℕ)) : Type 0 where
   pub eleven : length fields ≡ 11
   pub label : get_or fields 0 [] ≡ text
-  pub ssrc : number_in (get_or fields 1 []) ≡ some from
-  pub highest : signed_in (get_or fields 2 []) ≡ some t.source.highest.0
-  pub ect0 : number_in (get_or fields 3 []) ≡ some t.source.ect0
-  pub ect1 : number_in (get_or fields 4 []) ≡ some t.source.ect1
-  pub ce : number_in (get_or fields 5 []) ≡ some t.source.ce
-  pub notect : number_in (get_or fields 6 []) ≡ some t.source.notect
-  pub lost : signed_in (get_or fields 7 []) ≡ some (lost_of t.source)
-  pub duplicates : number_in (get_or fields 8 []) ≡ some t.source.duplicates
-  pub jumped : number_in (get_or fields 9 []) ≡ some t.jumped
-  pub restarts : number_in (get_or fields 10 []) ≡ some t.restarts
+  pub ssrc : number_in (get_or fields 1 []) ≡ Some from
+  pub highest : signed_in (get_or fields 2 []) ≡ Some t.source.highest.0
+  pub ect0 : number_in (get_or fields 3 []) ≡ Some t.source.ect0
+  pub ect1 : number_in (get_or fields 4 []) ≡ Some t.source.ect1
+  pub ce : number_in (get_or fields 5 []) ≡ Some t.source.ce
+  pub notect : number_in (get_or fields 6 []) ≡ Some t.source.notect
+  pub lost : signed_in (get_or fields 7 []) ≡ Some (lost_of t.source)
+  pub duplicates : number_in (get_or fields 8 []) ≡ Some t.source.duplicates
+  pub jumped : number_in (get_or fields 9 []) ≡ Some t.jumped
+  pub restarts : number_in (get_or fields 10 []) ≡ Some t.restarts
 
 -- a row with any label that a trace can have splits into such fields, and what follows the row is left over
 abbrev pub RowSplits : Type 0
 RowSplits =
     (label : List ℕ) (ssrc : ℕ) (t : Totals) (rest : List ℕ) → label_ok label ≡ true
     → (fields : List (List ℕ))
-    × (split (row_bytes label ssrc t ++ rest) ≡ some (record { fields = fields; rest = rest }))
+    × (split (row_bytes label ssrc t ++ rest) ≡ Some (record { fields = fields; rest = rest }))
     × Says label ssrc t fields
 
 -- no row is longer: its label has at most 502 double quotes, its ten numbers at most 21 bytes each, a comma before each, and CR LF
@@ -69,7 +68,7 @@ abbrev pub row_most : ℕ
 row_most = 1228
 
 abbrev pub RowFits : Type 0
-RowFits = (label : List ℕ) (ssrc : ℕ) (t : Totals) → ssrc < 2 ^ 32 → row_fault label t ≡ none → length (row_bytes label ssrc t) ≤ row_most
+RowFits = (label : List ℕ) (ssrc : ℕ) (t : Totals) → ssrc < 2 ^ 32 → row_fault label t ≡ None → length (row_bytes label ssrc t) ≤ row_most
 
 -- nor is the line of a number: at most 20 digits, and CR LF
 abbrev pub number_most : ℕ

@@ -6,37 +6,26 @@ ghost use Rattle.table.specs.Field.{special, any_special, doubled_byte, doubled,
 use answers::copy::put_bytes;
 
 // Whether c is a comma, double quote, CR or LF.
+#[tactic(auto, using(std::proofs::lemmas::Bool::Decides::nat_tests), unfolding(crate::specs::Field::special))]
 fn is_special(c: u8) -> bool
     ensures { result ≡ special c }
 {
-    match c {
-        10 | 13 | 34 | 44 => true,
-        _ => false,
-    }
+    matches!(c, 10 | 13 | 34 | 44)
 }
 
 // Whether any byte of s is one of these.
 fn has_special(s: &[u8]) -> bool
     ensures { result ≡ any_special s.now }
 {
-    let mut i = 0;
-    while i < s.len() {
-        if is_special(s[i]) {
-            return true;
-        }
-        i += 1;
-    }
-    false
+    s.iter().any(|c| is_special(*c))
 }
 
 // The length of c between double quotes.
+#[tactic(auto, using(std::proofs::lemmas::Bool::Decides::nat_tests), unfolding(crate::specs::Field::doubled_byte))]
 fn byte_length(c: u8) -> usize
     ensures { result ≡ length (doubled_byte c) }
 {
-    if c == b'"' {
-        return 2;
-    }
-    1
+    if c == b'"' { 2 } else { 1 }
 }
 
 // The length of s between double quotes.
@@ -44,10 +33,8 @@ fn inner_length(s: &[u8]) -> usize
     ensures { result ≡ length (doubled s.now) }
 {
     let mut count: usize = 0;
-    let mut i = 0;
-    while i < s.len() {
-        count += byte_length(s[i]);
-        i += 1;
+    for c in s {
+        count += byte_length(*c);
     }
     count
 }
@@ -84,10 +71,8 @@ fn put_inner(s: &[u8], out: &mut [u8], at: usize) -> usize
     ensures written { out.new ≡ sets out.old at (doubled s.now) }
 {
     let mut place = at;
-    let mut i = 0;
-    while i < s.len() {
-        place = put_byte(s[i], out, place);
-        i += 1;
+    for c in s {
+        place = put_byte(*c, out, place);
     }
     place
 }

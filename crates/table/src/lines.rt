@@ -1,6 +1,5 @@
 // A row as a line: its length first, and then its fields from the last to the first, so that a number's digits are counted once.
 ghost use Rattle.std.specs.Prelude.{◌≡◌, true, ◌∷◌, ◌+◌, ◌≤◌, length};
-ghost use Rattle.std.proofs.Math.Option.{none};
 ghost use Rattle.std.proofs.lemmas.List.Edits.{sets};
 ghost use Rattle.answers.specs.Writers.{Wrote};
 ghost use Rattle.source.specs.Record.{sound, lost as lost_of};
@@ -11,7 +10,7 @@ ghost use Rattle.table.specs.Parts.{behind_commas, minus, tail, whole};
 
 use crate::decimal::{digits, put_before, signed_length};
 use crate::field::{field_length, put_field};
-use answers::Written;
+use answers::Unwritten;
 use numbers::sign::magnitude;
 use source::Totals;
 
@@ -48,10 +47,8 @@ fn numbers_length(ns: &[u64]) -> usize
     ensures bounded { result ≤ 126 }
 {
     let mut count: usize = 0;
-    let mut i = 0;
-    while i < ns.len() {
-        count += digits(ns[i]) + 1;
-        i += 1;
+    for n in ns {
+        count += digits(*n) + 1;
     }
     count
 }
@@ -63,10 +60,8 @@ fn put_numbers(ns: &[u64], out: &mut [u8], end: usize) -> usize
     ensures written { out.new ≡ sets out.old result (behind_commas ns.now) }
 {
     let mut place = end;
-    let mut left = ns.len();
-    while 0 < left {
-        left -= 1;
-        place = put_number(ns[left], out, place);
+    for n in ns.iter().rev() {
+        place = put_number(*n, out, place);
     }
     place
 }
@@ -110,31 +105,35 @@ fn line(
     size: u64,
     back: &[u64],
     out: &mut [u8],
-) -> Written
+) -> Result<usize, Unwritten>
     requires { (length label.now ≤ 502) × (length front.now ≤ 6) × (length back.now ≤ 6) }
-    ensures { Wrote none (whole label.now front.now below size back.now) out.old result out.new }
+    ensures { Wrote None (whole label.now front.now below size back.now) out.old result out.new }
 {
     let long = field_length(label);
     let before = numbers_length(front);
     let behind = numbers_length(back);
     let total = long + before + signed_length(below, size) + behind + 3;
     if out.len() < total {
-        return Written::Room(total);
+        return Err(Unwritten::Room(total));
     }
     put_line(label, long, front, below, size, back, out, total);
-    Written::Length(total)
+    Ok(total)
 }
 
 // Writes the row of a sound record, whose lost packets are given.
-pub fn row(label: &[u8], ssrc: u32, t: Totals, lost: i64, out: &mut [u8]) -> Written
+pub fn row(
+    label: &[u8],
+    ssrc: u32,
+    t: Totals,
+    lost: i64,
+    out: &mut [u8],
+) -> Result<usize, Unwritten>
     requires { (length label.now ≤ 502) × (sound t.source ≡ true) × (lost ≡ lost_of t.source) }
-    ensures { Wrote none (row_bytes label.now ssrc t) out.old result out.new }
+    ensures { Wrote None (row_bytes label.now ssrc t) out.old result out.new }
 {
     let s = t.source;
-    let highest = s.highest;
-    let high = magnitude(highest.0);
+    let high = magnitude(s.highest.0);
     let front = [ssrc as u64, high, s.ect0, s.ect1, s.ce, s.notect];
     let back = [s.duplicates, t.jumped, t.restarts];
-    let size = magnitude(lost);
-    line(label, &front, lost < 0, size, &back, out)
+    line(label, &front, lost < 0, magnitude(lost), &back, out)
 }

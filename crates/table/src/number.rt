@@ -1,22 +1,21 @@
 // The line of a number.
 ghost use Rattle.std.specs.Prelude.{◌≡◌};
-ghost use Rattle.std.proofs.Math.Option.{none};
 ghost use Rattle.answers.specs.Writers.{Wrote};
 ghost use Rattle.table.specs.Lines.{number_line};
 
 use crate::decimal::{digits, put_before};
-use answers::Written;
+use answers::Unwritten;
 
 // Writes the line.
-pub fn line(n: u64, out: &mut [u8]) -> Written
-    ensures { Wrote none (number_line n) out.old result out.new }
+pub fn line(n: u64, out: &mut [u8]) -> Result<usize, Unwritten>
+    ensures { Wrote None (number_line n) out.old result out.new }
 {
     let size = digits(n) + 2;
     if out.len() < size {
-        return Written::Room(size);
+        return Err(Unwritten::Room(size));
     }
     put_before(n, out, size - 2);
     out[size - 2] = 13;
     out[size - 1] = 10;
-    Written::Length(size)
+    Ok(size)
 }

@@ -1,13 +1,12 @@
 // The line of a refused block.
 ghost use Rattle.std.specs.Prelude.{◌≡◌, ◌++◌, ◌+◌, ◌≤◌, ◌<◌, length};
-ghost use Rattle.std.proofs.Math.Option.{none};
 ghost use Rattle.std.proofs.lemmas.List.Edits.{sets};
 ghost use Rattle.answers.specs.Writers.{Wrote};
 ghost use Rattle.table.specs.Decimal.{decimal};
 ghost use Rattle.table.specs.Lines.{refused_line};
 
 use crate::decimal::{digits, put_before};
-use answers::Written;
+use answers::Unwritten;
 use answers::copy::put_bytes;
 
 // Stores a text and behind it the number n in out from a place up to `end`.
@@ -31,14 +30,14 @@ fn put_line(number: u64, block: u64, out: &mut [u8], middle: usize, size: usize)
 }
 
 // Writes the line.
-pub fn line(number: u64, block: u64, out: &mut [u8]) -> Written
-    ensures { Wrote none (refused_line number block) out.old result out.new }
+pub fn line(number: u64, block: u64, out: &mut [u8]) -> Result<usize, Unwritten>
+    ensures { Wrote None (refused_line number block) out.old result out.new }
 {
     let middle = 8 + digits(number);
     let size = middle + (9 + digits(block));
     if out.len() < size {
-        return Written::Room(size);
+        return Err(Unwritten::Room(size));
     }
     put_line(number, block, out, middle, size);
-    Written::Length(size)
+    Ok(size)
 }

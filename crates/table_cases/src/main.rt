@@ -11,13 +11,13 @@
 // Any other line is a heading.
 #![tactic(auto)]
 
-use answers::Written;
+use answers::Unwritten;
 use cases::record;
 use source::{Source, Totals};
 use std::io::Stdout;
 
 // The row of a line.
-fn row(s: Source, line: &[u8], out: &mut [u8]) -> Written {
+fn row(s: Source, line: &[u8], out: &mut [u8]) -> Result<usize, Unwritten> {
     let mut space = [0u8; 1024];
     let label = cases::bytes(line, 6, &mut space);
     let totals = Totals {
@@ -29,7 +29,7 @@ fn row(s: Source, line: &[u8], out: &mut [u8]) -> Written {
 }
 
 // The line of a refused block.
-fn refused(line: &[u8], out: &mut [u8]) -> Written {
+fn refused(line: &[u8], out: &mut [u8]) -> Result<usize, Unwritten> {
     table::write_refused(
         (cases::number(line, 3) % 256) as u8,
         cases::number(line, 4),
@@ -38,7 +38,7 @@ fn refused(line: &[u8], out: &mut [u8]) -> Written {
 }
 
 // The writer of a line on a lent output.
-fn write(s: Source, line: &[u8], out: &mut [u8]) -> Written {
+fn write(s: Source, line: &[u8], out: &mut [u8]) -> Result<usize, Unwritten> {
     match cases::letter(line) {
         b'h' => table::write_head(out),
         b'r' => row(s, line, out),

@@ -1,6 +1,7 @@
 -- What an accepted block is, and that it is the one that its contents make. Assumes nothing.
+use Rattle.std.specs.Prelude.{None, Result, Ok, Err}
+use Rattle.answers.specs.declared.Refusal.{Refusal}
 use Rattle.std.proofs.Common.{◌≡◌, ℕ, zero, suc, ◌+◌, ◌-◌, ◌*◌, ◌<◌, ◌≤◌, Bool, true, false, cond, not, eqb, List, [], ◌∷◌, ◌++◌, length, get_or, take, drop, replicate, sym, refl, ap, ◌∙◌, subst, ap₂, zero-add, zero-mul, arith, length-drop, take-append-drop, length-take-le, take-take, drop-drop, take-add, eqb-true, leb-true}
-use mathlib.Core.Option.{none}
 use Rattle.answers.specs.declared.Refusal.TheVariants.{Incomplete, Checksum, Contents}
 use Rattle.numbers.proofs.BigEndian.{Octets}
 use Rattle.answers.proofs.Conditions.{all_true, and_left, and_right}
@@ -14,8 +15,7 @@ use Rattle.trace.specs.Reading.{kind_in, count_in, ssrc_in, right_check, content
 use Rattle.trace.specs.Accepted.{Holds, Accepted}
 use Rattle.trace.specs.Theorems.{records_in, list_of, records_fault, LabelIsWritten, ArrivalsAreWritten}
 use Rattle.trace.specs.declared.Block.{Block}
-use Rattle.trace.specs.declared.Block.TheVariants.{Label, Arrivals, Refused}
-use Rattle.trace.specs.declared.Found.TheVariants.{Is}
+use Rattle.trace.specs.declared.Block.TheVariants.{Label, Arrivals}
 use Rattle.trace.specs.declared.Record.{Record}
 use Rattle.trace.proofs.Decisions.{count_right, found_there, label_retired, label_rest, lists_taken, lists_rest}
 use Rattle.numbers.proofs.Octets.{octets_take, octets_drop, bytes_word}
@@ -48,7 +48,7 @@ module _ (b : List ℕ) (whole : length b ≡ 512) (right : right_check b ≡ tr
   by_kind kind.Unknown k = tt
   by_kind (kind.Label form) k = go (label_body (count_in b) (body_of b)) refl
     where
-      go : (t : Bool) → label_body (count_in b) (body_of b) ≡ t → Accepted b (cond t (Label form (count_in b) (ssrc_in b)) (Refused Contents))
+      go : (t : Bool) → label_body (count_in b) (body_of b) ≡ t → Accepted b (cond t (Ok (Label form (count_in b) (ssrc_in b))) (Err Contents))
       go false e = tt
       go true e =
           let n = count_in b in
@@ -57,7 +57,7 @@ module _ (b : List ℕ) (whole : length b ≡ 512) (right : right_check b ≡ tr
           record { block = block; label = sym (label_rest (take n (body_of b)) (omega (arith, block.long, block.room)) (sym (all_true tests 1 e))) }
   by_kind (kind.Arrivals form) k = go (arrivals_body (shape_of form) (count_in b) (body_of b)) refl
     where
-      go : (t : Bool) → arrivals_body (shape_of form) (count_in b) (body_of b) ≡ t → Accepted b (cond t (Arrivals form (count_in b) (ssrc_in b)) (Refused Contents))
+      go : (t : Bool) → arrivals_body (shape_of form) (count_in b) (body_of b) ≡ t → Accepted b (cond t (Ok (Arrivals form (count_in b) (ssrc_in b))) (Err Contents))
       go false e = tt
       go true e =
           let n = count_in b in
@@ -71,13 +71,13 @@ unfolding block_of contents_of
 read_as_lem b = go (eqb (length b) 512) (right_check b) refl refl
   where
     go : (w r : Bool) → eqb (length b) 512 ≡ w → right_check b ≡ r
-        → Accepted b (cond (not w) (Refused Incomplete) (cond (not r) (Refused Checksum) (contents_by b (kind_of (kind_in b)))))
+        → Accepted b (cond (not w) (Err Incomplete) (cond (not r) (Err Checksum) (contents_by b (kind_of (kind_in b)))))
     go false r ew er = tt
     go true false ew er = tt
     go true true ew er = by_kind b (eqb-true (length b) 512 ew) er (kind_of (kind_in b)) (numbered (kind_in b))
 
 -- all that a user of `block_of` asks: `(accepted b e).label`, `(accepted b e).block.whole`
-pub accepted : (b : List ℕ) {r : Block} → block_of b ≡ r → Accepted b r
+pub accepted : (b : List ℕ) {r : Result Block Refusal} → block_of b ≡ r → Accepted b r
 accepted b e = subst (Accepted b) e (read_as_lem b)
 
 -- ---- header and body
@@ -130,7 +130,7 @@ label_is_written form b n ssrc o e =
 
 -- lists that are made of records
 lists_are : (shape : Shape) (rs : List Record) → count_ok shape (length rs) ≡ true → every (is_time shape) (list_of (λ r. r.time) rs) ≡ true → every is_mark (list_of (λ r. r.mark) rs) ≡ true
-    → records_fault shape rs ≡ none
+    → records_fault shape rs ≡ None
 lists_are shape rs count t g =
     let times = length-list (λ r. r.time) rs in
     let numbers = length-list (λ r. r.number.0) rs in
@@ -151,7 +151,7 @@ arrivals_are_written form b n ssrc o e =
     let back : records_bytes shape rs ≡ take (n * width shape) s =
     bytes_records shape n s (octets_body b o k.whole) (omega (arith, length-body b k.whole k.right, k.room)) a.records in (
       lists_are shape rs (rw many a.count) (of_shape_times shape rs (of_shape_in shape n s (octets_body b o k.whole))) (marks_in shape n s a.records),
-      λ i other h. found_there b i form (sym k.its_count) a.count k.whole k.its_kind h ∙ ap Is (sym (record_at_lem shape n s i other h)),
+      λ i other h. found_there b i form (sym k.its_count) a.count k.whole k.its_kind h ∙ ap Ok (sym (record_at_lem shape n s i other h)),
       block_is b o k.whole k.right (records_bytes shape rs) (ap filled back ∙ filled_is s (n * width shape) (length-body b k.whole k.right) k.room k.unused)
           ∙ rw (k.its_kind, k.its_count, k.its_ssrc, many),
     )

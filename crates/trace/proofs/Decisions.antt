@@ -1,9 +1,9 @@
 -- How each test decides what a block is. Assumes nothing.
+use Rattle.std.specs.Prelude.{Some, None, Ok, Err}
 use Rattle.std.proofs.Common.{◌≡◌, ℕ, ◌-◌, ◌*◌, ◌/◌, ◌%◌, ◌<◌, ◌≤◌, Bool, true, false, cond, not, ◌&&◌, eqb, leb, List, [], ◌∷◌, length, get_or, take, drop, sym, refl, ap, ◌∙◌, ⊎_elim, div-add-mod', arith, length-drop, take_all, le-ltb, lt-ltb, eq-eqb, ne_eqb, eqb-true, le-leb, leb-true}
 use mathlib.Core.Bool.{and-true}
 use denote.Enum.Declared.{tag_of}
 use types.Run.{OneOf}
-use mathlib.Core.Option.{none, some}
 use borrow.Author.Tests.{lt-leb}
 use Rattle.answers.specs.declared.Refusal.TheVariants.{Incomplete, Checksum, Contents, Limits, Retired}
 use Rattle.answers.proofs.Conditions.{and_left, and_right, all_true, all_false}
@@ -19,8 +19,7 @@ use Rattle.format.proofs.Fits.{kind_arrivals}
 use Rattle.trace.specs.Layout.{record_at, body_of}
 use Rattle.trace.specs.Contents.{every, is_zero, is_mark, is_time, label_byte, label_ok, label_conditions, label_body, count_ok, good_records, arrivals_conditions, arrivals_body}
 use Rattle.trace.specs.Reading.{kind_in, count_in, ssrc_in, check_in, right_check, contents_by, contents_of, block_of, found_by, found_at}
-use Rattle.trace.specs.declared.Block.TheVariants.{Label, Arrivals, Refused}
-use Rattle.trace.specs.declared.Found.TheVariants.{Is, Refused as Missing}
+use Rattle.trace.specs.declared.Block.TheVariants.{Label, Arrivals}
 
 -- the part `&s[n..]`
 pub part_tail : (s : List ℕ) (n : ℕ) → take (length s - n) (drop n s) ≡ drop n s
@@ -52,11 +51,11 @@ pub count_right : (shape : Shape) (n : ℕ) → count_ok shape n ≡ true → (1
 unfolding count_ok
 count_right shape n e = (leb-true 1 n (and_left (leb 1 n) _ e), leb-true n shape.most (and_right (leb 1 n) _ e))
 
-pub count_refused : (shape : Shape) (n : ℕ) → count_ok shape n ≡ false → count_fault shape n ≡ some Limits
+pub count_refused : (shape : Shape) (n : ℕ) → count_ok shape n ≡ false → count_fault shape n ≡ Some Limits
 unfolding count_fault
 count_refused shape n e = rw e
 
-pub count_taken : (shape : Shape) (n : ℕ) → count_ok shape n ≡ true → count_fault shape n ≡ none
+pub count_taken : (shape : Shape) (n : ℕ) → count_ok shape n ≡ true → count_fault shape n ≡ None
 unfolding count_fault
 count_taken shape n e = rw e
 
@@ -80,25 +79,25 @@ module _ (b : List ℕ) {n ssrc number : ℕ} {says : Kind} (en : n ≡ count_in
   by_kind e = ap (contents_by b) (sym (kind_told b ek ef e))
 
   pub label_by : {form : Form} → says ≡ kind.Label form → {r t : Bool} → r ≡ label_body n (body_of b) → r ≡ t
-      → cond t (Label form n ssrc) (Refused Contents) ≡ contents_of b
+      → cond t (Ok (Label form n ssrc)) (Err Contents) ≡ contents_of b
   label_by k er h = rw (← h, er, en, es) (by_kind k)
 
   pub arrivals_by : {form : Form} → says ≡ kind.Arrivals form → {r t : Bool} → r ≡ arrivals_body (shape_of form) n (body_of b) → r ≡ t
-      → cond t (Arrivals form n ssrc) (Refused Contents) ≡ contents_of b
+      → cond t (Ok (Arrivals form n ssrc)) (Err Contents) ≡ contents_of b
   arrivals_by k er h = rw (← h, er, en, es) (by_kind k)
 
-  pub no_kind : says ≡ kind.Unknown → Refused Contents ≡ contents_of b
+  pub no_kind : says ≡ kind.Unknown → Err Contents ≡ contents_of b
   no_kind k = by_kind k
 
 -- ---- any slice
 
 module _ (b : List ℕ) where
-  pub not_whole : (length b ≡ 512 → ⊥) → Refused Incomplete ≡ block_of b
+  pub not_whole : (length b ≡ 512 → ⊥) → Err Incomplete ≡ block_of b
   unfolding block_of
   not_whole h = rw (ne_eqb (length b) 512 h)
 
   module _ (whole : length b ≡ 512) where
-    pub wrong_check : right_check b ≡ false → Refused Checksum ≡ block_of b
+    pub wrong_check : right_check b ≡ false → Err Checksum ≡ block_of b
     unfolding block_of
     wrong_check e = rw (eq-eqb (length b) 512 whole, e)
 
@@ -119,7 +118,7 @@ module _ (b : List ℕ) {sum : ℕ} (es : sum ≡ ones_sum (words b)) where
 -- ---- the record i
 
 module _ (b : List ℕ) (i : ℕ) where
-  pub found_short : (length b ≡ 512 → ⊥) → Missing Incomplete ≡ found_at b i
+  pub found_short : (length b ≡ 512 → ⊥) → Err Incomplete ≡ found_at b i
   unfolding found_at
   found_short h = rw (ne_eqb (length b) 512 h)
 
@@ -128,30 +127,30 @@ module _ (b : List ℕ) (i : ℕ) where
   found_whole h e = rw (eq-eqb (length b) 512 h) (ap (found_by b i) (sym e))
 
   -- a kind that is not arrivals
-  pub found_other : (k : Kind) → OneOf (0 ∷ 2 ∷ []) (tag_of the_type k) → Missing Contents ≡ found_by b i k
+  pub found_other : (k : Kind) → OneOf (0 ∷ 2 ∷ []) (tag_of the_type k) → Err Contents ≡ found_by b i k
   found_other (kind.Arrivals form) h = ⊎_elim (λ z. absurd (omega arith)) (λ z. absurd (omega arith)) h
   found_other (kind.Label form) h = refl
   found_other kind.Unknown h = refl
 
   module _ (form : Form) {n : ℕ} (en : n ≡ count_in b) where
-    pub found_none : count_ok (shape_of form) n ≡ false → Missing Contents ≡ found_by b i (kind.Arrivals form)
+    pub found_none : count_ok (shape_of form) n ≡ false → Err Contents ≡ found_by b i (kind.Arrivals form)
     found_none e = rw (← en, e)
 
     module _ (e : count_ok (shape_of form) n ≡ true) where
-      pub found_past : n ≤ i → Missing Limits ≡ found_by b i (kind.Arrivals form)
+      pub found_past : n ≤ i → Err Limits ≡ found_by b i (kind.Arrivals form)
       found_past h = rw (← en, e, le-ltb i n h)
 
-      pub found_here : i < n → Is (record_at (shape_of form) (body_of b) (i * width (shape_of form))) ≡ found_by b i (kind.Arrivals form)
+      pub found_here : i < n → Ok (record_at (shape_of form) (body_of b) (i * width (shape_of form))) ≡ found_by b i (kind.Arrivals form)
       found_here h = rw (← en, e, lt-ltb i n h)
 
       -- in a whole block of the form's kind
-      pub found_there : length b ≡ 512 → kind_in b ≡ (shape_of form).arrivals → i < n → found_at b i ≡ Is (record_at (shape_of form) (body_of b) (i * width (shape_of form)))
+      pub found_there : length b ≡ 512 → kind_in b ≡ (shape_of form).arrivals → i < n → found_at b i ≡ Ok (record_at (shape_of form) (body_of b) (i * width (shape_of form)))
       found_there whole k h = sym (found_here h ∙ found_whole whole (ap kind_of k ∙ kind_arrivals form))
 
 -- ---- what a writer is given
 
 module _ (label : List ℕ) where
-  pub label_refused : label_ok label ≡ false → label_fault label ≡ some Limits
+  pub label_refused : label_ok label ≡ false → label_fault label ≡ Some Limits
   unfolding label_fault
   label_refused e = rw e
 
@@ -160,18 +159,18 @@ module _ (label : List ℕ) where
   unfolding label_fault
   label_retired e = rw e
 
-  pub retired_refused : label_ok label ≡ true → 0 < retired_in label → label_fault label ≡ some Retired
+  pub retired_refused : label_ok label ≡ true → 0 < retired_in label → label_fault label ≡ Some Retired
   retired_refused e h = label_retired e ∙ rw (ne_eqb (retired_in label) 0 (λ z. omega (arith, h, z)))
 
-  pub label_taken : label_ok label ≡ true → retired_in label ≡ 0 → label_fault label ≡ none
+  pub label_taken : label_ok label ≡ true → retired_in label ≡ 0 → label_fault label ≡ None
   label_taken e z = label_retired e ∙ rw z
 
   -- one that the writer takes
-  pub taken_label : label_fault label ≡ none → (label_ok label ≡ true) × (retired_in label ≡ 0)
+  pub taken_label : label_fault label ≡ None → (label_ok label ≡ true) × (retired_in label ≡ 0)
   unfolding label_fault
   taken_label e = go (label_ok label) (eqb (retired_in label) 0) refl refl e
     where
-      go : (t u : Bool) → label_ok label ≡ t → eqb (retired_in label) 0 ≡ u → cond (not t) (some Limits) (cond u none (some Retired)) ≡ none
+      go : (t u : Bool) → label_ok label ≡ t → eqb (retired_in label) 0 ≡ u → cond (not t) (Some Limits) (cond u None (Some Retired)) ≡ None
           → (label_ok label ≡ true) × (retired_in label ≡ 0)
       go true true et eu e = (et, eqb-true (retired_in label) 0 eu)
       go true false et eu e = let z : ◌≡◌ {A = ℕ} 0 1 = cc in absurd (omega arith)
@@ -186,13 +185,13 @@ module _ (label : List ℕ) where
   label_bytes e = all_true (leb (length label) 502 ∷ every label_byte label ∷ []) 1 e
 
 module _ (shape : Shape) (times numbers marks : List ℕ) where
-  pub lists_refused : arrivals_ok shape times numbers marks ≡ false → arrivals_fault shape times numbers marks ≡ some Limits
+  pub lists_refused : arrivals_ok shape times numbers marks ≡ false → arrivals_fault shape times numbers marks ≡ Some Limits
   unfolding arrivals_fault
   lists_refused e = rw e
 
   -- lists that can be a block's records
   pub record Taken : Type 0 where
-    pub no_fault : arrivals_fault shape times numbers marks ≡ none
+    pub no_fault : arrivals_fault shape times numbers marks ≡ None
     pub numbers_long : length numbers ≡ length times
     pub marks_long : length marks ≡ length times
     pub count : count_ok shape (length times) ≡ true
@@ -225,13 +224,13 @@ module _ (shape : Shape) (times numbers marks : List ℕ) where
 -- ---- records as a body has them
 
 module _ (shape : Shape) (s : List ℕ) where
-  pub body_refused : body_ok shape s ≡ false → body_fault shape s ≡ some Limits
+  pub body_refused : body_ok shape s ≡ false → body_fault shape s ≡ Some Limits
   unfolding body_fault
   body_refused e = rw e
 
   -- bytes that can be a block's records
   pub record BodyTaken : Type 0 where
-    pub no_fault : body_fault shape s ≡ none
+    pub no_fault : body_fault shape s ≡ None
     pub whole : length s / width shape * width shape ≡ length s
     pub count : count_ok shape (length s / width shape) ≡ true
     pub most : length s / width shape ≤ shape.most

@@ -1,7 +1,7 @@
 -- What a writer wrote reads back. Assumes nothing.
+use Rattle.std.specs.Prelude.{Some, None, Ok}
 use Rattle.std.proofs.Common.{◌≡◌, ℕ, zero, suc, ◌-◌, ◌*◌, ◌^◌, ◌<◌, ◌≤◌, Bool, true, false, cond, leb, List, [], ◌∷◌, ◌++◌, length, get_or, take, drop, replicate, sym, refl, ap, ◌∙◌, append_assoc, arith, length-append, take_at, drop_at, ltb-true, ne_eqb, le-leb, leb-false, leb-true}
 use mathlib.Core.Bool.{false≢true}
-use mathlib.Core.Option.{none, some}
 use Rattle.answers.specs.declared.Refusal.TheVariants.{Limits}
 use Rattle.numbers.specs.BigEndian.{bytes}
 use Rattle.numbers.proofs.BigEndian.{Octets, length-bytes}
@@ -14,7 +14,6 @@ use Rattle.trace.specs.Contents.{every, is_zero, is_mark, is_time, label_byte, l
 use Rattle.trace.specs.Reading.{kind_in, count_in, ssrc_in, right_check, contents_of, block_of}
 use Rattle.trace.specs.Writing.{records_of, arrivals_ok, arrivals_fault}
 use Rattle.trace.specs.Theorems.{Below, records_in, list_of, LabelReadsBack, ArrivalsReadBack}
-use Rattle.trace.specs.declared.Found.TheVariants.{Is}
 use Rattle.trace.specs.declared.Record.{Record}
 use Rattle.trace.proofs.Tallies.{tally}
 use Rattle.trace.proofs.Sums.{total}
@@ -167,8 +166,8 @@ list_at (t ∷ times) (n ∷ numbers) [] i d en em h = absurd (omega arith)
 list_at (t ∷ times) (n ∷ numbers) (m ∷ marks) zero d en em h = refl
 list_at (t ∷ times) (n ∷ numbers) (m ∷ marks) (suc i) d en em h = list_at times numbers marks i d (omega arith) (omega arith) (omega arith)
 
--- what a fault says that is none
-no_fault : (t : Bool) → cond t none (some Limits) ≡ none → t ≡ true
+-- what a fault says that is None
+no_fault : (t : Bool) → cond t None (Some Limits) ≡ None → t ≡ true
 no_fault true e = refl
 no_fault false e = let z : ◌≡◌ {A = ℕ} 0 1 = cc in absurd (omega arith)
 
@@ -194,6 +193,6 @@ arrivals_read_back form ts numbers ms ssrc taken hn small =
           let d : Record = record { time = 0; number = record { 0 = 0 }; mark = 0 } in
           let back : records_in shape (length rs) (filled contents) ≡ rs = rw (filled_parts contents) (records_bytes_lem shape rs zeros all) in
           found_there _ i form (sym r.its_count) (rw many t.count) r.whole r.its_kind there
-          ∙ ap Is (ap (λ (s : List ℕ). record_at shape s (i * width shape)) r.its_body ∙ sym (record_at_lem shape (length rs) (filled contents) i d there) ∙ ap (λ (l : List Record). get_or l i d) back
+          ∙ ap Ok (ap (λ (s : List ℕ). record_at shape s (i * width shape)) r.its_body ∙ sym (record_at_lem shape (length rs) (filled contents) i d there) ∙ ap (λ (l : List Record). get_or l i d) back
           ∙ list_at ts numbers ms i d t.numbers_long t.marks_long k),
     )

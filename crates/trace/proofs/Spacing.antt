@@ -1,6 +1,6 @@
 -- Laws of retired bytes and of a spaced label. Assumes nothing.
+use Rattle.std.specs.Prelude.{None}
 use Rattle.std.proofs.Common.{◌≡◌, ℕ, suc, ◌+◌, ◌<◌, ◌≤◌, Bool, true, false, cond, ◌⊎◌, List, [], ◌∷◌, length, get_or, drop, set, sym, refl, ap, ◌∙◌, ap₂, inl, inr, zero-add, add-one, arith, drop_of_length-le, drop-cons, ne_eqb}
-use mathlib.Core.Option.{none}
 use lib.Seq.{sets}
 use Rattle.answers.proofs.Conditions.{and_left, and_right}
 use Rattle.trace.specs.Contents.{every, label_byte, label_ok}
@@ -84,7 +84,7 @@ module _ (s : List ℕ) (ok : label_ok s ≡ true) where
   pub spaced_ok : label_ok (spaced_label s) ≡ true
   spaced_ok = sym (label_rest (spaced_label s) (omega (arith, length-spaced s, label_short s ok)) (sym (spaced_allowed s (label_bytes s ok))))
 
-  pub spaced_taken : label_fault (spaced_label s) ≡ none
+  pub spaced_taken : label_fault (spaced_label s) ≡ None
   spaced_taken = label_taken (spaced_label s) spaced_ok (none_left s)
 
 -- ---- the number of retired bytes, as a loop adds it up

@@ -1,5 +1,6 @@
 -- What an accepted block is: whatever a user of `block_of` may need to know, without looking into it again.
-use Rattle.std.specs.Prelude.{◌≡◌, ℕ, ◌*◌, ◌<◌, ◌≤◌, true, List, length, take, drop}
+use Rattle.answers.specs.declared.Refusal.{Refusal}
+use Rattle.std.specs.Prelude.{◌≡◌, ℕ, ◌*◌, ◌<◌, ◌≤◌, true, List, length, take, drop, Result, Ok, Err}
 use Rattle.format.specs.Blocks.{block_bytes, body_at, body_bytes}
 use Rattle.format.specs.Forms.{shape_of, width}
 use Rattle.format.specs.declared.Form.{Form}
@@ -7,7 +8,7 @@ use Rattle.trace.specs.Layout.{record_at, body_of}
 use Rattle.trace.specs.Contents.{every, is_zero, label_ok, count_ok, good_records}
 use Rattle.trace.specs.Reading.{kind_in, count_in, ssrc_in, right_check}
 use Rattle.trace.specs.declared.Block.{Block}
-use Rattle.trace.specs.declared.Block.TheVariants.{Label, Arrivals, Refused}
+use Rattle.trace.specs.declared.Block.TheVariants.{Label, Arrivals}
 
 -- a block of a kind with a count and an SSRC, whose contents are the first `used` bytes of its body
 pub record Holds (b : List ℕ) (kind count ssrc used : ℕ) : Type 0 where
@@ -34,7 +35,7 @@ pub record HoldsArrivals (b : List ℕ) (form : Form) (n ssrc : ℕ) : Type 0 wh
   pub marks : (i : ℕ) → i < n → (record_at (shape_of form) (body_of b) (i * width (shape_of form))).mark ≤ 3
 
 -- by what it reads as
-abbrev pub Accepted : List ℕ → Block → Type 0
-Accepted b (Label form n ssrc) = HoldsLabel b form n ssrc
-Accepted b (Arrivals form n ssrc) = HoldsArrivals b form n ssrc
-Accepted b (Refused refusal) = Unit {0}
+abbrev pub Accepted : List ℕ → Result Block Refusal → Type 0
+Accepted b (Ok (Label form n ssrc)) = HoldsLabel b form n ssrc
+Accepted b (Ok (Arrivals form n ssrc)) = HoldsArrivals b form n ssrc
+Accepted b (Err refusal) = Unit {0}

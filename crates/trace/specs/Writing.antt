@@ -1,6 +1,5 @@
 -- Document 01, "Trace file" and "Refusal numbers", and request L14: what the writers of a block are given, and when they refuse it with 10 or 19.
-use Rattle.std.specs.Prelude.{ℕ, ◌/◌, ◌%◌, Bool, cond, not, List, [], ◌∷◌, length, ◌==◌}
-use Rattle.std.proofs.Math.Option.{Option, none, some}
+use Rattle.std.specs.Prelude.{ℕ, ◌/◌, ◌%◌, Bool, cond, not, List, [], ◌∷◌, length, ◌==◌, Option, Some, None}
 use Rattle.answers.specs.declared.Refusal.{Refusal}
 use Rattle.answers.specs.declared.Refusal.TheVariants.{Limits, Retired}
 use Rattle.answers.specs.Conditions.{all}
@@ -11,11 +10,11 @@ use Rattle.trace.specs.declared.Record.{Record}
 
 -- a label with a retired byte: 19
 abbrev pub retired_fault : List ℕ → Option Refusal
-retired_fault label = cond (retired_in label == 0) none (some Retired)
+retired_fault label = cond (retired_in label == 0) None (Some Retired)
 
 -- a label outside the trace rules: 10, and then 19
 unfoldable pub label_fault : List ℕ → Option Refusal
-label_fault label = cond (not (label_ok label)) (some Limits) (retired_fault label)
+label_fault label = cond (not (label_ok label)) (Some Limits) (retired_fault label)
 
 -- the records of three lists: times, wire numbers and marks
 unfoldable pub records_of : List ℕ → List ℕ → List ℕ → List Record
@@ -34,7 +33,7 @@ arrivals_ok shape times numbers marks = all (lists_conditions shape times number
 
 -- records outside the trace rules: 10
 unfoldable pub arrivals_fault : Shape → List ℕ → List ℕ → List ℕ → Option Refusal
-arrivals_fault shape times numbers marks = cond (arrivals_ok shape times numbers marks) none (some Limits)
+arrivals_fault shape times numbers marks = cond (arrivals_ok shape times numbers marks) None (Some Limits)
 
 -- ---- records as a body has them
 
@@ -48,8 +47,8 @@ body_ok shape s = all (body_conditions shape s)
 
 -- bytes outside the trace rules: 10
 unfoldable pub body_fault : Shape → List ℕ → Option Refusal
-body_fault shape s = cond (body_ok shape s) none (some Limits)
+body_fault shape s = cond (body_ok shape s) None (Some Limits)
 
 -- a number of records outside the trace rules: 10
 unfoldable pub count_fault : Shape → ℕ → Option Refusal
-count_fault shape n = cond (count_ok shape n) none (some Limits)
+count_fault shape n = cond (count_ok shape n) None (Some Limits)

@@ -14,8 +14,8 @@ pub mod read;
 pub mod rewrite;
 pub mod write;
 
-// What a block is: a label of `length` bytes, or `count` arrivals, with the form of its trace and the SSRC; or why it is refused. The label
-// or the records stay in the caller's slice, from format::block::BODY on.
+// What a block is: a label of `length` bytes, or `count` arrivals, with the form of its trace and the SSRC. The label or the records stay in the caller's
+// slice, from format::block::BODY on.
 #[derive(Clone, Copy)]
 pub enum Block {
     Label {
@@ -28,34 +28,14 @@ pub enum Block {
         count: usize,
         ssrc: u32,
     },
-    Refused(Refusal),
 }
 
-// What block 0 of a trace is: a label of `length` bytes, with the trace's form and SSRC; or why it is refused.
+// What block 0 of a trace is: a label of `length` bytes, with the trace's form and SSRC.
 #[derive(Clone, Copy)]
-pub enum Zeroth {
-    Label {
-        form: Form,
-        length: usize,
-        ssrc: u32,
-    },
-    Refused(Refusal),
-}
-
-// What writing block 0 again with its label spaced answers: the number of bytes replaced, or why nothing was written.
-#[derive(Clone, Copy)]
-pub enum Spaced {
-    Replaced(usize),
-    // 12: the output is too small; the block has so many bytes.
-    Room(usize),
-    Refused(Refusal),
-}
-
-// What a later block of a trace is: `count` arrivals of the label's form and SSRC, or why it is refused.
-#[derive(Clone, Copy)]
-pub enum Later {
-    Arrivals { count: usize },
-    Refused(Refusal),
+pub struct Zeroth {
+    pub form: Form,
+    pub length: usize,
+    pub ssrc: u32,
 }
 
 // One arrival of a block: its time in ms, its wire number and its mark.
@@ -64,11 +44,4 @@ pub struct Record {
     pub time: u64,
     pub number: Wire,
     pub mark: u8,
-}
-
-// What stands at a place among a block's records: the record, or why there is none.
-#[derive(Clone, Copy)]
-pub enum Found {
-    Is(Record),
-    Refused(Refusal),
 }

@@ -1,6 +1,5 @@
 // The parts of a block, stored in a lent output, and the block of a label.
 ghost use Rattle.std.specs.Prelude.{◌≡◌, ◌+◌, ◌-◌, ◌≤◌, ◌++◌, length, take, replicate};
-ghost use Rattle.std.proofs.Math.Option.{none};
 ghost use Rattle.std.proofs.lemmas.List.Edits.{sets};
 ghost use Rattle.numbers.specs.BigEndian.{bytes};
 ghost use Rattle.answers.specs.Writers.{Wrote, written, stored};
@@ -11,10 +10,9 @@ ghost use Rattle.trace.specs.Layout.{header, label_block};
 ghost use Rattle.trace.specs.Retired.{retired_in, spaced_byte, spaced_label};
 ghost use Rattle.trace.specs.Rewriting.{spaced_by};
 
-use crate::Spaced;
 use crate::checksum::ones_sum;
 use crate::label::retired_in;
-use answers::Written;
+use answers::Unwritten;
 use answers::copy::put_bytes;
 use format::Form;
 use format::block::{BLOCK, BODY, CHECK, COUNT, KIND, SSRC};
@@ -61,17 +59,17 @@ pub fn put_end(out: &mut [u8], from: usize)
 }
 
 // Writes the block of a label that a trace may have at the front of out. Refused is an output under 512 bytes (12).
-pub fn put_label(form: Form, label: &[u8], ssrc: u32, out: &mut [u8]) -> Written
+pub fn put_label(form: Form, label: &[u8], ssrc: u32, out: &mut [u8]) -> Result<usize, Unwritten>
     requires { length label.now ≤ body_bytes }
-    ensures { Wrote none (label_block (shape_of form) label.now ssrc) out.old result out.new }
+    ensures { Wrote None (label_block (shape_of form) label.now ssrc) out.old result out.new }
 {
     if out.len() < BLOCK {
-        return Written::Room(BLOCK);
+        return Err(Unwritten::Room(BLOCK));
     }
     put_header(form.label(), label.len(), ssrc, out);
     put_bytes(label, out, BODY);
     put_end(out, BODY + label.len());
-    Written::Length(BLOCK)
+    Ok(BLOCK)
 }
 
 // A space for a retired byte, and any other byte as it is.
@@ -97,16 +95,21 @@ fn put_spaced(label: &[u8], out: &mut [u8], at: usize)
 }
 
 // Writes the block of a label, spaced, at the front of out. Refused is an output under 512 bytes (12).
-pub fn put_spaced_label(form: Form, label: &[u8], ssrc: u32, out: &mut [u8]) -> Spaced
+pub fn put_spaced_label(
+    form: Form,
+    label: &[u8],
+    ssrc: u32,
+    out: &mut [u8],
+) -> Result<usize, Unwritten>
     requires { length label.now ≤ body_bytes }
-    ensures value { result ≡ spaced_by (retired_in label.now) (written none (label_block (shape_of form) (spaced_label label.now) ssrc) out.old) }
-    ensures written { out.new ≡ stored none (label_block (shape_of form) (spaced_label label.now) ssrc) out.old }
+    ensures value { result ≡ spaced_by (retired_in label.now) (written None (label_block (shape_of form) (spaced_label label.now) ssrc) out.old) }
+    ensures written { out.new ≡ stored None (label_block (shape_of form) (spaced_label label.now) ssrc) out.old }
 {
     if out.len() < BLOCK {
-        return Spaced::Room(BLOCK);
+        return Err(Unwritten::Room(BLOCK));
     }
     put_header(form.label(), label.len(), ssrc, out);
     put_spaced(label, out, BODY);
     put_end(out, BODY + label.len());
-    Spaced::Replaced(retired_in(label))
+    Ok(retired_in(label))
 }

@@ -4,8 +4,8 @@ ghost use Rattle.format.specs.Forms.{same_form};
 ghost use Rattle.trace.specs.Numbered.{zeroth_as, later_as};
 ghost use Rattle.trace.specs.Places.{zeroth_of, later_of};
 
-use crate::read::{fault_of, read_block};
-use crate::{Block, Later, Zeroth};
+use crate::read::read_block;
+use crate::{Block, Zeroth};
 use answers::Refusal;
 use format::Form;
 
@@ -20,34 +20,35 @@ fn is_own(own: Form, number: u32, form: Form, ssrc: u32) -> bool
 }
 
 // Reads block 0, which must be a label block. Refusals: 1, 13 and 14, as `read_block` gives them, and 14 for arrivals.
-pub fn read_label(zeroth: &[u8]) -> Zeroth
+pub fn read_label(zeroth: &[u8]) -> Result<Zeroth, Refusal>
     ensures value { result ≡ zeroth_of zeroth.now }
     ensures numbered { zeroth_as result ≡ zeroth_as (zeroth_of zeroth.now) }
 {
-    let read = read_block(zeroth);
-    let Block::Label { form, length, ssrc } = read else {
-        return Zeroth::Refused(fault_of(read));
-    };
-    Zeroth::Label { form, length, ssrc }
+    let read = read_block(zeroth)?;
+    match read {
+        Block::Label { form, length, ssrc } => Ok(Zeroth { form, length, ssrc }),
+        Block::Arrivals { .. } => Err(Refusal::Contents),
+    }
 }
 
 // Reads a later block, which must hold arrivals of the label's form and SSRC. Refusals: 1, 13 and 14, as `read_block` gives them, and 14 for a
 // label, another form or another SSRC.
-pub fn read_own(form: Form, ssrc: u32, block: &[u8]) -> Later
+pub fn read_own(form: Form, ssrc: u32, block: &[u8]) -> Result<usize, Refusal>
     ensures value { result ≡ later_of form ssrc block.now }
     ensures numbered { later_as result ≡ later_as (later_of form ssrc block.now) }
 {
-    let read = read_block(block);
-    let Block::Arrivals {
-        form: its,
-        count,
-        ssrc: number,
-    } = read
-    else {
-        return Later::Refused(fault_of(read));
-    };
-    if !is_own(form, ssrc, its, number) {
-        return Later::Refused(Refusal::Contents);
+    let read = read_block(block)?;
+    match read {
+        Block::Arrivals {
+            form: its,
+            count,
+            ssrc: number,
+        } => {
+            if !is_own(form, ssrc, its, number) {
+                return Err(Refusal::Contents);
+            }
+            Ok(count)
+        }
+        Block::Label { .. } => Err(Refusal::Contents),
     }
-    Later::Arrivals { count }
 }

@@ -10,7 +10,7 @@ ghost use Rattle.trace.specs.Reading.{right_check, contents_of, block_of, fault_
 use crate::checksum::block_sum;
 use crate::contents::{all_allowed, all_zero, good_ends, is_count};
 use crate::fields::{read_time, time_bytes};
-use crate::{Block, Found, Record};
+use crate::{Block, Record};
 use answers::Refusal;
 use format::block::{BLOCK, BODY, BODY_BYTES, CHECK, COUNT, KIND, SSRC};
 use format::{Form, Kind, Wire};
@@ -79,7 +79,7 @@ fn arrivals_body(form: Form, n: usize, body: &[u8]) -> bool
 }
 
 // What a block with a right check is.
-fn contents(b: &[u8]) -> Block
+fn contents(b: &[u8]) -> Result<Block, Refusal>
     requires { length b.now ≡ block_bytes }
     ensures { result ≡ contents_of b.now }
 {
@@ -89,21 +89,21 @@ fn contents(b: &[u8]) -> Block
     match Kind::of(read16(b, KIND)) {
         Kind::Label(form) => {
             if label_body(count, body) {
-                return Block::Label {
+                return Ok(Block::Label {
                     form,
                     length: count,
                     ssrc,
-                };
+                });
             }
-            Block::Refused(Refusal::Contents)
+            Err(Refusal::Contents)
         }
         Kind::Arrivals(form) => {
             if arrivals_body(form, count, body) {
-                return Block::Arrivals { form, count, ssrc };
+                return Ok(Block::Arrivals { form, count, ssrc });
             }
-            Block::Refused(Refusal::Contents)
+            Err(Refusal::Contents)
         }
-        Kind::Unknown => Block::Refused(Refusal::Contents),
+        Kind::Unknown => Err(Refusal::Contents),
     }
 }
 
@@ -119,26 +119,26 @@ fn right_check(b: &[u8]) -> bool
 }
 
 // Reads a block. Refused are any length but 512 (1), a wrong check (13) and wrong contents (14), in this order.
-pub fn read_block(b: &[u8]) -> Block
+pub fn read_block(b: &[u8]) -> Result<Block, Refusal>
     ensures value { result ≡ block_of b.now }
     ensures numbered { read_as result ≡ read_as (block_of b.now) }
 {
     if b.len() != BLOCK {
-        return Block::Refused(Refusal::Incomplete);
+        return Err(Refusal::Incomplete);
     }
     if !right_check(b) {
-        return Block::Refused(Refusal::Checksum);
+        return Err(Refusal::Checksum);
     }
     contents(b)
 }
 
 // The refusal of a block that is not of the kind that its place asks for: its own, or 14.
-pub fn fault_of(block: Block) -> Refusal
+pub fn fault_of(block: Result<Block, Refusal>) -> Refusal
     ensures { result ≡ fault_of block }
 {
     match block {
-        Block::Refused(refusal) => refusal,
-        _ => Refusal::Contents,
+        Err(refusal) => refusal,
+        Ok(_) => Refusal::Contents,
     }
 }
 
@@ -160,23 +160,23 @@ fn record_in(form: Form, body: &[u8], at: usize) -> Record
 // The record i of an arrivals block, counted from 0. Refused are any length but 512 (1), a kind that is not arrivals or a count outside
 // its form's limits (14) and an i not below the count (10), in this order. Nothing else of the block is looked at: `read_block` does that,
 // once a block.
-pub fn record_at(b: &[u8], i: usize) -> Found
+pub fn record_at(b: &[u8], i: usize) -> Result<Record, Refusal>
     ensures value { result ≡ found_at b.now i }
     ensures numbered { found_as result ≡ found_as (found_at b.now i) }
 {
     if b.len() != BLOCK {
-        return Found::Refused(Refusal::Incomplete);
+        return Err(Refusal::Incomplete);
     }
     let kind = Kind::of(read16(b, KIND));
     let Kind::Arrivals(form) = kind else {
-        return Found::Refused(Refusal::Contents);
+        return Err(Refusal::Contents);
     };
     let count = read16(b, COUNT) as usize;
     if !is_count(form, count) {
-        return Found::Refused(Refusal::Contents);
+        return Err(Refusal::Contents);
     }
     if count <= i {
-        return Found::Refused(Refusal::Limits);
+        return Err(Refusal::Limits);
     }
-    Found::Is(record_in(form, &b[BODY..CHECK], i * form.width()))
+    Ok(record_in(form, &b[BODY..CHECK], i * form.width()))
 }

@@ -13,7 +13,7 @@ use crate::fields::{time_bytes, write_time};
 use crate::label::{is_label, retired_in};
 use crate::parts::{put_end, put_header, put_label};
 use answers::copy::put_bytes;
-use answers::{Refusal, Written};
+use answers::{Refusal, Unwritten};
 use format::block::{BLOCK, BODY};
 use format::{Form, Wire};
 use numbers::big_endian::write16;
@@ -53,14 +53,14 @@ fn put_records(form: Form, times: &[u64], numbers: &[u16], marks: &[u8], out: &m
 
 // Writes the label block of a new label at the front of out. Refused are a label outside the trace rules (10), one with a retired byte (19), and an output
 // under 512 bytes (12).
-pub fn write_label(form: Form, label: &[u8], ssrc: u32, out: &mut [u8]) -> Written
+pub fn write_label(form: Form, label: &[u8], ssrc: u32, out: &mut [u8]) -> Result<usize, Unwritten>
     ensures { Wrote (label_fault label.now) (label_block (shape_of form) label.now ssrc) out.old result out.new }
 {
     if !is_label(label) {
-        return Written::Refused(Refusal::Limits);
+        return Err(Unwritten::Refused(Refusal::Limits));
     }
     if 0 < retired_in(label) {
-        return Written::Refused(Refusal::Retired);
+        return Err(Unwritten::Refused(Refusal::Retired));
     }
     put_label(form, label, ssrc, out)
 }
@@ -94,19 +94,19 @@ pub fn write_arrivals(
     marks: &[u8],
     ssrc: u32,
     out: &mut [u8],
-) -> Written
+) -> Result<usize, Unwritten>
     ensures { Wrote (arrivals_fault (shape_of form) times.now numbers.now marks.now) (arrivals_block (shape_of form) (records_of times.now numbers.now marks.now) ssrc) out.old result out.new }
 {
     if !are_records(form, times, numbers, marks) {
-        return Written::Refused(Refusal::Limits);
+        return Err(Unwritten::Refused(Refusal::Limits));
     }
     if out.len() < BLOCK {
-        return Written::Room(BLOCK);
+        return Err(Unwritten::Room(BLOCK));
     }
     put_header(form.arrivals(), times.len(), ssrc, out);
     put_records(form, times, numbers, marks, out);
     put_end(out, BODY + times.len() * form.width());
-    Written::Length(BLOCK)
+    Ok(BLOCK)
 }
 
 // Whether bytes can be a block's records.
@@ -127,33 +127,38 @@ pub fn is_body(form: Form, records: &[u8]) -> bool
 
 // Writes the arrivals block of the records whose bytes are given, at the front of out. Refused are bytes outside the trace rules (10): a
 // record that is not whole, none or more than the form's most, a mark above 3 or no zero behind it; and an output under 512 bytes (12).
-pub fn write_records(form: Form, records: &[u8], ssrc: u32, out: &mut [u8]) -> Written
+pub fn write_records(
+    form: Form,
+    records: &[u8],
+    ssrc: u32,
+    out: &mut [u8],
+) -> Result<usize, Unwritten>
     ensures { Wrote (body_fault (shape_of form) records.now) (records_block (shape_of form) records.now ssrc) out.old result out.new }
 {
     if !is_body(form, records) {
-        return Written::Refused(Refusal::Limits);
+        return Err(Unwritten::Refused(Refusal::Limits));
     }
     if out.len() < BLOCK {
-        return Written::Room(BLOCK);
+        return Err(Unwritten::Room(BLOCK));
     }
     put_header(form.arrivals(), records.len() / form.width(), ssrc, out);
     put_bytes(records, out, BODY);
     put_end(out, BODY + records.len());
-    Written::Length(BLOCK)
+    Ok(BLOCK)
 }
 
 // Makes an arrivals block of the n records that stand in the body of out already: header, zeros behind them, and check. Refused are none or more than the
 // form's most (10), and an output under 512 bytes (12). The records are not looked at.
-pub fn seal(form: Form, n: usize, ssrc: u32, out: &mut [u8]) -> Written
+pub fn seal(form: Form, n: usize, ssrc: u32, out: &mut [u8]) -> Result<usize, Unwritten>
     ensures { Wrote (count_fault (shape_of form) n) (records_block (shape_of form) (take (n * width (shape_of form)) (drop body_at out.old)) ssrc) out.old result out.new }
 {
     if !is_count(form, n) {
-        return Written::Refused(Refusal::Limits);
+        return Err(Unwritten::Refused(Refusal::Limits));
     }
     if out.len() < BLOCK {
-        return Written::Room(BLOCK);
+        return Err(Unwritten::Room(BLOCK));
     }
     put_header(form.arrivals(), n, ssrc, out);
     put_end(out, BODY + n * form.width());
-    Written::Length(BLOCK)
+    Ok(BLOCK)
 }

@@ -15,6 +15,7 @@
 
 ghost use Rattle.std.specs.Prelude.{◌≤◌, length};
 
+use answers::Refusal;
 use answers::copy::put_bytes;
 use format::Form;
 use numbers::big_endian::{read16, write16};
@@ -22,7 +23,7 @@ use std::io::Stdout;
 use trace::label::is_label;
 use trace::read::{read_block, record_at};
 use trace::write::{write_arrivals, write_label, write_records};
-use trace::{Block, Found};
+use trace::{Block, Record};
 
 // Form 2 of a trace; form 1 is not told.
 fn show_form(to: Stdout, form: Form) {
@@ -33,35 +34,35 @@ fn show_form(to: Stdout, form: Form) {
 }
 
 // What a block is.
-fn show_block(to: Stdout, block: Block) {
+fn show_block(to: Stdout, block: Result<Block, Refusal>) {
     match block {
-        Block::Label { form, length, ssrc } => {
+        Ok(Block::Label { form, length, ssrc }) => {
             show_form(to, form);
             show::text(to, b" label");
             show::number(to, length as u64);
             show::number(to, ssrc as u64);
         }
-        Block::Arrivals { form, count, ssrc } => {
+        Ok(Block::Arrivals { form, count, ssrc }) => {
             show_form(to, form);
             show::text(to, b" arrivals");
             show::number(to, count as u64);
             show::number(to, ssrc as u64);
         }
-        Block::Refused(refusal) => show::refused(to, refusal),
+        Err(refusal) => show::refused(to, refusal),
     }
 }
 
 // What stands at a place.
-fn show_found(to: Stdout, found: Found) {
+fn show_found(to: Stdout, found: Result<Record, Refusal>) {
     match found {
-        Found::Is(r) => {
+        Ok(r) => {
             show::text(to, b" is");
             show::number(to, r.time);
             let number = r.number;
             show::number(to, number.0 as u64);
             show::number(to, r.mark as u64);
         }
-        Found::Refused(refusal) => show::refused(to, refusal),
+        Err(refusal) => show::refused(to, refusal),
     }
 }
 

@@ -1,8 +1,8 @@
 -- A loop that takes the blocks of a piece and stores what they print in a lent output, for every program. Assumes nothing.
+use Rattle.std.specs.Prelude.{Option, Some, None}
 use mathlib.Core.Path.{◌≡◌, refl, sym, ap, ap₂, ◌∙◌}
 use mathlib.Core.Bool.{cond}
 use mathlib.Core.List.{List, ◌∷◌}
-use mathlib.Core.Option.{Option, none, some}
 use Prim.Native.Nat.{ℕ, suc, ◌+◌, ◌-◌, ◌*◌, ◌≤◌, ◌<◌}
 use native.Mathlib.Omega.{arith}
 use borrow.Author.Tests.{lt-ltb, le-ltb}
@@ -27,17 +27,17 @@ module _ {S : Type 0} (p : Program S) (i : ℕ) (b : List ℕ) (bs : List (List 
   fits_by t e =
       ap (λ (t : Turn S). cond (ltb room (length t.printed.out)) (none_taken s) (one_more t t.refusal (fitting p (suc i) bs t.state (room - length t.printed.out)))) e
 
-  module _ (next : S) (bytes : List ℕ) (e : p.step i s b ≡ record { state = next; printed = to_output bytes; refusal = none }) where
+  module _ (next : S) (bytes : List ℕ) (e : p.step i s b ≡ record { state = next; printed = to_output bytes; refusal = None }) where
     fits_goes : length bytes ≤ room
-        → fitting p i (b ∷ bs) s room ≡ one_more (record { state = next; printed = to_output bytes; refusal = none }) none (fitting p (suc i) bs next (room - length bytes))
-    fits_goes h = fits_by (record { state = next; printed = to_output bytes; refusal = none }) e ∙ rw (le-ltb room (length bytes) h)
+        → fitting p i (b ∷ bs) s room ≡ one_more (record { state = next; printed = to_output bytes; refusal = None }) None (fitting p (suc i) bs next (room - length bytes))
+    fits_goes h = fits_by (record { state = next; printed = to_output bytes; refusal = None }) e ∙ rw (le-ltb room (length bytes) h)
 
     fits_pauses : room < length bytes → fitting p i (b ∷ bs) s room ≡ none_taken s
-    fits_pauses h = fits_by (record { state = next; printed = to_output bytes; refusal = none }) e ∙ rw (lt-ltb room (length bytes) h)
+    fits_pauses h = fits_by (record { state = next; printed = to_output bytes; refusal = None }) e ∙ rw (lt-ltb room (length bytes) h)
 
-  fits_refuses : (refusal : Refusal) → p.step i s b ≡ record { state = s; printed = nothing; refusal = some refusal }
-      → fitting p i (b ∷ bs) s room ≡ record { state = s; taken = 0; printed = nothing; refusal = some refusal }
-  fits_refuses refusal e = fits_by (record { state = s; printed = nothing; refusal = some refusal }) e ∙ rw (le-ltb room 0 (omega arith))
+  fits_refuses : (refusal : Refusal) → p.step i s b ≡ record { state = s; printed = nothing; refusal = Some refusal }
+      → fitting p i (b ∷ bs) s room ≡ record { state = s; taken = 0; printed = nothing; refusal = Some refusal }
+  fits_refuses refusal e = fits_by (record { state = s; printed = nothing; refusal = Some refusal }) e ∙ rw (le-ltb room 0 (omega arith))
 
 -- ---- the loop: what is left, and where it ends
 
@@ -53,7 +53,7 @@ pub record Left {S : Type 0} (all rest : Took S) (at : ℕ) (old out : List ℕ)
 
 module _ {S : Type 0} {all : Took S} {at : ℕ} {old out : List ℕ} {used : ℕ} where
   left_goes : (next : S) (bytes : List ℕ) (rest : Took S) {now : List ℕ} {n : ℕ}
-      → Left all (one_more (record { state = next; printed = to_output bytes; refusal = none }) none rest) at old out used
+      → Left all (one_more (record { state = next; printed = to_output bytes; refusal = None }) None rest) at old out used
       → now ≡ sets out used bytes → n ≡ length bytes → Left all rest (at + block_bytes) old now (used + n)
   left_goes next bytes rest {now} {n} l s k = record {
     state = l.state;
@@ -105,9 +105,9 @@ module _ {S : Type 0} (p : Program S) (first : ℕ) (piece old : List ℕ) (star
     abbrev rest : List (List ℕ) → Took S
     rest bs = fitting p (first + g.done) bs s (length old - used)
 
-    pub going_last : length piece < at + block_bytes → Reached whole s none at old out used
+    pub going_last : length piece < at + block_bytes → Reached whole s None at old out used
     unfolding fitting
-    going_last h = left_done s none (left_same (ap rest (whole_none (drop at piece) (omega (arith, length-drop at piece)))) g.left)
+    going_last h = left_done s None (left_same (ap rest (whole_none (drop at piece) (omega (arith, length-drop at piece)))) g.left)
 
     module _ (h : at + block_bytes ≤ length piece) where
       first_left : whole_in (drop at piece) ≡ block ∷ whole_in (drop (at + block_bytes) piece)
@@ -116,7 +116,7 @@ module _ {S : Type 0} (p : Program S) (first : ℕ) (piece old : List ℕ) (star
           ∙ ap (λ (u : List ℕ). block ∷ whole_in u) (drop-drop block_bytes at piece)
 
       pub going_taken : (next : S) (bytes : List ℕ) {now : List ℕ} {n : ℕ}
-          → p.step (first + g.done) s block ≡ record { state = next; printed = to_output bytes; refusal = none } → n ≡ length bytes → used + n ≤ length old
+          → p.step (first + g.done) s block ≡ record { state = next; printed = to_output bytes; refusal = None } → n ≡ length bytes → used + n ≤ length old
           → now ≡ sets out used bytes → Going next (at + block_bytes) now (used + n)
       going_taken next bytes {now} {n} e k fits stores =
           let behind = whole_in (drop (at + block_bytes) piece) in
@@ -132,15 +132,15 @@ module _ {S : Type 0} (p : Program S) (first : ℕ) (piece old : List ℕ) (star
             left = left_same same (left_goes next bytes (fitting p (suc (first + g.done)) behind next (length old - used - length bytes)) (left_same (ap rest first_left ∙ turn) g.left) stores k);
           }
 
-      pub going_pauses : (next : S) (bytes : List ℕ) → p.step (first + g.done) s block ≡ record { state = next; printed = to_output bytes; refusal = none }
-          → length old < used + length bytes → Reached whole s none at old out used
+      pub going_pauses : (next : S) (bytes : List ℕ) → p.step (first + g.done) s block ≡ record { state = next; printed = to_output bytes; refusal = None }
+          → length old < used + length bytes → Reached whole s None at old out used
       going_pauses next bytes e small =
           let behind = whole_in (drop (at + block_bytes) piece) in
           let turn = fits_pauses p (first + g.done) block behind s (length old - used) next bytes e (omega (arith, small, g.inside)) in
-          left_done s none (left_same (ap rest first_left ∙ turn) g.left)
+          left_done s None (left_same (ap rest first_left ∙ turn) g.left)
 
-      pub going_refused : (refusal : Refusal) → p.step (first + g.done) s block ≡ record { state = s; printed = nothing; refusal = some refusal }
-          → Reached whole s (some refusal) at old out used
+      pub going_refused : (refusal : Refusal) → p.step (first + g.done) s block ≡ record { state = s; printed = nothing; refusal = Some refusal }
+          → Reached whole s (Some refusal) at old out used
       going_refused refusal e =
           let turn = fits_refuses p (first + g.done) block (whole_in (drop (at + block_bytes) piece)) s (length old - used) refusal e in
-          left_done s (some refusal) (left_same (ap rest first_left ∙ turn) g.left)
+          left_done s (Some refusal) (left_same (ap rest first_left ∙ turn) g.left)

@@ -1,23 +1,18 @@
 -- What a call for one block writes from a place of a lent output on. Assumes nothing.
+use Rattle.std.specs.Prelude.{None, Result, Ok, Err}
+use Rattle.answers.specs.declared.Unwritten.{Unwritten}
 use mathlib.Core.Path.{◌≡◌, refl, sym, ap, ◌∙◌, subst⁻¹}
 use mathlib.Core.Bool.{Bool, true, false, cond}
-use mathlib.Core.Logic.{⊎_elim}
-use mathlib.Core.List.{List, [], ◌∷◌, ◌++◌, append-nil, append_assoc}
-use mathlib.Core.Option.{none}
+use mathlib.Core.List.{List, [], ◌++◌, append-nil, append_assoc}
 use Prim.Native.Nat.{ℕ, ◌+◌, ◌-◌, ◌≤◌}
 use native.Mathlib.Omega.{arith}
 use borrow.Author.Tests.{ltb-true, ltb-false}
 use borrow.Rule.Slice.PartMut.{mid_of, post_of, put_mid, put_same}
-use denote.Enum.Declared.{tag_of}
-use types.Run.{OneOf}
 use lib.Dec.{ltb}
 use lib.ListN.{length, take, drop, length-drop, drop_of_length-le}
 use lib.Seq.{sets, sets-eq, take_all, drop-drop}
 use Rattle.answers.specs.Writers.{written, stored}
 use Rattle.answers.specs.declared.Refusal.{Refusal}
-use Rattle.answers.specs.declared.Written.{Written}
-use Rattle.answers.specs.declared.Written.TheVariants.{Length, Room, Refused}
-use Rattle.answers.specs.contracts.Written.{the_type}
 use Rattle.answers.proofs.Stores.{wrote_refused, room_is_exact}
 use Rattle.walk.specs.Steps.{Next, goes, refuses, state_after, Stepped, StepRoomIsExact}
 use Rattle.walk.specs.Puts.{PutBy}
@@ -48,8 +43,8 @@ module _ (xs : List ℕ) (at : ℕ) where
 -- ---- the call on that part
 
 module _ {A : Type 0} (given : A) (bytes old : List ℕ) (at : ℕ) (inside : at ≤ length old) where
-  by_room : (next state : A) (answer : Written) (ys : List ℕ) (small : Bool) → ltb (length (part old at)) (length bytes) ≡ small
-      → answer ≡ cond small (Room (length bytes)) (Length (length bytes)) → ys ≡ cond small (part old at) (bytes ++ drop (length bytes) (part old at))
+  by_room : (next state : A) (answer : Result ℕ Unwritten) (ys : List ℕ) (small : Bool) → ltb (length (part old at)) (length bytes) ≡ small
+      → answer ≡ cond small (Err (Unwritten.Room (length bytes))) (Ok (length bytes)) → ys ≡ cond small (part old at) (bytes ++ drop (length bytes) (part old at))
       → state ≡ state_after given (goes next) answer
       → PutBy (goes next) bytes old at state (put_mid at (length old - at) old ys) answer
   by_room next state answer ys true t a s k =
@@ -62,7 +57,7 @@ module _ {A : Type 0} (given : A) (bytes old : List ℕ) (at : ℕ) (inside : at
       subst⁻¹ (PutBy (goes next) bytes old at state (put_mid at (length old - at) old ys)) a
       (record { does = ap goes (sym (k ∙ ap (state_after given (goes next)) a)); long = refl; room = room; stores = part_front old at bytes ys room s })
 
-  pub put_of : (next : Next A) (state : A) (answer : Written) (ys : List ℕ) → Stepped given next bytes (part old at) answer state ys
+  pub put_of : (next : Next A) (state : A) (answer : Result ℕ Unwritten) (ys : List ℕ) → Stepped given next bytes (part old at) answer state ys
       → PutBy next bytes old at state (put_mid at (length old - at) old ys) answer
   unfolding written stored
   put_of (refuses refusal) state answer ys s =
@@ -72,20 +67,18 @@ module _ {A : Type 0} (given : A) (bytes old : List ℕ) (at : ℕ) (inside : at
 
 -- ---- a block that is refused
 
-pub step_refuses : {A : Type 0} (given : A) {next : Next A} {refusal : Refusal} (bytes old : List ℕ) {answer : Written} {state : A}
-    → next ≡ refuses refusal → answer ≡ Refused refusal → state ≡ given → Stepped given next bytes old answer state old
+pub step_refuses : {A : Type 0} (given : A) {next : Next A} {refusal : Refusal} (bytes old : List ℕ) {answer : Result ℕ Unwritten} {state : A}
+    → next ≡ refuses refusal → answer ≡ Err (Unwritten.Refused refusal) → state ≡ given → Stepped given next bytes old answer state old
 step_refuses given {next} {refusal} bytes old {answer} {state} e a s = rw (e, a) (record { wrote = wrote_refused bytes old refl; after = s })
 
 -- ---- 12 says how much room is missing
 
 pub step_room_is_exact : StepRoomIsExact
 unfolding written
-step_room_is_exact A given (goes next) bytes old n e = record { brings = next; does = refl; room = room_is_exact none bytes old n e }
+step_room_is_exact A given (goes next) bytes old n e = record { brings = next; does = refl; room = room_is_exact None bytes old n e }
 step_room_is_exact A given (refuses refusal) bytes old n e = let z : ◌≡◌ {A = ℕ} 0 1 = cc in absurd (omega arith)
 
 -- ---- a block that has no room, or is refused by its writer, leaves the state that was given
 
-pub after_other : {A : Type 0} (given next : A) (w : Written) → OneOf (1 ∷ 2 ∷ []) (tag_of the_type w) → state_after given (goes next) w ≡ given
-after_other given next (Length n) h = ⊎_elim (λ z. absurd (omega arith)) (λ z. absurd (omega arith)) h
-after_other given next (Room n) h = refl
-after_other given next (Refused refusal) h = refl
+pub after_unwritten : {A : Type 0} (given next : A) (why : Unwritten) → state_after given (goes next) (Err why) ≡ given
+after_unwritten given next why = refl

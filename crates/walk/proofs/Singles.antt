@@ -1,8 +1,9 @@
 -- The calls for one block each follow their program. Assumes nothing.
+use Rattle.std.specs.Prelude.{Option, Some, None, Result, Ok, Err}
+use Rattle.answers.specs.declared.Unwritten.{Unwritten}
 use mathlib.Core.Path.{◌≡◌, refl, sym, ap, ◌∙◌, subst, subst⁻¹}
 use mathlib.Core.Bool.{Bool, true, false, cond}
 use mathlib.Core.List.{List, [], ◌∷◌, append-nil}
-use mathlib.Core.Option.{Option, none, some}
 use Prim.Native.Nat.{ℕ, suc, ◌+◌}
 use native.Mathlib.Nat.{add-zero}
 use native.Mathlib.Omega.{arith}
@@ -10,8 +11,6 @@ use lib.Dec.{ltb}
 use lib.ListN.{length, replicate}
 use Rattle.answers.specs.Writers.{written}
 use Rattle.answers.specs.declared.Refusal.{Refusal}
-use Rattle.answers.specs.declared.Written.{Written}
-use Rattle.answers.specs.declared.Written.TheVariants.{Length, Room, Refused}
 use Rattle.walk.specs.Programs.{Printed, nothing, both, to_output, Turn, Program, ending_at}
 use Rattle.walk.specs.Pieces.{Octets, whole_in}
 use Rattle.walk.specs.Fitting.{Took, none_taken, one_more, front}
@@ -25,9 +24,9 @@ use Rattle.walk.proofs.Sessions.{session_prints}
 module _ {A S : Type 0} {c : Singles A} {p : Program S} (m : Mirrors c p) where
   -- what is handed on stands for the program's state; after a refused block 0 the end is known
   abbrev StandsBy : Option A → S → ℕ → Option Refusal → Type 0
-  StandsBy (some a) x block o = m.Stands a x
-  StandsBy none x block (some refusal) = p.close x (ending_at block (some refusal)) ≡ c.over refusal
-  StandsBy none x block none = ⊥
+  StandsBy (Some a) x block o = m.Stands a x
+  StandsBy None x block (Some refusal) = p.close x (ending_at block (Some refusal)) ≡ c.over refusal
+  StandsBy None x block None = ⊥
 
   abbrev at : S → ℕ → Option Refusal → Standing S
   at x block o = record { state = x; block = block; refusal = o }
@@ -66,20 +65,20 @@ module _ {A S : Type 0} {c : Singles A} {p : Program S} (m : Mirrors c p) where
 
     module _ (a : A) (b : List ℕ) (h : m.Stands a x) where
       abbrev here : Held A
-      here = record { state = some a; block = block; refusal = none }
+      here = record { state = Some a; block = block; refusal = None }
 
-      -- by what the block brings, with what the first block and then none gives
+      -- by what the block brings, with what the first block and then None gives
       abbrev took_one : Turn S → Took S
       took_one t = one_more t t.refusal (none_taken t.state)
 
       printed_is : (t : Turn S) (bytes : List ℕ) → t.printed ≡ to_output bytes → to_output bytes ≡ both t.printed nothing
       printed_is t bytes e = ap to_output (sym (append-nil bytes)) ∙ ap (λ (q : Printed). both q nothing) (sym e)
 
-      one_goes : (t : Turn S) (next : A) (bytes : List ℕ) (n : ℕ) → Turns m.Stands a x bytes t (goes next) → GivesBy none (took_one t) (gave_by here a (goes next) bytes (Length n))
+      one_goes : (t : Turn S) (next : A) (bytes : List ℕ) (n : ℕ) → Turns m.Stands a x bytes t (goes next) → GivesBy None (took_one t) (gave_by here a (goes next) bytes (Ok n))
       one_goes t next bytes n k =
-          subst⁻¹ (λ (o : Option Refusal). GivesBy none (one_more t o (none_taken t.state)) (gave_by here a (goes next) bytes (Length n))) k.2
+          subst⁻¹ (λ (o : Option Refusal). GivesBy None (one_more t o (none_taken t.state)) (gave_by here a (goes next) bytes (Ok n))) k.2
           (record {
-            stands = record { state = t.state; stands = k.0; is = λ i. at t.state (one_more_lem i) none };
+            stands = record { state = t.state; stands = k.0; is = λ i. at t.state (one_more_lem i) None };
             taken = refl;
             printed = printed_is t bytes k.1;
           })
@@ -88,11 +87,11 @@ module _ {A S : Type 0} {c : Singles A} {p : Program S} (m : Mirrors c p) where
           one_more_lem = omega arith
 
       one_refused : (t : Turn S) (refusal : Refusal) (bytes : List ℕ) → Turns m.Stands a x bytes t (refuses refusal)
-          → GivesBy none (took_one t) (gave_by here a (refuses refusal) bytes (Refused refusal))
+          → GivesBy None (took_one t) (gave_by here a (refuses refusal) bytes (Err (Unwritten.Refused refusal)))
       one_refused t refusal bytes k =
-          subst⁻¹ (λ (t : Turn S). GivesBy none (took_one t) (gave_by here a (refuses refusal) bytes (Refused refusal))) k
+          subst⁻¹ (λ (t : Turn S). GivesBy None (took_one t) (gave_by here a (refuses refusal) bytes (Err (Unwritten.Refused refusal)))) k
           (record {
-            stands = record { state = x; stands = h; is = λ i. at x (sym (add-zero block) i) (some refusal) };
+            stands = record { state = x; stands = h; is = λ i. at x (sym (add-zero block) i) (Some refusal) };
             taken = refl;
             printed = refl;
           })
@@ -100,11 +99,11 @@ module _ {A S : Type 0} {c : Singles A} {p : Program S} (m : Mirrors c p) where
     gives : (a : Option A) (o : Option Refusal) (piece : List ℕ) (bs : List (List ℕ)) → whole_in piece ≡ bs → Each Octets bs → StandsBy a x block o
         → (most : ℕ) × GivesBy o (took_by p (at x block o) o piece most) (given_for c (record { state = a; block = block; refusal = o }) a o bs room)
     unfolding front written
-    gives none (some refusal) piece bs e q h = (0, none_given_lem none (some refusal) h)
-    gives none none piece bs e q h = absurd h
-    gives (some a) (some refusal) piece bs e q h = (0, none_given_lem (some a) (some refusal) h)
-    gives (some a) none piece [] e q h = (0, none_given_lem (some a) none h)
-    gives (some a) none piece (b ∷ bs) e q h = go (c.next a b) (m.turns block a x b h q.0)
+    gives None (Some refusal) piece bs e q h = (0, none_given_lem None (Some refusal) h)
+    gives None None piece bs e q h = absurd h
+    gives (Some a) (Some refusal) piece bs e q h = (0, none_given_lem (Some a) (Some refusal) h)
+    gives (Some a) None piece [] e q h = (0, none_given_lem (Some a) None h)
+    gives (Some a) None piece (b ∷ bs) e q h = go (c.next a b) (m.turns block a x b h q.0)
       where
         t : Turn S
         t = p.step block x b
@@ -115,29 +114,29 @@ module _ {A S : Type 0} {c : Singles A} {p : Program S} (m : Mirrors c p) where
         size : ℕ
         size = length (c.bytes a b)
 
-        given : Next A → Written → Gave (Held A)
+        given : Next A → Result ℕ Unwritten → Gave (Held A)
         given n w = gave_by (here a b h) a n (c.bytes a b) w
 
         -- what the first block gives
-        first : {g : Gave (Held A)} → GivesBy none (took_one a b h t) g → GivesBy none (front p block 1 (whole_in piece) x) g
-        first {g} k = subst⁻¹ (λ (bs : List (List ℕ)). GivesBy none (front p block 1 bs x) g) e k
+        first : {g : Gave (Held A)} → GivesBy None (took_one a b h t) g → GivesBy None (front p block 1 (whole_in piece) x) g
+        first {g} k = subst⁻¹ (λ (bs : List (List ℕ)). GivesBy None (front p block 1 bs x) g) e k
 
         go : (n : Next A) → Turns m.Stands a x (c.bytes a b) t n
-            → (most : ℕ) × GivesBy none (front p block most (whole_in piece) x) (given n (written (fault_in n) (c.bytes a b) old))
+            → (most : ℕ) × GivesBy None (front p block most (whole_in piece) x) (given n (written (fault_in n) (c.bytes a b) old))
         go (refuses refusal) k = (1, first (one_refused a b h t refusal (c.bytes a b) k))
         go (goes next) k = by_room (ltb (length old) size)
           where
-            by_room : (small : Bool) → (most : ℕ) × GivesBy none (front p block most (whole_in piece) x) (given (goes next) (cond small (Room size) (Length size)))
-            by_room true = (0, none_given_lem (some a) none h)
+            by_room : (small : Bool) → (most : ℕ) × GivesBy None (front p block most (whole_in piece) x) (given (goes next) (cond small (Err (Unwritten.Room size)) (Ok size)))
+            by_room true = (0, none_given_lem (Some a) None h)
             by_room false = (1, first (one_goes a b h t next (c.bytes a b) size k))
 
   -- ---- the end
 
   ends_by : (a : Option A) (x : S) (block : ℕ) (o : Option Refusal) (rest : List ℕ) → StandsBy a x block o
       → end_for c (record { state = a; block = block; refusal = o }) a o rest ≡ p.close x (ending_by block o rest)
-  ends_by (some a) x block o rest h = m.ends a x (ending_by block o rest) h
-  ends_by none x block (some refusal) rest h = sym h
-  ends_by none x block none rest h = absurd h
+  ends_by (Some a) x block o rest h = m.ends a x (ending_by block o rest) h
+  ends_by None x block (Some refusal) rest h = sym h
+  ends_by None x block None rest h = absurd h
 
   follows : Follows (singly c) p
   follows = record {

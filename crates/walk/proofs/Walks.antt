@@ -1,7 +1,7 @@
 -- The walk over the blocks, in parts. Assumes nothing.
+use Rattle.std.specs.Prelude.{Option, Some, None}
 use mathlib.Core.Path.{◌≡◌, refl, sym, ap, ◌∙◌}
 use mathlib.Core.List.{[], ◌∷◌, append_assoc}
-use mathlib.Core.Option.{Option, none, some}
 use Prim.Native.Nat.{ℕ, suc, ◌+◌}
 use native.Mathlib.Nat.{add-zero, add-suc, suc-add}
 use lib.ListN.{length}
@@ -12,7 +12,7 @@ both_assoc : (p q r : Printed) → both (both p q) r ≡ both p (both q r)
 both_assoc p q r = λ i. record { out = append_assoc p.out q.out r.out i; err = append_assoc p.err q.err r.err i }
 
 module _ {S : Type 0} where
-  pub onward_ended : (r : Run S) (rest : S → Run S) (ending : Ending) → r.ended ≡ some ending → onward r rest ≡ r
+  pub onward_ended : (r : Run S) (rest : S → Run S) (ending : Ending) → r.ended ≡ Some ending → onward r rest ≡ r
   unfolding onward
   onward_ended r rest ending e = ap (more r rest) e
 
@@ -23,28 +23,28 @@ module _ {S : Type 0} where
     where
       after : (u : Run S) (e : Option Ending)
           → more (record { state = u.state; printed = both r.printed u.printed; ended = u.ended }) g e
-          ≡ more r (λ s. more u g e) none
-      after u none = λ i. record {
+          ≡ more r (λ s. more u g e) None
+      after u None = λ i. record {
         state = (g u.state).state;
         printed = both_assoc r.printed u.printed (g u.state).printed i;
         ended = (g u.state).ended;
       }
-      after u (some ending) = refl
+      after u (Some ending) = refl
 
       go : (e : Option Ending) → r.ended ≡ e → more (more r f e) g (more r f e).ended ≡ more r (λ s. more (f s) g (f s).ended) e
-      go none q = after (f r.state) (f r.state).ended
-      go (some ending) q = ap (more r g) q
+      go None q = after (f r.state) (f r.state).ended
+      go (Some ending) q = ap (more r g) q
 
   -- the end of a run that goes on is that of its rest, and the end of one that does not is its own
   module _ (p : Program S) (r : Run S) (rest : S → Run S) where
-    pub closed_goes : r.ended ≡ none → closed p (onward r rest) ≡ both r.printed (closed p (rest r.state))
+    pub closed_goes : r.ended ≡ None → closed p (onward r rest) ≡ both r.printed (closed p (rest r.state))
     unfolding closed onward
     closed_goes e =
         let s = rest r.state in
         ap (λ (e : Option Ending). both (more r rest e).printed (p.close (more r rest e).state (more r rest e).ended)) e
         ∙ both_assoc r.printed s.printed (p.close s.state s.ended)
 
-    pub closed_ends : (ending : Ending) → r.ended ≡ some ending → closed p (onward r rest) ≡ closed p r
+    pub closed_ends : (ending : Ending) → r.ended ≡ Some ending → closed p (onward r rest) ≡ closed p r
     closed_ends ending e = ap (closed p) (onward_ended r rest ending e)
 
 pub walk_in_parts : WalkInParts

@@ -1,6 +1,5 @@
 -- The blocks of a piece in turn: to the last, to one that is refused, or to one where a call stops, as where its output has no room for the next block's bytes.
-use Rattle.std.specs.Prelude.{◌≡◌, cond, List, [], ◌∷◌, ◌++◌, ℕ, zero, suc, ◌+◌, ◌-◌, ◌*◌, ◌≤◌, ltb, length, drop}
-use Rattle.std.proofs.Math.Option.{Option, none, some}
+use Rattle.std.specs.Prelude.{◌≡◌, cond, List, [], ◌∷◌, ◌++◌, ℕ, zero, suc, ◌+◌, ◌-◌, ◌*◌, ◌≤◌, ltb, length, drop, Option, Some, None}
 use Rattle.std.proofs.lemmas.List.Edits.{sets}
 use Rattle.answers.specs.declared.Refusal.{Refusal}
 use Rattle.format.specs.Blocks.{block_bytes}
@@ -15,12 +14,12 @@ pub record Took (S : Type 0) : Type 0 where
   pub refusal : Option Refusal
 
 abbrev pub none_taken : {S : Type 0} → S → Took S
-none_taken s = record { state = s; taken = 0; printed = nothing; refusal = none }
+none_taken s = record { state = s; taken = 0; printed = nothing; refusal = None }
 
 -- a block's turn, and what follows it: nothing follows a refusal
 abbrev pub one_more : {S : Type 0} → Turn S → Option Refusal → Took S → Took S
-one_more t none w = record { state = w.state; taken = suc w.taken; printed = both t.printed w.printed; refusal = w.refusal }
-one_more t (some refusal) w = record { state = t.state; taken = 0; printed = t.printed; refusal = some refusal }
+one_more t None w = record { state = w.state; taken = suc w.taken; printed = both t.printed w.printed; refusal = w.refusal }
+one_more t (Some refusal) w = record { state = t.state; taken = 0; printed = t.printed; refusal = Some refusal }
 
 -- the first of the blocks from i on, at most so many
 unfoldable pub front : {S : Type 0} → Program S → ℕ → ℕ → List (List ℕ) → S → Took S
@@ -76,4 +75,4 @@ RoomIsEnough =
     → ((i : ℕ) (s : S) (b : List ℕ) → P s → Octets b → (length (p.step i s b).printed.out ≤ most) × P (p.step i s b).state)
     → (i : ℕ) (piece : List ℕ) (s : S) (room : ℕ) → P s → Octets piece → wholes piece * most ≤ room
     → let w = fitting p i (whole_in piece) s room in
-    w.refusal ≡ none → w.taken ≡ wholes piece
+    w.refusal ≡ None → w.taken ≡ wholes piece

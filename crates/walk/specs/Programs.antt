@@ -1,7 +1,6 @@
 -- Document 01, "Trace file" and "Table": a program takes a trace's blocks in turn, each on the state that the block before left, and prints
 -- on standard output and standard error. The first refused block may end it; what is printed then is the program's to say.
-use Rattle.std.specs.Prelude.{ℕ, suc, List, [], ◌∷◌, ◌++◌}
-use Rattle.std.proofs.Math.Option.{Option, none, some}
+use Rattle.std.specs.Prelude.{ℕ, suc, List, [], ◌∷◌, ◌++◌, Option, Some, None}
 use Rattle.answers.specs.declared.Refusal.{Refusal}
 use Rattle.walk.specs.Blocks.{Blocks}
 
@@ -19,7 +18,7 @@ to_output bytes = record { out = bytes; err = [] }
 abbrev pub both : Printed → Printed → Printed
 both p q = record { out = p.out ++ q.out; err = p.err ++ q.err }
 
--- what a block does: the next state, what is printed, and the refusal that ends the run, or none to go on
+-- what a block does: the next state, what is printed, and the refusal that ends the run, or None to go on
 pub record Turn (S : Type 0) : Type 0 where
   pub state : S
   pub printed : Printed
@@ -46,23 +45,23 @@ pub record Run (S : Type 0) : Type 0 where
 
 -- what follows a run so far: nothing follows an end
 abbrev pub more : {S : Type 0} → Run S → (S → Run S) → Option Ending → Run S
-more r rest none = record { state = (rest r.state).state; printed = both r.printed (rest r.state).printed; ended = (rest r.state).ended }
-more r rest (some ending) = r
+more r rest None = record { state = (rest r.state).state; printed = both r.printed (rest r.state).printed; ended = (rest r.state).ended }
+more r rest (Some ending) = r
 
 unfoldable pub onward : {S : Type 0} → Run S → (S → Run S) → Run S
 onward r rest = more r rest r.ended
 
 -- a turn at block i as a run
 abbrev pub ending_at : ℕ → Option Refusal → Option Ending
-ending_at i none = none
-ending_at i (some refusal) = some (record { refusal = refusal; block = i })
+ending_at i None = None
+ending_at i (Some refusal) = Some (record { refusal = refusal; block = i })
 
 abbrev pub turned : {S : Type 0} → ℕ → Turn S → Run S
 turned i t = record { state = t.state; printed = t.printed; ended = ending_at i t.refusal }
 
 -- the blocks from i on
 unfoldable pub walk : {S : Type 0} → Program S → ℕ → List (List ℕ) → S → Run S
-walk p i [] s = record { state = s; printed = nothing; ended = none }
+walk p i [] s = record { state = s; printed = nothing; ended = None }
 walk p i (b ∷ bs) s = onward (turned i (p.step i s b)) (walk p (suc i) bs)
 
 -- all blocks

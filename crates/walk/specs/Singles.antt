@@ -1,12 +1,10 @@
 -- A program's calls for one block each: block 0; each later block, by a writer that has room or not (specs/Steps); the end. They are one way to make the
 -- three calls of specs/Machines: of a piece, its first block is taken, if the output has room for what that prints.
-use Rattle.std.specs.Prelude.{◌≡◌, List, [], ◌∷◌, ℕ, suc, ◌*◌, ◌^◌, ◌≤◌, ◌<◌, length, replicate}
-use Rattle.std.proofs.Math.Option.{Option, none, some}
+use Rattle.answers.specs.declared.Unwritten.{Unwritten}
+use Rattle.std.specs.Prelude.{◌≡◌, List, [], ◌∷◌, ℕ, suc, ◌*◌, ◌^◌, ◌≤◌, ◌<◌, length, replicate, Option, Some, None, Result, Ok, Err}
 use Rattle.answers.specs.Writers.{written}
 use Rattle.answers.specs.declared.Refusal.{Refusal}
 use Rattle.answers.specs.declared.Refusal.TheVariants.{Incomplete}
-use Rattle.answers.specs.declared.Written.{Written}
-use Rattle.answers.specs.declared.Written.TheVariants.{Length, Room, Refused}
 use Rattle.format.specs.Blocks.{block_bytes}
 use Rattle.walk.specs.Blocks.{blocks_of}
 use Rattle.walk.specs.Programs.{Printed, nothing, to_output, Turn, Ending, Program, ending_at, printed_by}
@@ -33,37 +31,37 @@ pub record Held (A : Type 0) : Type 0 where
 -- ---- the calls as a machine
 
 abbrev pub started_by : {A : Type 0} → Next A → Held A
-started_by (goes a) = record { state = some a; block = 1; refusal = none }
-started_by (refuses refusal) = record { state = none; block = 0; refusal = some refusal }
+started_by (goes a) = record { state = Some a; block = 1; refusal = None }
+started_by (refuses refusal) = record { state = None; block = 0; refusal = Some refusal }
 
 abbrev pub none_given : {A : Type 0} → Held A → Gave (Held A)
 none_given h = record { state = h; taken = 0; printed = nothing }
 
 -- the call on a block that brings `next` and prints `bytes`, by the writer's answer: 12 takes nothing, so that the call is made again with more room
-abbrev pub gave_by : {A : Type 0} → Held A → A → Next A → List ℕ → Written → Gave (Held A)
-gave_by h a next bytes (Length n) = record {
-  state = record { state = some (state_after a next (Length n)); block = suc h.block; refusal = none };
+abbrev pub gave_by : {A : Type 0} → Held A → A → Next A → List ℕ → Result ℕ Unwritten → Gave (Held A)
+gave_by h a next bytes (Ok n) = record {
+  state = record { state = Some (state_after a next (Ok n)); block = suc h.block; refusal = None };
   taken = block_bytes;
   printed = to_output bytes;
 }
-gave_by h a next bytes (Room n) = none_given h
-gave_by h a next bytes (Refused refusal) = record {
-  state = record { state = some a; block = h.block; refusal = some refusal };
+gave_by h a next bytes (Err (Unwritten.Room n)) = none_given h
+gave_by h a next bytes (Err (Unwritten.Refused refusal)) = record {
+  state = record { state = Some a; block = h.block; refusal = Some refusal };
   taken = 0;
   printed = nothing;
 }
 
 -- the first of the whole blocks of a piece, with an output of so many bytes; nothing after a refusal
 abbrev pub given_for : {A : Type 0} → Singles A → Held A → Option A → Option Refusal → List (List ℕ) → ℕ → Gave (Held A)
-given_for c h (some a) none (b ∷ bs) room = gave_by h a (c.next a b) (c.bytes a b) (written (fault_in (c.next a b)) (c.bytes a b) (replicate room 0))
-given_for c h (some a) none [] room = none_given h
-given_for c h (some a) (some refusal) bs room = none_given h
-given_for c h none o bs room = none_given h
+given_for c h (Some a) None (b ∷ bs) room = gave_by h a (c.next a b) (c.bytes a b) (written (fault_in (c.next a b)) (c.bytes a b) (replicate room 0))
+given_for c h (Some a) None [] room = none_given h
+given_for c h (Some a) (Some refusal) bs room = none_given h
+given_for c h None o bs room = none_given h
 
 abbrev pub end_for : {A : Type 0} → Singles A → Held A → Option A → Option Refusal → List ℕ → Printed
-end_for c h (some a) o rest = c.end a (ending_by h.block o rest)
-end_for c h none (some refusal) rest = c.over refusal
-end_for c h none none rest = nothing
+end_for c h (Some a) o rest = c.end a (ending_by h.block o rest)
+end_for c h None (Some refusal) rest = c.over refusal
+end_for c h None None rest = nothing
 
 abbrev pub singly : {A : Type 0} → Singles A → Machine (Held A)
 singly c = record {
@@ -77,13 +75,13 @@ singly c = record {
 
 -- block 0
 abbrev pub Starts : {A S : Type 0} → (A → S → Type 0) → Singles A → Program S → Turn S → Next A → Type 0
-Starts Stands c p t (goes a) = Stands a t.state × (t.refusal ≡ none)
-Starts Stands c p t (refuses refusal) = (p.close t.state (ending_at 0 (some refusal)) ≡ c.over refusal) × (t.refusal ≡ some refusal)
+Starts Stands c p t (goes a) = Stands a t.state × (t.refusal ≡ None)
+Starts Stands c p t (refuses refusal) = (p.close t.state (ending_at 0 (Some refusal)) ≡ c.over refusal) × (t.refusal ≡ Some refusal)
 
 -- a later block: one that is refused prints nothing and leaves the state as it was
 abbrev pub Turns : {A S : Type 0} → (A → S → Type 0) → A → S → List ℕ → Turn S → Next A → Type 0
-Turns Stands a s bytes t (goes next) = Stands next t.state × (t.printed ≡ to_output bytes) × (t.refusal ≡ none)
-Turns Stands a s bytes t (refuses refusal) = t ≡ record { state = s; printed = nothing; refusal = some refusal }
+Turns Stands a s bytes t (goes next) = Stands next t.state × (t.printed ≡ to_output bytes) × (t.refusal ≡ None)
+Turns Stands a s bytes t (refuses refusal) = t ≡ record { state = s; printed = nothing; refusal = Some refusal }
 
 -- the calls follow the program: what they hand on stands for its state; a part of a block is refused with 1, printing nothing
 pub record Mirrors {A S : Type 0} (c : Singles A) (p : Program S) : Type 1 where
@@ -91,7 +89,7 @@ pub record Mirrors {A S : Type 0} (c : Singles A) (p : Program S) : Type 1 where
   pub starts : (b : List ℕ) → Octets b → Starts Stands c p (p.begin b) (c.start b) × ((p.begin b).printed ≡ to_output (c.head b))
   pub turns : (i : ℕ) (a : A) (s : S) (b : List ℕ) → Stands a s → Octets b → Turns Stands a s (c.bytes a b) (p.step i s b) (c.next a b)
   pub ends : (a : A) (s : S) (e : Option Ending) → Stands a s → c.end a e ≡ p.close s e
-  pub parts : (i : ℕ) (s : S) (b : List ℕ) → 1 ≤ length b → length b < block_bytes → p.step i s b ≡ record { state = s; printed = nothing; refusal = some Incomplete }
+  pub parts : (i : ℕ) (s : S) (b : List ℕ) → 1 ≤ length b → length b < block_bytes → p.step i s b ≡ record { state = s; printed = nothing; refusal = Some Incomplete }
 
 -- what the calls for one block each give over a trace, joined, is what the program prints on both outputs
 abbrev pub SinglesPrint : Type 1

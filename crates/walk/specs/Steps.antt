@@ -1,10 +1,8 @@
 -- A call for one block, which writes what the block prints: a writer's answer, and the state after it.
-use Rattle.std.specs.Prelude.{◌≡◌, List, ℕ}
-use Rattle.std.proofs.Math.Option.{Option, none, some}
+use Rattle.answers.specs.declared.Unwritten.{Unwritten}
+use Rattle.std.specs.Prelude.{◌≡◌, List, ℕ, Option, Some, None, Result, Ok, Err}
 use Rattle.answers.specs.Writers.{Wrote, written, RoomFor}
 use Rattle.answers.specs.declared.Refusal.{Refusal}
-use Rattle.answers.specs.declared.Written.{Written}
-use Rattle.answers.specs.declared.Written.TheVariants.{Length, Room, Refused}
 
 -- what a block brings: the next state, or a refusal
 pub data Next (A : Type 0) : Type 0 where
@@ -13,18 +11,17 @@ pub data Next (A : Type 0) : Type 0 where
 
 -- its refusal, as a writer's
 abbrev pub fault_in : {A : Type 0} → Next A → Option Refusal
-fault_in (goes next) = none
-fault_in (refuses refusal) = some refusal
+fault_in (goes next) = None
+fault_in (refuses refusal) = Some refusal
 
 -- the state after the call: the next one where its bytes were written, else the one that was given
-abbrev pub state_after : {A : Type 0} → A → Next A → Written → A
-state_after given (goes next) (Length n) = next
-state_after given (goes next) (Room n) = given
-state_after given (goes next) (Refused refusal) = given
+abbrev pub state_after : {A : Type 0} → A → Next A → Result ℕ Unwritten → A
+state_after given (goes next) (Ok n) = next
+state_after given (goes next) (Err why) = given
 state_after given (refuses refusal) answer = given
 
 -- `answer`, `state` and `out` are what the call gives on a block that brings `next` and prints `bytes`
-pub record Stepped {A : Type 0} (given : A) (next : Next A) (bytes old : List ℕ) (answer : Written) (state : A) (out : List ℕ) : Type 0 where
+pub record Stepped {A : Type 0} (given : A) (next : Next A) (bytes old : List ℕ) (answer : Result ℕ Unwritten) (state : A) (out : List ℕ) : Type 0 where
   pub wrote : Wrote (fault_in next) bytes old answer out
   pub after : state ≡ state_after given next answer
 
@@ -36,4 +33,4 @@ pub record RoomForStep {A : Type 0} (given : A) (next : Next A) (bytes : List �
   pub room : RoomFor (fault_in next) bytes n
 
 abbrev pub StepRoomIsExact : Type 1
-StepRoomIsExact = (A : Type 0) (given : A) (next : Next A) (bytes old : List ℕ) (n : ℕ) → written (fault_in next) bytes old ≡ Room n → RoomForStep given next bytes n
+StepRoomIsExact = (A : Type 0) (given : A) (next : Next A) (bytes old : List ℕ) (n : ℕ) → written (fault_in next) bytes old ≡ Err (Unwritten.Room n) → RoomForStep given next bytes n

@@ -1,6 +1,5 @@
 -- What holds of every trace and every program.
-use Rattle.std.specs.Prelude.{◌≡◌, ◌⊎◌, List, [], ◌∷◌, ◌++◌, ℕ, ◌+◌, ◌≤◌, length}
-use Rattle.std.proofs.Math.Option.{some}
+use Rattle.std.specs.Prelude.{◌≡◌, ◌⊎◌, List, [], ◌∷◌, ◌++◌, ℕ, ◌+◌, ◌≤◌, length, Some}
 use Rattle.format.specs.Blocks.{block_bytes}
 use Rattle.walk.specs.Blocks.{blocks_of, joined}
 use Rattle.walk.specs.Programs.{Ending, Program, onward, walk}
@@ -30,4 +29,4 @@ WalkInParts =
 abbrev pub NothingFollows : Type 1
 NothingFollows =
     (S : Type 0) (p : Program S) (i : ℕ) (s : S) (front back : List (List ℕ)) (ending : Ending)
-    → (walk p i front s).ended ≡ some ending → walk p i (front ++ back) s ≡ walk p i front s
+    → (walk p i front s).ended ≡ Some ending → walk p i (front ++ back) s ≡ walk p i front s

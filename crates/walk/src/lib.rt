@@ -5,28 +5,18 @@
 ghost use Rattle.std.specs.Prelude.{◌≡◌};
 ghost use Rattle.walk.specs.Endings.{number_after};
 
-use answers::{Refusal, Written};
-
-// Whether a run goes on, or its next block was refused.
-#[derive(Clone, Copy)]
-pub enum Ended {
-    Going,
-    Refused(Refusal),
-}
+use answers::{Refusal, Unwritten};
 
 // What the end of a run wrote for standard output and for standard error.
-#[derive(Clone, Copy)]
+#[derive(Clone, Copy, PartialEq, Eq)]
 pub struct Closed {
-    pub out: Written,
-    pub err: Written,
+    pub out: Result<usize, Unwritten>,
+    pub err: Result<usize, Unwritten>,
 }
 
 // The number of the block that stands so many behind one. The greatest number stays.
 pub fn number_after(block: u64, more: u64) -> u64
     ensures { result ≡ number_after block more }
 {
-    if 0xffff_ffff_ffff_ffff - block < more {
-        return 0xffff_ffff_ffff_ffff;
-    }
-    block + more
+    block.saturating_add(more)
 }

@@ -1,20 +1,11 @@
 -- A product added up from its half-products, column by column. Assumes nothing.
-use mathlib.Core.Path.{◌≡◌, sym, ◌∙◌, ap, subst⁻¹}
-use Prim.Native.Nat.{ℕ, ◌+◌, ◌-◌, ◌*◌, ◌/◌, ◌%◌, ◌^◌, ◌<◌, ◌≤◌}
-use native.Mathlib.Nat.{mul-le-mul, mul-le-mul_right, mul-lt-mul_of_pos_left, mod-lt, lt_of_le_of_lt, le_of_lt}
+use mathlib.Core.Path.{◌≡◌, sym, ◌∙◌, ap}
+use Prim.Native.Nat.{ℕ, ◌+◌, ◌*◌, ◌/◌, ◌%◌, ◌^◌, ◌<◌}
+use native.Mathlib.Nat.{mod-lt}
 use native.Mathlib.Omega.{arith}
-use lib.Pow.{shr_lt, split, pow_pos, high, low}
-use mir.Syntax.{w64}
-use mir.Val.{Fits}
+use lib.Pow.{split, pow_pos, high, low}
 use Rattle.wide.specs.Products.{value, wide_of, half_products_of, added, AddUp, column0, column1, carry, column2, words_of, ColumnsAddUp}
-use Rattle.wide.specs.declared.Wide.{Wide}
 use Rattle.wide.specs.declared.HalfProducts.{HalfProducts}
-
--- a product of two numbers of 32 bits
-pub half_fits : {x y : ℕ} → x < 2 ^ 32 → y < 2 ^ 32 → Fits w64 (x * y)
-half_fits {x} {y} hx hy =
-    let most : x * y ≤ (2 ^ 32 - 1) * (2 ^ 32 - 1) = mul-le-mul {n₂ = 2 ^ 32 - 1} {m₂ = 2 ^ 32 - 1} (omega arith) (omega arith) in
-    omega arith
 
 -- ---- the half-products, each at its place
 
@@ -52,11 +43,3 @@ words_are a b {h} e =
       high = (sym (high (column2 h) 64 lower) ∙ ap (λ (n : ℕ). n / 2 ^ 64) sum) i;
       low = (sym (low (column2 h) 64 lower) ∙ ap (λ (n : ℕ). n % 2 ^ 64) sum) i;
     }
-
-product_lt : (D a b : ℕ) → a < D → b < D → a * b < D * D
-product_lt D a b l k = lt_of_le_of_lt (mul-le-mul_right b (le_of_lt l)) (mul-lt-mul_of_pos_left k (omega arith))
-
--- of numbers of 64 bits the last column fits a word
-pub column2_fits : (a b : ℕ) {h : HalfProducts} → a < 2 ^ 64 → b < 2 ^ 64 → h ≡ half_products_of a b → column2 h < 2 ^ 64
-column2_fits a b ha hb e =
-    subst⁻¹ (λ (w : Wide). w.high < 2 ^ 64) (words_are a b e) (shr_lt 64 64 (product_lt (2 ^ 64) a b ha hb))

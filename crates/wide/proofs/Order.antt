@@ -1,9 +1,7 @@
 -- The order of numbers in two words. Assumes nothing.
 use mathlib.Core.Path.{◌≡◌, refl, sym, ◌∙◌, ap}
 use mathlib.Core.Bool.{Bool, true, false}
-use Prim.Native.Nat.{ℕ, ◌+◌, ◌*◌, ◌<◌, ◌≤◌}
-use native.Mathlib.Nat.{mul-le-mul_right}
-use native.Mathlib.Omega.{arith}
+use Prim.Native.Nat.{ℕ, ◌<◌, ◌≤◌}
 use borrow.Author.Tests.{lt-ltb, le-ltb, ltb-true, ltb-false}
 use lib.Dec.{ltb}
 use lib.Pow.{split}
@@ -17,10 +15,6 @@ same_order a b c d f g = go (ltb a b) refl
     go : (t : Bool) → ltb a b ≡ t → ltb a b ≡ ltb c d
     go true e = e ∙ sym (lt-ltb c d (f (ltb-true a b e)))
     go false e = e ∙ sym (le-ltb c d (g (ltb-false a b e)))
-
--- a greater upper word makes a greater number
-pub upper_first : (D x₁ x₀ y₁ y₀ : ℕ) → x₁ < y₁ → x₀ < D → x₁ * D + x₀ < y₁ * D + y₀
-upper_first D x₁ x₀ y₁ y₀ h l = omega (arith, mul-le-mul_right D h)
 
 -- the two words of a number hold it
 pub value_of : {x : Wide} {n : ℕ} → x ≡ wide_of n → value x ≡ n

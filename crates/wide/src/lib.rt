@@ -8,8 +8,8 @@ ghost use Rattle.wide.specs.Products.{value, wide_of, half_products_of};
 // 2^32. The upper half of a 64-bit number x is x / HALF, the lower half x % HALF.
 const HALF: u64 = 0x1_0000_0000;
 
-// A number of up to 128 bits: high · 2^64 + low.
-#[derive(Clone, Copy)]
+// A number of up to 128 bits: high · 2^64 + low. The order of the fields is that of the numbers.
+#[derive(Clone, Copy, PartialEq, Eq, PartialOrd, Ord)]
 pub struct Wide {
     pub high: u64,
     pub low: u64,
@@ -17,7 +17,7 @@ pub struct Wide {
 
 // The products of the halves of two numbers a and b, in the order used on paper: both halves of a by the lower half of b, then both by the
 // upper one. The first letter is the half of a, the second the half of b: l the lower one, h the upper one.
-#[derive(Clone, Copy)]
+#[derive(Clone, Copy, PartialEq, Eq)]
 pub struct HalfProducts {
     pub ll: u64,
     pub hl: u64,
@@ -64,9 +64,6 @@ impl Wide {
     pub fn above(self, other: Wide) -> bool
         ensures { result ≡ ltb (value other) (value self) }
     {
-        if self.high == other.high {
-            return other.low < self.low;
-        }
-        other.high < self.high
+        other < self
     }
 }

@@ -4,4 +4,4 @@ use Rattle.source.specs.declared.Totals.{Totals}
 use Rattle.convert.proofs.no_run.Goals as goal
 
 pub returns : goal.returns
-returns c = ap (λ (t : Totals). record { form = One; length = 0; ssrc = 0; totals = t }) c.fresh-totals.ensures
+returns c = ap (λ (t : Totals). record { form = One; length = 0; ssrc = 0; totals = t }) c.fresh.ensures

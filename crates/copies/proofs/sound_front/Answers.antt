@@ -15,10 +15,10 @@ overflow_add-end c = omega (arith, c.loop-at.invariant.within, c.loop-at-test.tr
 pub slice_bounds-read_own-end : goal.slice_bounds-read_own-end
 slice_bounds-read_own-end c = omega (arith, c.loop-at.invariant.within, c.loop-at-test.true)
 
-pub returns-in-Refused : goal.returns-in-Refused
-returns-in-Refused c =
+pub returns-in-Err : goal.returns-in-Err
+returns-in-Err c =
     loop_refused c.loop-at.invariant c.loop-at-test.true refl
-    (sym c.read_own-read.ensures.value ∙ c.in-Refused.is)
+    (sym c.read_own-read.ensures.value ∙ c.in-Err.is)
 
 pub loop-at-smaller : goal.loop-at-smaller
 loop-at-smaller c = omega (arith, c.loop-at.invariant.within, c.loop-at-test.true)

@@ -1,17 +1,20 @@
 use mathlib.Core.Path.{sym, ap, ◌∙◌}
+use Rattle.std.proofs.lemmas.Result.{err_from_is_err_and}
 use Rattle.answers.proofs.Stores.{wrote_refused, wrote_same}
+use Rattle.report.specs.declared.carried.Carried.{Carried}
 use Rattle.report.specs.Reports.{summary_of, summary_bytes}
-use Rattle.report.proofs.Faults.{carried_malformed, carried_fields}
+use Rattle.report.proofs.Faults.{carried_fault, carried_fits, carried_is}
 use Rattle.report.proofs.write_summary.Goals as goal
 
-pub returns-in-Malformed : goal.returns-in-Malformed
-returns-in-Malformed c =
+pub returns-in_err-carried : goal.returns-in_err-carried
+returns-in_err-carried c =
     let a = c.args in
-    wrote_refused (summary_bytes a.media a.s) a.out.now (carried_malformed a.s (sym c.of.ensures ∙ c.in-Malformed.is))
+    let p = err_from_is_err_and c.from_residual.result c.from_residual.ensures.1 in
+    rw (p.1, p.2) (wrote_refused (summary_bytes a.media a.s) a.out.now (carried_fault a.s (sym c.of.ensures ∙ c.in_err-carried.was)))
 
-pub returns-in-Fields : goal.returns-in-Fields
-returns-in-Fields c =
+pub returns : goal.returns
+returns c =
     let a = c.args in
-    let f = carried_fields a.s (sym c.of.ensures ∙ c.in-Fields.is) in
-    let same = ap (summary_of a.media) f.counts in
-    wrote_same (sym f.fits) same c.summary.ensures
+    let is = sym c.of.ensures ∙ c.in_ok-carried.was in
+    let same = ap (λ (k : Carried). summary_of a.media k.counts) (carried_is a.s is) in
+    wrote_same (sym (carried_fits a.s is)) same c.summary.ensures

@@ -10,4 +10,4 @@ returns-then-m-eq0 c = λ top bottom t.
 
 pub returns : goal.returns
 returns c = λ top bottom t.
-    entry_root top bottom c.args.table t (c.within-m.result - 1) (min c.args.n 1024) (search rules) (omega arith)
+    entry_root top bottom c.args.table t (c.min-m.result - 1) (min c.args.n 1024) (search rules) (omega arith)

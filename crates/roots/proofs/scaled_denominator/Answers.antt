@@ -7,7 +7,7 @@ use Rattle.roots.proofs.Sizes.{Parts, parts_of_lem}
 use Rattle.roots.proofs.scaled_denominator.Goals.{After-timeout_root-b}
 use Rattle.roots.proofs.scaled_denominator.Goals as goal
 
-sized : (c : After-timeout_root-b) → Parts c.within-m.result c.round_trip_root-a.result c.timeout_root-b.result
+sized : (c : After-timeout_root-b) → Parts c.min-m.result c.round_trip_root-a.result c.timeout_root-b.result
 sized c = parts_of_lem (omega arith) c.round_trip_root-a.ensures c.timeout_root-b.ensures
 
 pub overflow_mul-result : goal.overflow_mul-result
@@ -16,27 +16,12 @@ overflow_mul-result c = omega (arith, (sized (goal.at.overflow_mul-result c).Aft
 pub overflow_mul-result-2 : goal.overflow_mul-result-2
 overflow_mul-result-2 c = omega (arith, (sized (goal.at.overflow_mul-result-2 c).After-timeout_root-b).root)
 
-pub overflow_mul-result-3 : goal.overflow_mul-result-3
-overflow_mul-result-3 c = omega (arith, (sized (goal.at.overflow_mul-result-3 c).After-timeout_root-b).loss)
-
-pub overflow_mul-result-5 : goal.overflow_mul-result-5
-overflow_mul-result-5 c = omega (arith, (sized (goal.at.overflow_mul-result-5 c).After-timeout_root-b).square)
-
-pub overflow_add-result : goal.overflow_add-result
-overflow_add-result c = omega (arith, (sized (goal.at.overflow_add-result c).After-timeout_root-b).square)
-
-pub overflow_mul-result-6 : goal.overflow_mul-result-6
-overflow_mul-result-6 c = omega (arith, (sized (goal.at.overflow_mul-result-6 c).After-timeout_root-b).second)
-
-pub overflow_add-result-2 : goal.overflow_add-result-2
-overflow_add-result-2 c = omega (arith, (sized (goal.at.overflow_add-result-2 c).After-timeout_root-b).first, (sized (goal.at.overflow_add-result-2 c).After-timeout_root-b).second)
-
 pub returns : goal.returns
 unfolding scaled_denominator
 returns c =
-    let m = c.within-m.result in
+    let m = c.min-m.result in
     let k = min c.args.n 1024 in
-    let same : m ≡ k = c.within-m.ensures in
+    let same : m ≡ k = c.min-m.ensures in
     let inside : min m 1024 ≡ k = omega arith in
     let a = c.round_trip_root-a.ensures ∙ ap round_trip_root inside in
     let b = c.timeout_root-b.ensures ∙ ap timeout_root inside in

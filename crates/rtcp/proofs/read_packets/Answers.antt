@@ -1,198 +1,100 @@
-use Prim.Native.Nat.{ℕ, ◌+◌, ◌-◌, ◌*◌, ◌≤◌}
-use mathlib.Core.Path.{◌≡◌, refl, sym, ap, ap₂, ◌∙◌}
-use mathlib.Core.Bool.{Bool}
-use mathlib.Core.List.{List}
+use Rattle.std.specs.Prelude.{Ok, Err}
+use Prim.Native.Nat.{ℕ, ◌+◌, ◌-◌}
+use mathlib.Core.Path.{◌≡◌, sym, ap, ◌∙◌}
+use mathlib.Core.Bool.{◌||◌}
+use mathlib.Core.List.{[], ◌∷◌}
 use native.Mathlib.Omega.{arith}
-use lib.ListN.{length}
-use Rattle.answers.specs.declared.Refusal.{Refusal}
-use Rattle.answers.specs.declared.Refusal.TheVariants.{BlockSize}
-use Rattle.rtcp.specs.declared.MaybeReport.{MaybeReport}
-use Rattle.rtcp.specs.declared.MaybeFeedback.{MaybeFeedback}
-use Rattle.rtcp.specs.declared.MaybeSummary.{MaybeSummary}
+use borrow.Author.Rules.{rules}
 use Rattle.rtcp.specs.declared.Compound.{Compound}
-use Rattle.rtcp.specs.declared.Profile.{Profile}
-use Rattle.rtcp.specs.declared.Reading.{Reading}
-use Rattle.rtcp.specs.declared.Verdict.{Verdict}
-use Rattle.rtcp.specs.declared.header.Header.{Header}
-use Rattle.rtcp.specs.Packets.{Sound, packet_verdict}
-use Rattle.rtcp.specs.Compound.{unless_faulty}
+use Rattle.rtcp.specs.Packets.{Sound, body_end, packet_verdict}
+use Rattle.rtcp.specs.ReportBlocks.{report_in}
+use Rattle.rtcp.specs.EcnReports.{feedback_in}
+use Rattle.rtcp.specs.Compound.{first_report, first_feedback}
 use Rattle.rtcp.proofs.Whole.{sound}
-use Rattle.rtcp.proofs.Left.{with_packet, with_block, from_packet, from_block, packets_done, packet_faulty, packet_other, packet_xr, blocks_done, block_passes, block_goes, all_left}
-use Rattle.rtcp.proofs.read_packets.Lts.View.{up-After-padding_at, up-At-packets, up-In_default}
-use Rattle.rtcp.proofs.read_packets.Goals.{After-packet_verdict-verdict, After-padding_at, At-packets, In_default, Left-packets, Then-end-after}
-use Rattle.rtcp.proofs.read_packets.Invariants.{told, whole}
-use Rattle.rtcp.proofs.read_packets.Goals.{else-packets-test, then-packets-test+in-Faulty, then-packets-test+in_default+then-header+then-loop-place-test+then-end-after}
+use Rattle.rtcp.proofs.Left.{with_packet, from_block, from_packet, blocks_are, packets_done, packet_faulty, packet_other, packet_xr, packet_xr_faulty, all_left}
+use Rattle.rtcp.proofs.read_packets.Goals.{At-loop-at, After-packet_verdict, In_ok-packet_verdict, After-padding_at, After-summary_behind}
+use Rattle.rtcp.proofs.read_packets.Invariants.{told}
 use Rattle.rtcp.proofs.read_packets.Goals as goal
 
 -- ---- the packet at hand
 
-abbrev bytes : (c : At-packets) → List ℕ
-bytes c = c.args.bytes.now
+abbrev found : (c : At-loop-at) → Compound
+found c = let l = c.loop-at in told l.report l.feedback l.summary l.reporting
 
-abbrev media : (c : At-packets) → ℕ
-media c = c.args.media
+no_fault : (c : In_ok-packet_verdict) → packet_verdict c.args.profile c.header_at-header.result c.args.bytes.now c.loop-at.at ≡ Ok tt
+no_fault c = sym c.packet_verdict.ensures ∙ c.in_ok-packet_verdict.was
 
-abbrev profile : (c : At-packets) → Profile
-profile c = c.args.profile
+fit : (c : In_ok-packet_verdict) → Sound c.header_at-header.result c.args.bytes.now c.loop-at.at
+fit c = sound c.header_at-header.result c.args.bytes.now c.loop-at.at c.args.profile (no_fault c)
 
-abbrev found : (c : At-packets) → Compound
-found c = told c.packets.report c.packets.feedback c.packets.summary c.packets.reporting
+-- what is told of the blocks of an XR packet
+of_blocks : (c : After-summary_behind) → from_block c.args.bytes.now c.args.media (body_end c.header_at-header.result c.args.bytes.now c.loop-at.at) (c.loop-at.at + 8) c.loop-at.summary ≡ c.summary_behind.result
+of_blocks c =
+    let b = c.args.bytes.now in
+    let at = c.loop-at.at in
+    ap (λ (p : ℕ). from_block b c.args.media (at + c.header_at-header.result.size - p) (at + 8) c.loop-at.summary) (sym c.padding_at.ensures.value)
+    ∙ blocks_are b c.args.media _ (at + 8) c.loop-at.summary ∙ sym c.summary_behind.ensures
 
--- a packet with a fault ends the scan
-refused : (c : After-packet_verdict-verdict) (refusal : Refusal) → c.packet_verdict-verdict.result ≡ Verdict.Faulty refusal → whole (bytes (up-At-packets _ _ _ _ _ _ _ _ c.before.before.before.before)) (media (up-At-packets _ _ _ _ _ _ _ _ c.before.before.before.before)) (profile (up-At-packets _ _ _ _ _ _ _ _ c.before.before.before.before)) ≡ Reading.Refused refusal
-refused c refusal e =
-    sym c.packets.invariant.1
-    ∙ packet_faulty (bytes (up-At-packets _ _ _ _ _ _ _ _ c.before.before.before.before)) (media (up-At-packets _ _ _ _ _ _ _ _ c.before.before.before.before)) (profile (up-At-packets _ _ _ _ _ _ _ _ c.before.before.before.before)) c.packets.at (found (up-At-packets _ _ _ _ _ _ _ _ c.before.before.before.before)) c.packets-test.true c.header_at-header.result c.header_at-header.ensures.value refusal (sym c.packet_verdict-verdict.ensures ∙ e)
-
-module _ (c : In_default) where
-  abbrev at : ℕ
-  at = c.packets.at
-
-  abbrev header : Header
-  header = c.header_at-header.result
-
-  no_fault : packet_verdict (profile (up-At-packets _ _ _ _ _ _ _ _ c.before.before.before.before.before)) header (bytes (up-At-packets _ _ _ _ _ _ _ _ c.before.before.before.before.before)) at ≡ Verdict.Sound
-  no_fault = sym c.packet_verdict-verdict.ensures ∙ c.in_default.is
-
-  fit : Sound header (bytes (up-At-packets _ _ _ _ _ _ _ _ c.before.before.before.before.before)) at
-  fit = sound header (bytes (up-At-packets _ _ _ _ _ _ _ _ c.before.before.before.before.before)) at (profile (up-At-packets _ _ _ _ _ _ _ _ c.before.before.before.before.before)) no_fault
-
--- ---- an XR packet at hand
-
-module _ (c : After-padding_at) where
-  abbrev next : ℕ
-  next = at (up-In_default _ _ _ _ _ _ _ _ c.before.before.before.before.before) + (header (up-In_default _ _ _ _ _ _ _ _ c.before.before.before.before.before)).size
-
-  abbrev end : ℕ
-  end = next - c.padding_at.result
-
-  inside : end ≤ length (bytes (up-At-packets _ _ _ _ _ _ _ _ c.before.before.before.before.before.before.before.before.before))
-  inside = omega (arith, (fit (up-In_default _ _ _ _ _ _ _ _ c.before.before.before.before.before)).whole)
-
--- a block that passes its packet ends the scan
-passes : (c : Then-end-after) → whole (bytes (up-At-packets _ _ _ _ _ _ _ _ c.before.before.before.before.before.before.before.before.before.before.before.before.before.before)) (media (up-At-packets _ _ _ _ _ _ _ _ c.before.before.before.before.before.before.before.before.before.before.before.before.before.before)) (profile (up-At-packets _ _ _ _ _ _ _ _ c.before.before.before.before.before.before.before.before.before.before.before.before.before.before)) ≡ Reading.Refused BlockSize
-passes c =
-    let l = c.loop-place in
-    sym l.invariant.1
-    ∙ block_passes (bytes (up-At-packets _ _ _ _ _ _ _ _ c.before.before.before.before.before.before.before.before.before.before.before.before.before.before)) (media (up-At-packets _ _ _ _ _ _ _ _ c.before.before.before.before.before.before.before.before.before.before.before.before.before.before)) (profile (up-At-packets _ _ _ _ _ _ _ _ c.before.before.before.before.before.before.before.before.before.before.before.before.before.before)) l.place (told c.packets.report c.packets.feedback l.summary c.packets.reporting) (end (up-After-padding_at _ _ _ _ _ _ _ _ c.before.before.before.before.before.before)) (next (up-After-padding_at _ _ _ _ _ _ _ _ c.before.before.before.before.before.before)) c.loop-place-test.true c.block_at-block.result c.block_at-block.ensures.value c.if-end-after.true
-
--- ---- the needs
-
-pub packets-init : goal.packets-init
-packets-init c = (refl, refl)
-
-pub header_at-header-requires : goal.header_at-header-requires
-header_at-header-requires c = omega (arith, c.packets-test.true)
-
-pub packet_verdict-verdict-requires : goal.packet_verdict-verdict-requires
-packet_verdict-verdict-requires c = (omega (arith, c.packets-test.true), omega (arith, c.header_at-header.ensures.sized.0))
-
-pub overflow_add-next : goal.overflow_add-next
-overflow_add-next c = omega (arith, c.packets-test.true, c.header_at-header.ensures.sized.1)
+pub returns-in_err-packet_verdict : goal.returns-in_err-packet_verdict
+returns-in_err-packet_verdict c =
+    let a = c.args in
+    let l = c.loop-at in
+    let h = c.header_at-header in
+    let f = c.in_err-packet_verdict in
+    let refused : c.from_residual.result ≡ Err f.field-0.0 = search rules in
+    refused
+    ∙ sym (packet_faulty a.bytes.now a.media a.profile l.at (found (goal.at.returns-in_err-packet_verdict c).At-loop-at) c.loop-at-test.true h.result h.ensures.value f.field-0.0 (sym c.packet_verdict.ensures ∙ f.was))
+    ∙ l.invariant ∙ all_left a.bytes.now a.media a.profile
 
 pub padding_at-requires : goal.padding_at-requires
-padding_at-requires c = (omega (arith, c.header_at-header.ensures.sized.0), (fit (goal.at.padding_at-requires c).In_default).whole)
+padding_at-requires c = (omega (arith, c.header_at-header.ensures.sized.0), (fit (goal.at.padding_at-requires c).In_ok-packet_verdict).whole)
 
 pub overflow_sub-end : goal.overflow_sub-end
-overflow_sub-end c = omega (arith, (fit (goal.at.overflow_sub-end c).In_default).padding, c.padding_at.ensures.value)
+overflow_sub-end c = omega (arith, (fit (goal.at.overflow_sub-end c).In_ok-packet_verdict).padding, c.padding_at.ensures.value)
 
-pub overflow_add-place : goal.overflow_add-place
-overflow_add-place c = omega (arith, c.packets-test.true)
+pub summary_behind-requires : goal.summary_behind-requires
+summary_behind-requires c = omega (arith, (fit (goal.at.summary_behind-requires c).In_ok-packet_verdict).whole)
 
-pub loop-place-init : goal.loop-place-init
-loop-place-init c = (
-  c.in_default.is,
-  ap (λ (y : ℕ). from_block (bytes (goal.at.loop-place-init c).At-packets) (media (goal.at.loop-place-init c).At-packets) (profile (goal.at.loop-place-init c).At-packets) (next (goal.at.loop-place-init c).After-padding_at - y) (next (goal.at.loop-place-init c).After-padding_at) (at (goal.at.loop-place-init c).In_default + 8) (found (goal.at.loop-place-init c).At-packets)) c.padding_at.ensures.value
-      ∙ sym (packet_xr (bytes (goal.at.loop-place-init c).At-packets) (media (goal.at.loop-place-init c).At-packets) (profile (goal.at.loop-place-init c).At-packets) (at (goal.at.loop-place-init c).In_default) (found (goal.at.loop-place-init c).At-packets) c.packets-test.true (header (goal.at.loop-place-init c).In_default) c.header_at-header.ensures.value (no_fault (goal.at.loop-place-init c).In_default) c.if-header.true)
-      ∙ c.packets.invariant.1,
-)
+pub or_else-report-requires : goal.or_else-report-requires
+or_else-report-requires c = let s = fit (goal.at.or_else-report-requires c).In_ok-packet_verdict in search rules
 
-pub block_at-block-requires : goal.block_at-block-requires
-block_at-block-requires c = omega (arith, c.loop-place-test.true, inside (goal.at.block_at-block-requires c).After-padding_at)
+pub or_else-feedback-requires : goal.or_else-feedback-requires
+or_else-feedback-requires c = let s = fit (goal.at.or_else-feedback-requires c).In_ok-packet_verdict in search rules
 
-pub overflow_add-size : goal.overflow_add-size
-overflow_add-size c = omega (arith, c.block_at-block.ensures.bounded)
+pub returns-in_err-summary : goal.returns-in_err-summary
+returns-in_err-summary c =
+    let a = c.args in
+    let l = c.loop-at in
+    let h = c.header_at-header in
+    let f = c.in_err-summary in
+    let refused : c.from_residual-in_err-summary.result ≡ Err f.field-0.0 = search rules in
+    refused
+    ∙ sym (packet_xr_faulty a.bytes.now a.media a.profile l.at (found (goal.at.returns-in_err-summary c).At-loop-at) c.loop-at-test.true h.result h.ensures.value (no_fault (goal.at.returns-in_err-summary c).In_ok-packet_verdict) c.if-header.true f.field-0.0 (of_blocks (goal.at.returns-in_err-summary c).After-summary_behind ∙ f.was))
+    ∙ l.invariant ∙ all_left a.bytes.now a.media a.profile
 
-pub overflow_mul-size : goal.overflow_mul-size
-overflow_mul-size c = omega (arith, c.block_at-block.ensures.bounded)
+pub loop-at-preserved-in_ok-summary : goal.loop-at-preserved-in_ok-summary
+loop-at-preserved-in_ok-summary c =
+    let a = c.args in
+    let l = c.loop-at in
+    let h = c.header_at-header in
+    let s = c.in_ok-summary in
+    sym (packet_xr a.bytes.now a.media a.profile l.at (found (goal.at.loop-at-preserved-in_ok-summary c).At-loop-at) c.loop-at-test.true h.result h.ensures.value (no_fault (goal.at.loop-at-preserved-in_ok-summary c).In_ok-packet_verdict) c.if-header.true s.summary (of_blocks (goal.at.loop-at-preserved-in_ok-summary c).After-summary_behind ∙ s.was))
+    ∙ l.invariant
 
-pub overflow_add-after : goal.overflow_add-after
-overflow_add-after c = omega (arith, c.block_at-block.ensures.bounded, c.loop-place-test.true, inside (goal.at.overflow_add-after c).After-padding_at)
-
-pub first_summary-summary-requires : goal.first_summary-summary-requires
-first_summary-summary-requires c = omega (arith, c.if-end-after.false, inside (goal.at.first_summary-summary-requires c).After-padding_at)
-
-pub loop-place-smaller : goal.loop-place-smaller
-loop-place-smaller c = omega (arith, c.loop-place-test.true)
-
-pub loop-place-preserved : goal.loop-place-preserved
-unfolding with_block
-loop-place-preserved c =
-    let l = c.loop-place in
-    let r = c.packets.report in
-    let f = c.packets.feedback in (
-      l.invariant.0,
-      ap (λ (s : MaybeSummary). from_block (bytes (goal.at.loop-place-preserved c).At-packets) (media (goal.at.loop-place-preserved c).At-packets) (profile (goal.at.loop-place-preserved c).At-packets) (end (goal.at.loop-place-preserved c).After-padding_at) (next (goal.at.loop-place-preserved c).After-padding_at) (l.place + (c.block_at-block.result.words + 1) * 4) (told r f s c.packets.reporting)) c.first_summary-summary.ensures
-          ∙ sym (block_goes (bytes (goal.at.loop-place-preserved c).At-packets) (media (goal.at.loop-place-preserved c).At-packets) (profile (goal.at.loop-place-preserved c).At-packets) l.place (told r f l.summary c.packets.reporting) (end (goal.at.loop-place-preserved c).After-padding_at) (next (goal.at.loop-place-preserved c).After-padding_at) c.loop-place-test.true c.block_at-block.result c.block_at-block.ensures.value (omega (arith, c.if-end-after.false)))
-          ∙ l.invariant.1,
-    )
-
-pub first_report-report-requires : goal.first_report-report-requires
-first_report-report-requires c = fit (goal.at.first_report-report-requires c).In_default
-
-pub first_feedback-feedback-requires : goal.first_feedback-feedback-requires
-first_feedback-feedback-requires c = fit (goal.at.first_feedback-feedback-requires c).In_default
-
-pub packets-smaller-after-loop-place : goal.packets-smaller-after-loop-place
-packets-smaller-after-loop-place c = omega (arith, c.packets-test.true, c.header_at-header.ensures.sized.0)
-
-pub packets-preserved-after-loop-place : goal.packets-preserved-after-loop-place
-packets-preserved-after-loop-place c =
-    let l = c.loop-place in (
-      l.invariant.0,
-      sym (blocks_done (bytes (goal.at.packets-preserved-after-loop-place c).At-packets) (media (goal.at.packets-preserved-after-loop-place c).At-packets) (profile (goal.at.packets-preserved-after-loop-place c).At-packets) l.place (told c.packets.report c.packets.feedback l.summary c.packets.reporting) (end (goal.at.packets-preserved-after-loop-place c).After-padding_at) (next (goal.at.packets-preserved-after-loop-place c).After-padding_at) c.loop-place-test.false) ∙ l.invariant.1,
-    )
-
-pub packets-smaller : goal.packets-smaller
-packets-smaller c = omega (arith, c.packets-test.true, c.header_at-header.ensures.sized.0)
-
-pub packets-preserved : goal.packets-preserved
+pub loop-at-preserved : goal.loop-at-preserved
 unfolding with_packet
-packets-preserved c =
-    let s = c.packets.summary in (
-      c.in_default.is,
-      (λ i. from_packet (bytes (goal.at.packets-preserved c).At-packets) (media (goal.at.packets-preserved c).At-packets) (profile (goal.at.packets-preserved c).At-packets) (at (goal.at.packets-preserved c).In_default + (header (goal.at.packets-preserved c).In_default).size) (told (c.first_report-report.ensures i) (c.first_feedback-feedback.ensures i) s (c.or_report-reporting.ensures i)))
-          ∙ sym (packet_other (bytes (goal.at.packets-preserved c).At-packets) (media (goal.at.packets-preserved c).At-packets) (profile (goal.at.packets-preserved c).At-packets) (at (goal.at.packets-preserved c).In_default) (found (goal.at.packets-preserved c).At-packets) c.packets-test.true (header (goal.at.packets-preserved c).In_default) c.header_at-header.ensures.value (no_fault (goal.at.packets-preserved c).In_default) c.if-header.false)
-          ∙ c.packets.invariant.1,
-    )
+loop-at-preserved c =
+    let a = c.args in
+    let l = c.loop-at in
+    let h = c.header_at-header in
+    let report : c.or_else-report.result ≡ first_report (l.report ∷ report_in h.result a.bytes.now l.at a.media ∷ []) = search rules in
+    let feedback : c.or_else-feedback.result ≡ first_feedback (l.feedback ∷ feedback_in h.result a.bytes.now l.at a.media ∷ []) = search rules in
+    (λ i. from_packet a.bytes.now a.media a.profile (l.at + h.result.size) (told (report i) (feedback i) l.summary (l.reporting || c.is_report-reporting.ensures i)))
+    ∙ sym (packet_other a.bytes.now a.media a.profile l.at (found (goal.at.loop-at-preserved c).At-loop-at) c.loop-at-test.true h.result h.ensures.value (no_fault (goal.at.loop-at-preserved c).In_ok-packet_verdict) c.if-header.false)
+    ∙ l.invariant
 
--- ---- the ways out of the scan
-
-outcome-is : (v w : Verdict) (r : MaybeReport) (f : MaybeFeedback) (s t : MaybeSummary) (g : Bool) (a : Reading) → v ≡ w → s ≡ t → a ≡ unless_faulty w (told r f t g) → unless_faulty v (told r f s g) ≡ a
-outcome-is v w r f s t g a p q e = ap₂ (λ (x : Verdict) (y : MaybeSummary). unless_faulty x (told r f y g)) p q ∙ sym e
-
--- its end, a packet that is refused, and an XR block that passes its packet
 pub returns : goal.returns
 returns c =
-    let b = c.args.bytes.now in let m = c.args.media in let f = c.args.profile in let p = c.packets in
-    let so_far = told p.report p.feedback p.summary p.reporting in
-    let left : unless_faulty c.packets-test.verdict (told p.report p.feedback c.packets-test.summary p.reporting) ≡ whole b m f =
-    elim c.packets-test.branch [
-      | else-packets-test w ↦
-          outcome-is _ Verdict.Sound _ _ _ p.summary _ _ (w.verdict-is ∙ p.invariant.0) w.summary-is
-          (sym p.invariant.1 ∙ packets_done b m f p.at so_far w.packets-test.false)
-      | then-packets-test+in-Faulty w ↦
-          let r = w.in-Faulty.field-0 in
-          outcome-is _ (Verdict.Faulty r) _ _ _ p.summary _ _ (w.verdict-is ∙ w.in-Faulty.is) w.summary-is
-          (sym p.invariant.1
-          ∙ packet_faulty b m f p.at so_far w.packets-test.true w.header_at-header.result w.header_at-header.ensures.value r
-          (sym w.packet_verdict-verdict.ensures ∙ w.in-Faulty.is))
-      | then-packets-test+in_default+then-header+then-loop-place-test+then-end-after w ↦
-          let l = w.loop-place in
-          let next = p.at + w.header_at-header.result.size in
-          outcome-is _ (Verdict.Faulty BlockSize) _ _ _ l.summary _ _ w.verdict-is w.summary-is
-          (sym l.invariant.1
-          ∙ block_passes b m f l.place (told p.report p.feedback l.summary p.reporting) (next - w.padding_at.result) next w.loop-place-test.true
-          w.block_at-block.result w.block_at-block.ensures.value w.if-end-after.true)
-    ] in
-    c.unless_faulty.ensures ∙ left ∙ all_left _ _ _
+    let a = c.args in
+    let l = c.loop-at in
+    sym (packets_done a.bytes.now a.media a.profile l.at (told l.report l.feedback l.summary l.reporting) c.loop-at-test.false) ∙ l.invariant ∙ all_left a.bytes.now a.media a.profile

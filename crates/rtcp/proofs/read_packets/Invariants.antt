@@ -1,34 +1,21 @@
-use Prim.Native.Nat.{ℕ, ◌-◌}
+use Rattle.std.specs.Prelude.{Option}
+use Rattle.rtcp.specs.declared.ReportBlock.{ReportBlock}
+use Rattle.rtcp.specs.declared.Feedback.{Feedback}
+use Rattle.format.specs.declared.Counts.{Counts}
+use Prim.Native.Nat.{◌-◌}
 use mathlib.Core.Path.{◌≡◌}
 use mathlib.Core.Bool.{Bool}
-use mathlib.Core.List.{List}
 use lib.ListN.{length}
-use Rattle.rtcp.specs.declared.MaybeReport.{MaybeReport}
-use Rattle.rtcp.specs.declared.MaybeFeedback.{MaybeFeedback}
-use Rattle.rtcp.specs.declared.MaybeSummary.{MaybeSummary}
 use Rattle.rtcp.specs.declared.Compound.{Compound}
-use Rattle.rtcp.specs.declared.Profile.{Profile}
-use Rattle.rtcp.specs.declared.Reading.{Reading}
-use Rattle.rtcp.specs.declared.Verdict.{Verdict}
-use Rattle.rtcp.proofs.Left.{nothing, from_packet, from_block}
+use Rattle.rtcp.proofs.Left.{nothing, from_packet}
 use Rattle.rtcp.proofs.read_packets.Given as goal
 
-abbrev pub whole : List ℕ → ℕ → Profile → Reading
-whole b media profile = from_packet b media profile 0 (nothing b media profile)
-
-abbrev pub told : MaybeReport → MaybeFeedback → MaybeSummary → Bool → Compound
+abbrev pub told : Option ReportBlock → Option Feedback → Option Counts → Bool → Compound
 told r f s g = record { report = r; feedback = f; summary = s; reporting = g }
 
-abbrev pub invariant-loop-place : goal.invariant-loop-place
-invariant-loop-place l =
-    (l.verdict ≡ Verdict.Sound) × (from_block l.bytes l.media l.profile l.end l.next l.place (told l.report l.feedback l.summary l.reporting) ≡ whole l.bytes l.media l.profile)
+abbrev pub invariant-loop-at : goal.invariant-loop-at
+invariant-loop-at l =
+    from_packet l.bytes l.media l.profile l.at (told l.report l.feedback l.summary l.reporting) ≡ from_packet l.bytes l.media l.profile 0 (nothing l.bytes l.media l.profile)
 
-abbrev pub decreases-loop-place : goal.decreases-loop-place
-decreases-loop-place l = l.end - l.place
-
-abbrev pub invariant-packets : goal.invariant-packets
-invariant-packets l =
-    (l.verdict ≡ Verdict.Sound) × (from_packet l.bytes l.media l.profile l.at (told l.report l.feedback l.summary l.reporting) ≡ whole l.bytes l.media l.profile)
-
-abbrev pub decreases-packets : goal.decreases-packets
-decreases-packets l = length l.bytes - l.at
+abbrev pub decreases-loop-at : goal.decreases-loop-at
+decreases-loop-at l = length l.bytes - l.at

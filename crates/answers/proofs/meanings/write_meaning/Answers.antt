@@ -7,15 +7,15 @@ use Rattle.answers.proofs.Parted.{part_at}
 use Rattle.answers.proofs.Stores.{wrote_refused}
 use Rattle.answers.proofs.meanings.write_meaning.Goals as goal
 
-pub returns-then-number-lt1 : goal.returns-then-number-lt1
-returns-then-number-lt1 c =
+pub returns-in_default : goal.returns-in_default
+returns-in_default c =
     let a = c.args in
-    wrote_refused (meaning_of a.number) a.out.now (none_below a.number c.if-number-lt1.true)
+    wrote_refused (meaning_of a.number) a.out.now (none_below a.number (omega arith))
 
-pub returns-then-number-gt-MOST : goal.returns-then-number-gt-MOST
-returns-then-number-gt-MOST c =
+pub returns-in_default-2 : goal.returns-in_default-2
+returns-in_default-2 c =
     let a = c.args in
-    wrote_refused (meaning_of a.number) a.out.now (none_above a.number c.if-number-lt1.false c.if-number-gt-MOST.true)
+    wrote_refused (meaning_of a.number) a.out.now (none_above a.number (omega arith) (omega arith))
 
 pub write_part-requires : goal.write_part-requires
 unfolding parts_fit
@@ -23,8 +23,4 @@ write_part-requires c = (omega arith, refl)
 
 pub returns : goal.returns
 unfolding parts_of meaning_of
-returns c =
-    let a = c.args in
-    let low = c.if-number-lt1.false in
-    let high = c.if-number-gt-MOST.false in
-    rw (some_between a.number low high) (rw (← part_at) at c.write_part.ensures)
+returns c = rw (some_between c.args.number (omega arith) (omega arith)) (rw (← part_at) at c.write_part.ensures)

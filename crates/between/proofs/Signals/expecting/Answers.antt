@@ -1,3 +1,4 @@
+use Rattle.std.specs.Prelude.{Ok}
 use borrow.Author.Rules.{rules}
 use mathlib.Core.Path.{◌≡◌, refl, sym, ◌∙◌, ap}
 use mathlib.Core.Bool.{Bool}
@@ -7,7 +8,6 @@ use lib.Dec.{leb}
 use Rattle.answers.proofs.Conditions.{cond_ends, cond_goes}
 use Rattle.numbers.specs.Since.{since}
 use Rattle.numbers.proofs.Signed.{seen_is}
-use Rattle.between.specs.declared.Between.{Between}
 use Rattle.between.specs.Differences.{expecting_of, between_as}
 use mathlib.Core.Path.{ap}
 use Rattle.between.proofs.Signals.expecting.Goals.{After-since32-expected}
@@ -31,7 +31,7 @@ returns-clause-value c =
     let a = c.args in
     let lost = seen_is a.self.lost (search rules) in
     cond_goes _ _ _ _ (back (goal.at.returns-clause-value c).After-since32-expected (lt-leb _ _ c.if-expected-ge-BACK.false))
-    (λ i. Between.Counts (record { lost = lost i; marked = a.self.marked; expected = c.since32-expected.ensures i }))
+    (λ i. Ok (record { lost = lost i; marked = a.self.marked; expected = (c.from.ensures ∙ c.since32-expected.ensures) i }))
 
 pub returns-clause-numbered : goal.returns-clause-numbered
 returns-clause-numbered c = ap between_as (returns-clause-value c)

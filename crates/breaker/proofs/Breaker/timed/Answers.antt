@@ -1,3 +1,4 @@
+use Rattle.std.specs.Prelude.{None}
 use borrow.Author.Rules.{rules}
 use mathlib.Core.Path.{◌≡◌, ap, sym, ◌∙◌, subst}
 use mathlib.Core.Bool.{false, not}
@@ -5,7 +6,6 @@ use Prim.Native.Nat.{◌≤◌}
 use borrow.Author.Tests.{lt-ltb, le-ltb, ltb-false, le-leb, lt-leb}
 use lib.Dec.{ltb}
 use Rattle.answers.proofs.Conditions.{cond_ends, cond_goes}
-use Rattle.breaker.specs.declared.Opening.TheVariants.{Open}
 use Rattle.breaker.specs.declared.Answer.TheVariants.{Go}
 use Rattle.breaker.specs.Answers.{answers}
 use Rattle.breaker.specs.Calls.{early, timed}
@@ -15,16 +15,16 @@ use Rattle.breaker.proofs.Breaker.timed.Goals.{Else-is_early, In_default}
 use Rattle.breaker.proofs.Breaker.timed.Goals as goal
 
 -- the record is sound and runs
-opens : (c : In_default) → Opens c.args.self Open
+opens : (c : In_default) → Opens c.args.self None
 opens c = subst (Opens _) c.in_default.is c.opening.ensures
 
 -- the time is not early
 not-early : (c : Else-is_early) → early c.args.self c.args.time ≡ false
 not-early c = sym c.is_early.ensures ∙ c.if-is_early.false
 
-pub returns-in-Answered : goal.returns-in-Answered
+pub returns-in-Some : goal.returns-in-Some
 unfolding timed
-returns-in-Answered c = c.answered.ensures ∙ subst (Opens _) c.in-Answered.is c.opening.ensures _
+returns-in-Some c = c.answered.ensures ∙ subst (Opens _) c.in-Some.is c.opening.ensures _
 
 pub returns-then-time-ge-TIME_LIMIT : goal.returns-then-time-ge-TIME_LIMIT
 unfolding timed

@@ -1,6 +1,7 @@
 use borrow.Author.Rules.{rules}
 use mathlib.Core.Path.{◌≡◌, ◌∙◌, ap, subst⁻¹}
-use lib.ListN.{length}
+use lib.ListN.{length, length-take}
+use native.Mathlib.Omega.{arith}
 use Rattle.roots.specs.FullCondition.{full_condition}
 use Rattle.answers.proofs.Conditions.{cond_ends, cond_goes}
 use Rattle.breaker.specs.declared.intervals.Sums.{Sums}
@@ -28,7 +29,10 @@ pub summed-sums-requires : goal.summed-sums-requires
 summed-sums-requires c =
     let s = c.args in
     let h = c.requires in
-    (k_high s.settings h.0, h.1)
+    (omega (arith, length-take s.settings.k s.window.intervals, k_high s.settings h.0), h.1)
+
+pub shared_ref_as_front-summed : goal.shared_ref_as_front-summed
+shared_ref_as_front-summed c = k_high c.args.settings c.requires.0
 
 pub above_full-requires : goal.above_full-requires
 above_full-requires c = (sums (goal.at.above_full-requires c).After-summed-sums, c.requires.2)
@@ -43,9 +47,9 @@ returns-then-settings c =
 pub above_simplified-requires : goal.above_simplified-requires
 above_simplified-requires c = (sums (goal.at.above_simplified-requires c).After-summed-sums, c.requires.2)
 
-pub returns : goal.returns
+pub returns-else-settings : goal.returns-else-settings
 unfolding holds
-returns c =
+returns-else-settings c =
     let r = c.args.r in
     cond_goes _ _ _ _ c.if-settings.false
     (c.above_simplified.ensures ∙ ap (λ (q : Sums). condition r.rate r.rtt q.p r.size q.w) c.summed-sums.ensures)

@@ -43,18 +43,18 @@ returns-then-r-eq0 c =
     let r = c.args.r in
     cond_ends _ _ _ _ (eq-eqb _ _ c.if-r-eq0.true) (c.answered.ensures ∙ ap (answers Go) (c.stored.ensures ∙ ap (stored b r 0 b.trial) c.empty.ensures))
 
-pub returns-then-b-elapsed : goal.returns-then-b-elapsed
+pub returns-then-b-r : goal.returns-then-b-r
 unfolding ruled_by ruled
-returns-then-b-elapsed c =
+returns-then-b-r c =
     cond_goes _ _ _ _ (ne_eqb _ _ c.if-r-eq0.false)
-    (cond_ends _ _ _ _ (le-leb _ _ c.if-b-elapsed.true) c.stopped.ensures)
+    (cond_ends _ _ _ _ (le-leb _ _ c.if-b-r.true) c.stopped.ensures)
 
 pub returns-then-b-run : goal.returns-then-b-run
 unfolding by_rules
 returns-then-b-run c =
     shown (goal.at.returns-then-b-run c).After-run_after-run
     (cond_goes _ _ _ _ (ne_eqb _ _ c.if-r-eq0.false)
-    (cond_goes _ _ _ _ (lt-leb _ _ c.if-b-elapsed.false)
+    (cond_goes _ _ _ _ (lt-leb _ _ c.if-b-r.false)
     (cond_ends _ _ _ _ (le-leb _ _ c.if-b-run.true) c.stopped-then-b-run.ensures)))
 
 pub returns-then-not-b : goal.returns-then-not-b
@@ -62,7 +62,7 @@ unfolding by_rules
 returns-then-not-b c =
     shown (goal.at.returns-then-not-b c).After-run_after-run
     (cond_goes _ _ _ _ (ne_eqb _ _ c.if-r-eq0.false)
-    (cond_goes _ _ _ _ (lt-leb _ _ c.if-b-elapsed.false)
+    (cond_goes _ _ _ _ (lt-leb _ _ c.if-b-r.false)
     (cond_goes _ _ _ _ (lt-leb _ _ c.if-b-run.false)
     (cond_ends _ _ _ _ c.if-not-b.true (c.answered-then-not-b.ensures ∙ ap (answers Go) c.stored-then-not-b.ensures)))))
 
@@ -74,7 +74,7 @@ unfolding by_rules
 returns c =
     shown (goal.at.returns c).After-run_after-run
     (cond_goes _ _ _ _ (ne_eqb _ _ c.if-r-eq0.false)
-    (cond_goes _ _ _ _ (lt-leb _ _ c.if-b-elapsed.false)
+    (cond_goes _ _ _ _ (lt-leb _ _ c.if-b-r.false)
     (cond_goes _ _ _ _ (lt-leb _ _ c.if-b-run.false)
     (cond_goes _ _ _ _ c.if-not-b.false
     c.tested.ensures))))

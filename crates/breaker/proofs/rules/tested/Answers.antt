@@ -30,11 +30,11 @@ shown c e = e ∙ ap (tested c.args.b c.args.r c.args.run) c.window_after-window
 pub window_after-window-requires : goal.window_after-window-requires
 window_after-window-requires c = c.requires
 
-pub returns-then-used-settings : goal.returns-then-used-settings
+pub returns-then-window-b : goal.returns-then-window-b
 unfolding tested
-returns-then-used-settings c =
-    shown (goal.at.returns-then-used-settings c).After-window_after-window
-    (cond_ends _ _ _ _ (lt-ltb _ _ c.if-used-settings.true) (c.answered.ensures ∙ ap (answers Go) c.stored.ensures))
+returns-then-window-b c =
+    shown (goal.at.returns-then-window-b c).After-window_after-window
+    (cond_ends _ _ _ _ (lt-ltb _ _ c.if-window-b.true) (c.answered.ensures ∙ ap (answers Go) c.stored.ensures))
 
 pub exceeds-requires : goal.exceeds-requires
 unfolding window_after
@@ -44,7 +44,7 @@ exceeds-requires c =
     let e = c.window_after-window.ensures in (
       settings_of_lem b h.is_sound,
       ap (λ (w : Window). all (map interval_ok (last_intervals b.settings w))) e
-          ∙ after_intervals b c.args.r h (long (goal.at.exceeds-requires c).Start) (omega (arith, c.if-used-settings.false, ap (λ (w : Window). w.used) e)),
+          ∙ after_intervals b c.args.r h (long (goal.at.exceeds-requires c).Start) (omega (arith, c.if-window-b.false, ap (λ (w : Window). w.used) e)),
       h.in_limits,
     )
 
@@ -52,7 +52,7 @@ pub returns-then-not-exceeds : goal.returns-then-not-exceeds
 unfolding tested
 returns-then-not-exceeds c =
     shown (goal.at.returns-then-not-exceeds c).After-window_after-window
-    (cond_goes _ _ _ _ (le-ltb _ _ c.if-used-settings.false)
+    (cond_goes _ _ _ _ (le-ltb _ _ c.if-window-b.false)
     (cond_ends _ _ _ _ (ap not (was_false c.exceeds.ensures c.if-not-exceeds.true))
     (c.answered-then-not-exceeds.ensures ∙ ap (answers Go) c.stored-then-not-exceeds.ensures)))
 
@@ -61,7 +61,7 @@ unfolding tested
 returns-then-may_reduce c =
     let s = c.args in
     shown (goal.at.returns-then-may_reduce c).After-window_after-window
-    (cond_goes _ _ _ _ (le-ltb _ _ c.if-used-settings.false)
+    (cond_goes _ _ _ _ (le-ltb _ _ c.if-window-b.false)
     (cond_goes _ _ _ _ (ap not (was_true c.exceeds.ensures c.if-not-exceeds.false))
     (cond_ends _ _ _ _ (sym c.may_reduce.ensures ∙ c.if-may_reduce.true)
     (c.answered-then-may_reduce.ensures ∙ ap (answers Reduce) (c.stored-then-may_reduce.ensures ∙ ap (stored s.b s.r s.run true) c.empty.ensures)))))
@@ -70,6 +70,6 @@ pub returns : goal.returns
 unfolding tested
 returns c =
     shown (goal.at.returns c).After-window_after-window
-    (cond_goes _ _ _ _ (le-ltb _ _ c.if-used-settings.false)
+    (cond_goes _ _ _ _ (le-ltb _ _ c.if-window-b.false)
     (cond_goes _ _ _ _ (ap not (was_true c.exceeds.ensures c.if-not-exceeds.false))
     (cond_goes _ _ _ _ (sym c.may_reduce.ensures ∙ c.if-may_reduce.false) c.stopped.ensures)))

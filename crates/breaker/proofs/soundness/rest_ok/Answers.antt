@@ -1,14 +1,13 @@
-use borrow.Author.Rules.{rules}
-use mathlib.Core.Path.{◌≡◌, ◌∙◌, ap}
-use native.Mathlib.Omega.{arith}
-use mathlib.Core.List.{List, map}
-use lib.ListN.{drop, length}
-use lib.Seq.{take_all}
-use Prim.Native.Nat.{◌≤◌}
+use Rattle.std.proofs.Common.{◌≡◌, ◌≤◌, List, length, rules, tests, arith, ap, ◌∙◌}
+use mathlib.Core.List.{map}
+use Rattle.std.specs.List.{between}
+use Rattle.std.proofs.lemmas.Iterator.{YieldsList-from_slice}
+use Rattle.std.proofs.lemmas.Iterator.Search.{all_from_yields_List}
+use Rattle.std.proofs.lemmas.Slice.{between_to_end}
 use Rattle.answers.specs.Conditions.{all}
 use Rattle.breaker.specs.declared.Interval.{Interval}
 use Rattle.breaker.specs.Windows.{is_zero}
-use Rattle.breaker.proofs.Places.{zero_limits, length-mapped}
+use Rattle.breaker.proofs.Places.{all_is, length-mapped}
 use Rattle.breaker.proofs.soundness.rest_ok.Goals.{Start}
 use Rattle.breaker.proofs.soundness.rest_ok.Goals as goal
 
@@ -19,4 +18,6 @@ pub returns : goal.returns
 returns c =
     let w = c.args.window in
     let e : length w.intervals ≤ 32 = omega (arith, long (goal.at.returns c).Start) in
-    c.all_between.ensures ∙ zero_limits (drop w.used _) ∙ ap (λ (l : List Interval). all (map is_zero (drop w.used l))) (take_all 32 w.intervals e)
+    let xs = between w.used 32 w.intervals in
+    all_from_yields_List is_zero _ _ _ c.all.ensures.ran (YieldsList-from_slice xs cc) (λ x b q k. search (rules, tests)) ∙ all_is is_zero xs
+    ∙ ap (λ (l : List Interval). all (map is_zero l)) (between_to_end w.intervals w.used 32 e)

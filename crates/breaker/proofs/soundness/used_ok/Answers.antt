@@ -1,7 +1,11 @@
-use mathlib.Core.Path.{◌∙◌}
-use lib.ListN.{take}
+use Rattle.std.proofs.Common.{rules, tests, take, ◌∙◌}
+use Rattle.std.proofs.lemmas.Iterator.{YieldsList-from_slice}
+use Rattle.std.proofs.lemmas.Iterator.Search.{all_from_yields_List}
+use Rattle.breaker.specs.Private.{interval_ok}
 use Rattle.breaker.proofs.Places.{used_limits}
 use Rattle.breaker.proofs.soundness.used_ok.Goals as goal
 
 pub returns : goal.returns
-returns c = let w = c.args.window in c.all_between.ensures ∙ used_limits (take w.used w.intervals)
+returns c =
+    let xs = take c.args.window.used c.args.window.intervals in
+    all_from_yields_List interval_ok _ _ _ c.all.ensures.ran (YieldsList-from_slice xs cc) (λ x b q k. search (rules, tests)) ∙ used_limits xs

@@ -8,14 +8,14 @@ returns-then-not-is_form c =
     let unknown = was_false c.is_form.ensures c.if-not-is_form.true in
     rw (unknown, c.number.ensures)
 
-pub returns-in-Arrivals : goal.returns-in-Arrivals
-returns-in-Arrivals c =
+pub returns-in-Ok : goal.returns-in-Ok
+returns-in-Ok c =
     let known = was_true c.is_form.ensures c.if-not-is_form.false in
-    let told = sym c.read_own.ensures.value ∙ c.in-Arrivals.is in
+    let told = sym c.read_own.ensures.value ∙ c.in-Ok.is in
     rw (known, ← c.form_of.ensures, ap later_code told)
 
-pub returns-in-Refused : goal.returns-in-Refused
-returns-in-Refused c =
+pub returns-in-Err : goal.returns-in-Err
+returns-in-Err c =
     let known = was_true c.is_form.ensures c.if-not-is_form.false in
-    let told = sym c.read_own.ensures.value ∙ c.in-Refused.is in
-    rw (known, ← c.form_of.ensures, c.number-in-Refused.ensures, ap later_code told)
+    let told = sym c.read_own.ensures.value ∙ c.in-Err.is in
+    rw (known, ← c.form_of.ensures, c.number-in-Err.ensures, ap later_code told)

@@ -1,7 +1,7 @@
+use Rattle.std.specs.Prelude.{Some}
 use borrow.Author.Rules.{rules}
 use mathlib.Core.Path.{ap}
 use mathlib.Core.Bool.{Bool, cond}
-use mathlib.Core.Option.{some}
 use native.Mathlib.Nat.{le_of_eq}
 use native.Mathlib.Omega.{arith}
 use Rattle.answers.specs.declared.Refusal.TheVariants.{Limits}
@@ -21,7 +21,7 @@ returns-then-not-is_form c =
     let unknown = was_false c.is_form.ensures c.if-not-is_form.true in
     coded (search rules) c.length.ensures
     (wrote_refused (arrivals_block (shape_of (form_of a.form)) (records_of a.times.now a.numbers.now a.marks.now) a.ssrc) a.out.now
-    (ap (λ (known : Bool). cond known (arrivals_fault (shape_of (form_of a.form)) a.times.now a.numbers.now a.marks.now) (some Limits)) unknown))
+    (ap (λ (known : Bool). cond known (arrivals_fault (shape_of (form_of a.form)) a.times.now a.numbers.now a.marks.now) (Some Limits)) unknown))
 
 pub length-requires-2 : goal.length-requires-2
 length-requires-2 c = omega (arith, wrote_size 512 (λ e. le_of_eq (arrivals_length c.form_of.result _ _ _ _ e)) c.write_arrivals.ensures)

@@ -1,28 +1,24 @@
-use borrow.Author.Tests.{not-true, not-false}
-use mathlib.Core.Path.{ap, ◌∙◌}
-use Rattle.answers.proofs.Conditions.{was_false, was_true}
+use mathlib.Core.Path.{sym, ap, ◌∙◌}
+use Rattle.breaker.specs.declared.Breaker.{Breaker}
 use Rattle.breaker.specs.Calls.{tick_of}
 use Rattle.breaker.specs.Runs.{called}
-use Rattle.lent.specs.declared.breaker_words.Loaded.{Loaded}
-use Rattle.capi.proofs.Steps.{record_sized, call_malformed, call_made}
+use Rattle.capi.proofs.Steps.{no_record, its_record, record_sized, call_malformed, call_made}
 use Rattle.capi.proofs.circuit.flasknib_breaker_tick.Goals as goal
 
-pub returns-then-not-given : goal.returns-then-not-given
-returns-then-not-given c =
-    let a = c.args in
-    let fit = ap (λ (g : Loaded). g.ok) c.record_in-given.ensures in
-    call_malformed _ a.breaker.now (was_false fit (not-true c.record_in-given.result.ok c.if-not-given.true)) c.code.ensures
+pub returns-in_default : goal.returns-in_default
+returns-in_default c =
+    let words = c.args.breaker.now in
+    call_malformed _ words (no_record words (sym c.record_in.ensures ∙ c.in_default.is)) c.code.ensures
 
 pub put_back-requires : goal.put_back-requires
 put_back-requires c =
-    let given = c.record_in-given.ensures in
-    record_sized c.args.breaker.now (was_true (ap (λ (g : Loaded). g.ok) given) (not-false c.record_in-given.result.ok c.if-not-given.false))
+    let words = c.args.breaker.now in
+    record_sized words (its_record words (sym c.record_in.ensures ∙ c.in-Some.is)).0
 
 pub returns : goal.returns
 unfolding called
 returns c =
     let a = c.args in
-    let given = c.record_in-given.ensures in
-    let fit = was_true (ap (λ (g : Loaded). g.ok) given) (not-false c.record_in-given.result.ok c.if-not-given.false) in
-    let made = c.tick.ensures.value ∙ ap (λ (g : Loaded). tick_of g.breaker a.time) given in
-    call_made _ a.breaker.now fit made c.put_back.ensures
+    let k = its_record a.breaker.now (sym c.record_in.ensures ∙ c.in-Some.is) in
+    let made = c.tick.ensures.value ∙ ap (λ (b : Breaker). tick_of b a.time) k.1 in
+    call_made _ a.breaker.now k.0 made c.put_back.ensures

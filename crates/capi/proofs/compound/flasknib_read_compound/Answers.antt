@@ -11,21 +11,21 @@ use Rattle.capi.proofs.compound.flasknib_read_compound.Goals as goal
 pub returns-then-found-lt-WORDS : goal.returns-then-found-lt-WORDS
 returns-then-found-lt-WORDS c =
     let a = c.args in
-    let told = sym c.read_by.ensures ∙ c.in-Read.is in
+    let told = sym c.read_by.ensures ∙ c.in-Ok.is in
     rw told (gives refusal_code
-    (wrote_short (compound_words c.in-Read.c) a.found.now refl (omega (arith, length-compound c.in-Read.c, c.if-found-lt-WORDS.true))
-    (sym (length-compound c.in-Read.c))) refl)
+    (wrote_short (compound_words c.in-Ok.c) a.found.now refl (omega (arith, length-compound c.in-Ok.c, c.if-found-lt-WORDS.true))
+    (sym (length-compound c.in-Ok.c))) refl)
 
-pub returns-in-Refused : goal.returns-in-Refused
-returns-in-Refused c =
+pub returns-in-Err : goal.returns-in-Err
+returns-in-Err c =
     let a = c.args in
-    let told = sym c.read_by.ensures ∙ c.in-Refused.is in
+    let told = sym c.read_by.ensures ∙ c.in-Err.is in
     gives refusal_code (wrote_refused (reading_words (reading_by a.profile a.bytes.now a.media)) a.found.now (ap reading_fault told)) c.number.ensures
 
 pub returns-else-found-lt-WORDS : goal.returns-else-found-lt-WORDS
 returns-else-found-lt-WORDS c =
     let a = c.args in
-    let told = sym c.read_by.ensures ∙ c.in-Read.is in
+    let told = sym c.read_by.ensures ∙ c.in-Ok.is in
     rw told (gives refusal_code
-    (wrote_all (compound_words c.in-Read.c) a.found.now refl (omega (arith, length-compound c.in-Read.c, c.if-found-lt-WORDS.false)) refl
+    (wrote_all (compound_words c.in-Ok.c) a.found.now refl (omega (arith, length-compound c.in-Ok.c, c.if-found-lt-WORDS.false)) refl
     c.store.ensures) refl)

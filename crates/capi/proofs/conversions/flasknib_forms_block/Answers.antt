@@ -16,12 +16,12 @@ returns-in_default c =
 pub put_back-requires : goal.put_back-requires
 put_back-requires c =
     let a = c.args in
-    let e = sym c.load.ensures ∙ c.in-Held.is in
-    ((held a.words.now e).0, omega (arith, forms_size c.in-Held.given a.part.now a.block.now a.out.now c.block.ensures))
+    let e = sym c.load.ensures ∙ c.in-Some.is in
+    ((held a.words.now e).0, omega (arith, forms_size c.in-Some.given a.part.now a.block.now a.out.now c.block.ensures))
 
 pub returns : goal.returns
 returns c =
     let a = c.args in
-    let e = sym c.load.ensures ∙ c.in-Held.is in
+    let e = sym c.load.ensures ∙ c.in-Some.is in
     let w = forms_stepped a.words.now a.part.now a.block.now a.out.now e c.block.ensures c.put_back.ensures in
     record { takes = takes_as (seen_is c.put_back.result (search rules)) w.takes; holds = w.holds }

@@ -14,10 +14,10 @@ returns-in_default c =
 pub length-requires : goal.length-requires
 length-requires c =
     let part = c.args.part.now in
-    omega (arith, wrote_size 512 (close_long c.in-Held.given part) c.close.ensures)
+    omega (arith, wrote_size 512 (close_long c.in-Some.given part) c.close.ensures)
 
 pub returns : goal.returns
 returns c =
     let a = c.args in
-    let e = sym c.load.ensures ∙ c.in-Held.is in
+    let e = sym c.load.ensures ∙ c.in-Some.is in
     coded (search rules) c.length.ensures (close_held a.words.now a.part.now a.out.now e c.close.ensures)

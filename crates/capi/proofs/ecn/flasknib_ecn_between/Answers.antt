@@ -10,18 +10,18 @@ use Rattle.capi.proofs.ecn.flasknib_ecn_between.Goals as goal
 pub returns-then-counts-lt-WORDS : goal.returns-then-counts-lt-WORDS
 returns-then-counts-lt-WORDS c =
     let a = c.args in
-    rw (sym c.since.ensures.value ∙ c.in-Counts.is)
-    (gives refusal_code (wrote_short (ecn_words c.in-Counts.c) a.counts.now refl c.if-counts-lt-WORDS.true refl) refl)
+    rw (sym c.since.ensures.value ∙ c.in-Ok.is)
+    (gives refusal_code (wrote_short (ecn_words c.in-Ok.c) a.counts.now refl c.if-counts-lt-WORDS.true refl) refl)
 
-pub returns-in-Refused : goal.returns-in-Refused
-returns-in-Refused c =
+pub returns-in-Err : goal.returns-in-Err
+returns-in-Err c =
     let a = c.args in
     let told = since_kept (report_given a.later_highest a.later_ce a.later_lost) (report_given a.earlier_highest a.earlier_ce a.earlier_lost) in
-    let is = sym c.since.ensures.value ∙ c.in-Refused.is in
+    let is = sym c.since.ensures.value ∙ c.in-Err.is in
     gives refusal_code (wrote_refused (between_words told) a.counts.now (ap between_fault is)) c.number.ensures
 
 pub returns-else-counts-lt-WORDS : goal.returns-else-counts-lt-WORDS
 returns-else-counts-lt-WORDS c =
     let a = c.args in
-    rw (sym c.since.ensures.value ∙ c.in-Counts.is)
-    (gives refusal_code (wrote_all (ecn_words c.in-Counts.c) a.counts.now refl c.if-counts-lt-WORDS.false refl c.store.ensures) refl)
+    rw (sym c.since.ensures.value ∙ c.in-Ok.is)
+    (gives refusal_code (wrote_all (ecn_words c.in-Ok.c) a.counts.now refl c.if-counts-lt-WORDS.false refl c.store.ensures) refl)

@@ -11,10 +11,10 @@ returns-in_default c =
 pub put_closed-requires : goal.put_closed-requires
 put_closed-requires c =
     let a = c.args in
-    (words_of a.upload.now (held a.upload.now (sym c.load.ensures ∙ c.in-Held.is)).0).long
+    (words_of a.upload.now (held a.upload.now (sym c.load.ensures ∙ c.in-Some.is)).0).long
 
 pub returns : goal.returns
 returns c =
     let a = c.args in
-    let e = sym c.load.ensures ∙ c.in-Held.is in
+    let e = sym c.load.ensures ∙ c.in-Some.is in
     close_held a.upload.now a.kept.now e c.close.ensures.closes c.put_closed.ensures

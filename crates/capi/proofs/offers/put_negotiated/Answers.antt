@@ -1,5 +1,6 @@
 use mathlib.Core.Path.{sym, ap, ◌∙◌}
 use lib.Seq.{sets}
+use Rattle.std.specs.Prelude.{Ok}
 use Rattle.sdp.specs.declared.Attribute.{Attribute}
 use Rattle.lent.specs.AttributeWords.{attribute_words}
 use Rattle.capi.proofs.AttributeSteps.{told_by, tell_refused, tell_left_out, tell_short, tell_chosen}
@@ -7,19 +8,20 @@ use Rattle.capi.proofs.offers.put_negotiated.Goals as goal
 
 pub returns-then-found-lt-WORDS : goal.returns-then-found-lt-WORDS
 returns-then-found-lt-WORDS c =
-    told_by (sym c.in-Included.is) _ _ _ (tell_short c.args.found.now c.in-Included.chosen c.if-found-lt-WORDS.true)
+    told_by (sym (c.in-Ok.is ∙ ap Ok c.in-Some.is)) _ _ _ (tell_short c.args.found.now c.in-Some.chosen c.if-found-lt-WORDS.true)
 
-pub returns-in-Refused : goal.returns-in-Refused
-returns-in-Refused c =
-    let t = tell_refused c.args.found.now c.in-Refused.refusal in
-    told_by (sym c.in-Refused.is) _ _ _ (record { answers = c.number.ensures ∙ t.answers; stores = t.stores })
+pub returns-in-Err : goal.returns-in-Err
+returns-in-Err c =
+    let t = tell_refused c.args.found.now c.in-Err.refusal in
+    told_by (sym c.in-Err.is) _ _ _ (record { answers = c.number.ensures ∙ t.answers; stores = t.stores })
 
-pub returns-in-LeftOut : goal.returns-in-LeftOut
-returns-in-LeftOut c = told_by (sym c.in-LeftOut.is) _ _ _ (tell_left_out c.args.found.now)
+pub returns-in-None : goal.returns-in-None
+returns-in-None c =
+    told_by (sym (c.in-Ok.is ∙ ap Ok c.in-None.is)) _ _ _ (tell_left_out c.args.found.now)
 
 pub returns-else-found-lt-WORDS : goal.returns-else-found-lt-WORDS
 returns-else-found-lt-WORDS c =
     let old = c.args.found.now in
-    let t = tell_chosen old c.in-Included.chosen c.if-found-lt-WORDS.false in
+    let t = tell_chosen old c.in-Some.chosen c.if-found-lt-WORDS.false in
     let left = c.store.ensures ∙ ap (λ (a : Attribute). sets old 0 (attribute_words a)) c.attribute.ensures in
-    told_by (sym c.in-Included.is) _ _ _ (record { answers = t.answers; stores = left ∙ t.stores })
+    told_by (sym (c.in-Ok.is ∙ ap Ok c.in-Some.is)) _ _ _ (record { answers = t.answers; stores = left ∙ t.stores })

@@ -18,7 +18,7 @@ returns-in_default c =
 pub overflow_mul-result : goal.overflow_mul-result
 overflow_mul-result c =
     let a = c.args in
-    let e = sym c.load.ensures ∙ c.in-Held.is in
+    let e = sym c.load.ensures ∙ c.in-Some.is in
     let f = sym c.count_block.ensures.value ∙ c.in-Counted.is in
     let jumps = few_jumps _ a.width a.records.now f in
     let restarts = few_restarts _ a.width a.records.now f in
@@ -27,7 +27,7 @@ overflow_mul-result c =
 pub overflow_add-result : goal.overflow_add-result
 overflow_add-result c =
     let a = c.args in
-    let e = sym c.load.ensures ∙ c.in-Held.is in
+    let e = sym c.load.ensures ∙ c.in-Some.is in
     let f = sym c.count_block.ensures.value ∙ c.in-Counted.is in
     let jumps = few_jumps _ a.width a.records.now f in
     let restarts = few_restarts _ a.width a.records.now f in
@@ -36,7 +36,7 @@ overflow_add-result c =
 pub overflow_cast-result : goal.overflow_cast-result
 overflow_cast-result c =
     let a = c.args in
-    let e = sym c.load.ensures ∙ c.in-Held.is in
+    let e = sym c.load.ensures ∙ c.in-Some.is in
     let f = sym c.count_block.ensures.value ∙ c.in-Counted.is in
     let jumps = few_jumps _ a.width a.records.now f in
     let restarts = few_restarts _ a.width a.records.now f in
@@ -45,7 +45,7 @@ overflow_cast-result c =
 pub returns-in-Counted : goal.returns-in-Counted
 returns-in-Counted c =
     let a = c.args in
-    let e = sym c.load.ensures ∙ c.in-Held.is in
+    let e = sym c.load.ensures ∙ c.in-Some.is in
     let f = sym c.count_block.ensures.value ∙ c.in-Counted.is in
     let jumps = few_jumps _ a.width a.records.now f in
     let restarts = few_restarts _ a.width a.records.now f in
@@ -59,7 +59,7 @@ returns-in-Counted c =
 pub returns-in-Refused : goal.returns-in-Refused
 returns-in-Refused c =
     let a = c.args in
-    let e = sym c.load.ensures ∙ c.in-Held.is in
+    let e = sym c.load.ensures ∙ c.in-Some.is in
     let f = sym c.count_block.ensures.value ∙ c.in-Refused.is in
     let w = counts_refused a.words.now a.width a.records.now _ e f in
     record { answers = seen_is c.minus-in-Refused.result (search rules) ∙ c.minus-in-Refused.ensures ∙ w.answers; stores = w.stores }

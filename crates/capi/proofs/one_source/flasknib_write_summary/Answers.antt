@@ -22,6 +22,6 @@ length-requires c = omega (arith, wrote_size 24 (λ _. le_of_eq (length-summary 
 pub returns : goal.returns
 returns c =
     let a = c.args in
-    let e = sym c.load.ensures ∙ c.in-Held.is in
+    let e = sym c.load.ensures ∙ c.in-Some.is in
     coded (search rules) c.length.ensures
     (held_wrote a.words.now (λ (s : Source). fault s) (λ (s : Source). summary_bytes a.media s) a.out.now e c.write_summary.ensures)

@@ -15,22 +15,22 @@ returns-in_default c =
 pub returns-in_default-load : goal.returns-in_default-load
 returns-in_default-load c =
     let a = c.args in
-    let e = sym c.load.ensures ∙ c.in-Held.is in
+    let e = sym c.load.ensures ∙ c.in-Some.is in
     let w = nothing_kept a.found.now a.kept.now a.call.now e (sym c.load-2.ensures ∙ c.in_default-load.is) in
     record { answers = c.number-in_default-load.ensures ∙ w.answers; keeps = w.keeps; stores = w.stores }
 
 pub returns-then-call-lt-WORDS : goal.returns-then-call-lt-WORDS
 returns-then-call-lt-WORDS c =
     let a = c.args in
-    let e = sym c.load.ensures ∙ c.in-Held.is in
-    let f = sym c.load-2.ensures ∙ c.in-Held-load.is in
+    let e = sym c.load.ensures ∙ c.in-Some.is in
+    let f = sym c.load-2.ensures ∙ c.in-Some-load.is in
     call_short a.found.now a.kept.now a.call.now e f c.if-call-lt-WORDS.true
 
 pub returns : goal.returns
 returns c =
     let a = c.args in
-    let e = sym c.load.ensures ∙ c.in-Held.is in
-    let f = sym c.load-2.ensures ∙ c.in-Held-load.is in
+    let e = sym c.load.ensures ∙ c.in-Some.is in
+    let f = sym c.load-2.ensures ∙ c.in-Some-load.is in
     let next = c.call_for-next.ensures in
     let w = call_told a.found.now a.kept.now a.call.now e f c.if-call-lt-WORDS.false in
     record {

@@ -24,7 +24,7 @@ length-requires c = omega (arith, wrote_size row_most (λ e. row_fits _ _ _ (sea
 pub returns : goal.returns
 returns c =
     let a = c.args in
-    let e = sym c.load.ensures ∙ c.in-Held.is in
+    let e = sym c.load.ensures ∙ c.in-Some.is in
     coded (search rules) c.length.ensures
     (held_wrote a.words.now (λ (s : Source). row_fault a.label.now (record { source = s; jumped = a.jumped; restarts = a.restarts }))
     (λ (s : Source). row_bytes a.label.now a.ssrc (record { source = s; jumped = a.jumped; restarts = a.restarts })) a.out.now e c.write_row.ensures)

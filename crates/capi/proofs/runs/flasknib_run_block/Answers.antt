@@ -17,13 +17,13 @@ returns-in_default c =
 pub put_back-requires : goal.put_back-requires
 put_back-requires c =
     let a = c.args in
-    let e = sym c.load.ensures ∙ c.in-Held.is in
+    let e = sym c.load.ensures ∙ c.in-Some.is in
     let octets : Octets a.block.now = λ i. omega (arith, c.type_inv.block i) in
     ((held a.run.now e).0, omega (arith, run_size a.run.now a.zeroth.now a.block.now a.out.now e octets c.block.ensures))
 
 pub returns : goal.returns
 returns c =
     let a = c.args in
-    let e = sym c.load.ensures ∙ c.in-Held.is in
+    let e = sym c.load.ensures ∙ c.in-Some.is in
     takes_as (seen_is c.put_back.result (search rules))
     (run_stepped a.run.now a.zeroth.now a.block.now a.out.now e c.block.ensures c.put_back.ensures)

@@ -11,18 +11,18 @@ returns-then-run-ne-WORDS c =
     let a = c.args in
     starts_other a.zeroth.now a.run.now c.if-run-ne-WORDS.true c.number.ensures
 
-pub returns-in-Started : goal.returns-in-Started
-returns-in-Started c =
+pub returns-in-Ok : goal.returns-in-Ok
+returns-in-Ok c =
     let a = c.args in
-    let told = c.in-Started.is in
+    let told = c.in-Ok.is in
     let sized = c.if-run-ne-WORDS.false in
-    let whole = sets-whole a.run.now (run_words c.in-Started.first) (sized ∙ sym (length_run c.in-Started.first)) in
+    let whole = sets-whole a.run.now (run_words c.in-Ok.first) (sized ∙ sym (length_run c.in-Ok.first)) in
     starts_begun a.zeroth.now a.run.now sized c.start.ensures.value
     (sym (ap start_code told)) (c.store.ensures ∙ whole ∙ sym (ap (start_words a.run.now) told))
 
-pub returns-in-Refused : goal.returns-in-Refused
-returns-in-Refused c =
+pub returns-in-Err : goal.returns-in-Err
+returns-in-Err c =
     let a = c.args in
-    let told = c.in-Refused.is in
+    let told = c.in-Err.is in
     starts_begun a.zeroth.now a.run.now c.if-run-ne-WORDS.false c.start.ensures.value
-    (c.number-in-Refused.ensures ∙ sym (ap start_code told)) (sym (ap (start_words a.run.now) told))
+    (c.number-in-Err.ensures ∙ sym (ap start_code told)) (sym (ap (start_words a.run.now) told))

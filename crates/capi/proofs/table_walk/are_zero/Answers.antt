@@ -6,20 +6,8 @@ use Rattle.capi.proofs.table_walk.are_zero.Goals as goal
 pub loop-i-init : goal.loop-i-init
 loop-i-init c = λ z. z
 
-pub offset_bounds-words-i : goal.offset_bounds-words-i
-offset_bounds-words-i c = omega arith
-
-pub bounds-words-i : goal.bounds-words-i
-bounds-words-i c = omega arith
-
 pub returns-then-words-i-gt0 : goal.returns-then-words-i-gt0
 returns-then-words-i-gt0 c = λ e. absurd (false≢true e)
-
-pub overflow_add-i : goal.overflow_add-i
-overflow_add-i c = omega arith
-
-pub loop-i-smaller : goal.loop-i-smaller
-loop-i-smaller c = omega arith
 
 pub loop-i-preserved : goal.loop-i-preserved
 loop-i-preserved c = λ z.

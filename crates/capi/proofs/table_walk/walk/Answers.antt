@@ -12,15 +12,6 @@ use Rattle.capi.proofs.table_walk.walk.Goals as goal
 pub loop-i-init : goal.loop-i-init
 loop-i-init c = let a = c.args in (omega arith, (λ h. absurd (omega arith)), start a.words.now a.n)
 
-pub overflow_mul-from : goal.overflow_mul-from
-overflow_mul-from c = omega arith
-
-pub offset_bounds-words-from : goal.offset_bounds-words-from
-offset_bounds-words-from c = omega arith
-
-pub slice_bounds-is_fine-count : goal.slice_bounds-is_fine-count
-slice_bounds-is_fine-count c = omega arith
-
 pub is_fine-requires : goal.is_fine-requires
 is_fine-requires c =
     let l = c.loop-i in
@@ -39,12 +30,6 @@ returns-then-not-is_fine c = λ h.
     let n = l.invariant.1 (omega (arith, z.1, h)) in
     let bits : (j : ℕ) → get_or a.words.now j 0 < 2 ^ 64 = λ j. (c.type_inv.words j).fits in
     subst (λ (j : ℕ). Told words a.ssrc j) (sym z.1) (told_zeros words a.n a.ssrc l.at bits p.0 p.1 l.least l.i z.0 l.invariant.2 n)
-
-pub offset_bounds-words-from-in-loop-i : goal.offset_bounds-words-from-in-loop-i
-offset_bounds-words-from-in-loop-i c = omega arith
-
-pub bounds-words-from : goal.bounds-words-from
-bounds-words-from c = omega arith
 
 -- a place that is fine
 fine : (c : Else-not-is_fine) → Fine c.loop-i.least (drop (11 * c.loop-i.i) c.args.words.now)
@@ -79,9 +64,3 @@ returns c = λ h.
     let p = c.requires in
     let bits : (j : ℕ) → get_or a.words.now j 0 < 2 ^ 64 = λ j. (c.type_inv.words j).fits in
     told_last a.words.now a.n a.ssrc l.at bits p.0 p.1 l.least l.i c.loop-i-test.false l.invariant.2 (l.invariant.1 h)
-
-pub overflow_add-i : goal.overflow_add-i
-overflow_add-i c = omega arith
-
-pub loop-i-smaller : goal.loop-i-smaller
-loop-i-smaller c = omega arith

@@ -1,18 +1,16 @@
-use mathlib.Core.Path.{sym, ap, ◌∙◌}
-use Rattle.lent.specs.declared.table_words.Loaded.{Loaded}
+use mathlib.Core.Path.{sym, ◌∙◌}
 use Rattle.capi.proofs.TableCalls.{arrives_refused, arrives_taken}
 use Rattle.capi.proofs.tables.arrive_in.Goals as goal
 
-pub returns-in-Refused : goal.returns-in-Refused
-returns-in-Refused c =
+pub returns-in-Err : goal.returns-in-Err
+returns-in-Err c =
     let a = c.args in
-    let told = sym (ap (λ (l : Loaded). l.answer) c.load-loaded.ensures) ∙ c.in-Refused.is in
+    let told = sym c.load.ensures ∙ c.in-Err.is in
     let w = arrives_refused a.words.now a.ssrc a.wire a.mark told in
     record { answers = c.number.ensures ∙ w.answers; stores = w.stores }
 
-pub returns-in-Taken : goal.returns-in-Taken
-returns-in-Taken c =
+pub returns-in-Ok : goal.returns-in-Ok
+returns-in-Ok c =
     let a = c.args in
-    let loads = c.load-loaded.ensures in
-    let told = sym (ap (λ (l : Loaded). l.answer) loads) ∙ c.in-Taken.is in
-    arrives_taken a.words.now a.ssrc a.wire a.mark told (ap (λ (l : Loaded). l.table) loads) c.arrive-given.ensures c.put_arrived.ensures
+    let told = sym c.load.ensures ∙ c.in-Ok.is in
+    arrives_taken a.words.now a.ssrc a.wire a.mark told c.arrive.ensures c.put_arrived.ensures

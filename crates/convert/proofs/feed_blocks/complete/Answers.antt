@@ -1,9 +1,9 @@
-use mathlib.Core.Path.{◌≡◌, ap, ap₂, ◌∙◌}
+use mathlib.Core.Path.{◌≡◌, ap₂, ◌∙◌}
 use mathlib.Core.List.{List}
 use native.Mathlib.Omega.{arith}
-use Prim.Native.Nat.{ℕ, ◌+◌, ◌-◌}
-use lib.ListN.{length, take, drop, length-drop}
-use lib.Seq.{sets, take_all}
+use Prim.Native.Nat.{ℕ, ◌-◌}
+use lib.ListN.{length, drop, length-drop}
+use lib.Seq.{take_all}
 use Rattle.convert.specs.Passes.{added_by}
 use Rattle.convert.proofs.Completing.{filled, can_add, added_is, feeds_same}
 use Rattle.convert.proofs.SoundUploads.{well_formed}
@@ -13,19 +13,12 @@ use Rattle.convert.proofs.feed_blocks.complete.Goals as goal
 pub overflow_sub-missing : goal.overflow_sub-missing
 overflow_sub-missing c = omega (arith, (well_formed c.requires.sound).kept)
 
-pub slice_bounds-put_bytes-end : goal.slice_bounds-put_bytes-end
-slice_bounds-put_bytes-end c = omega (arith, c.requires.long, (well_formed c.requires.sound).kept)
-
 pub overflow_add-u : goal.overflow_add-u
 overflow_add-u c = omega (arith, (well_formed c.requires.sound).kept)
 
 -- the lent bytes with the block, and the bytes after it
 filled_is : (c : After-put_bytes) → let a = c.args in c.put_bytes.new.out ≡ filled a.u a.lent.now a.stretch.now (well_formed c.requires.sound) c.requires.long
-filled_is c =
-    let a = c.args in
-    let m = 512 - a.u.kept in
-    let e : m - 0 ≡ m = omega arith in
-    c.put_bytes.ensures ∙ ap (λ (n : ℕ). sets a.lent.now (512 + a.u.kept) (take n a.stretch.now)) e
+filled_is c = c.put_bytes.ensures
 
 pub add_blocks-requires : goal.add_blocks-requires
 add_blocks-requires c =

@@ -4,7 +4,6 @@ use Prim.Native.Nat.{ℕ, ◌+◌, ◌-◌, ◌/◌}
 use native.Mathlib.Omega.{arith}
 use lib.ListN.{length, drop, length-drop}
 use lib.Seq.{sets, take_all}
-use Rattle.walk.specs.Endings.{refusal_in}
 use Rattle.convert.specs.Feeds.{left_by, rest_in, padded}
 use Rattle.convert.proofs.feed_blocks.settle.Goals as goal
 
@@ -23,9 +22,9 @@ returns c =
     let a = c.args in
     let rest = a.rest.now in
     let from = c.left_from-from.result in
-    let left : drop from rest ≡ left_by (rest_in rest) (refusal_in a.passed.ended) = c.left_from-from.ensures.0 rest (omega arith) in
+    let left : drop from rest ≡ left_by (rest_in rest) a.passed.ended = c.left_from-from.ensures.0 rest (omega arith) in
     let part = take_all (length rest - from) (drop from rest) (omega (arith, length-drop from rest)) ∙ left in
-    let size : length rest - from ≡ length (left_by (rest_in rest) (refusal_in a.passed.ended)) = sym (length-drop from rest) ∙ ap length left in
+    let size : length rest - from ≡ length (left_by (rest_in rest) a.passed.ended) = sym (length-drop from rest) ∙ ap length left in
     record {
       answer = c.answer_of.ensures;
       upload = λ i. record { run = a.passed.run; blocks = a.u.blocks + a.passed.bytes / 512; kept = size i; ended = a.passed.ended };

@@ -6,23 +6,23 @@ use Rattle.trace.proofs.Tallies.{tally_turn, tally_rule}
 use Rattle.trace.specs.Contents.{is_zero}
 use Rattle.convert.proofs.feed_lent.all_zero.Goals as goal
 
-pub loop-i-init : goal.loop-i-init
-loop-i-init c = (omega arith, omega arith, zero-add _)
+pub loop-b-init : goal.loop-b-init
+loop-b-init c = (omega arith, omega arith, zero-add _)
 
 pub overflow_cast-sum : goal.overflow_cast-sum
-overflow_cast-sum c = omega (arith, c.shared_slice_known-1.given c.loop-i.i)
+overflow_cast-sum c = omega (arith, c.type_inv.s c.loop-b.b-index)
 
 pub overflow_add-sum : goal.overflow_add-sum
-overflow_add-sum c = omega (arith, c.shared_slice_known-1.given c.loop-i.i)
+overflow_add-sum c = omega (arith, c.type_inv.s c.loop-b.b-index)
 
-pub loop-i-preserved : goal.loop-i-preserved
-loop-i-preserved c =
-    let loop = c.loop-i in
+pub loop-b-preserved : goal.loop-b-preserved
+loop-b-preserved c =
+    let loop = c.loop-b in
     let s = c.args.s.now in (
       omega arith,
-      omega (arith, c.shared_slice_known-1.given loop.i),
-      tally_turn (λ (n : ℕ). n) s loop.i loop.sum c.loop-i-test.true ∙ loop.invariant.2,
+      omega (arith, c.type_inv.s loop.b-index),
+      tally_turn (λ (n : ℕ). n) s loop.b-index loop.sum c.loop-b-test.true ∙ loop.invariant.2,
     )
 
 pub returns : goal.returns
-returns c = tally_rule (λ (n : ℕ). n) is_zero (λ _. refl) _ _ _ c.loop-i.invariant.2 c.loop-i-test.false
+returns c = tally_rule (λ (n : ℕ). n) is_zero (λ _. refl) _ _ _ c.loop-b.invariant.2 c.loop-b-test.false

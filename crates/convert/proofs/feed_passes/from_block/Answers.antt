@@ -1,11 +1,10 @@
-use mathlib.Core.Path.{refl, ap, ◌∙◌, subst}
+use Rattle.std.specs.Prelude.{Option}
+use mathlib.Core.Path.{refl, ◌∙◌, subst}
 use mathlib.Core.List.{List}
-use mathlib.Core.Option.{Option}
 use Rattle.answers.specs.declared.Refusal.{Refusal}
 use native.Mathlib.Omega.{arith}
 use Prim.Native.Nat.{ℕ, suc}
 use Rattle.walk.specs.Pieces.{whole_in}
-use Rattle.walk.specs.Endings.{refusal_in}
 use Rattle.convert.specs.Tables.{ecntable}
 use Rattle.convert.specs.Feeds.{through}
 use Rattle.convert.specs.Passes.{PassedBy}
@@ -18,11 +17,11 @@ use Rattle.convert.proofs.feed_passes.from_block.Goals as goal
 first : (c : After-slice_known-2-1)
     → let a = c.args in
     let f = c.take_all-first in
-    (i : ℕ) → PassedBy (one i a.block.now (whole_in a.rest.now) (kept a.run a.zeroth.now)) (kept f.result.run a.zeroth.now) f.result.bytes 0 f.result.used (refusal_in f.result.ended) a.out.now f.new.out
+    (i : ℕ) → PassedBy (one i a.block.now (whole_in a.rest.now) (kept a.run a.zeroth.now)) (kept f.result.run a.zeroth.now) f.result.bytes 0 f.result.used f.result.ended a.out.now f.new.out
 first c i =
     let a = c.args in
     let f = c.take_all-first in
-    subst (λ (bs : List (List ℕ)). PassedBy (through ecntable (suc i) bs (kept a.run a.zeroth.now)) (kept f.result.run a.zeroth.now) f.result.bytes 0 f.result.used (refusal_in f.result.ended) a.out.now f.new.out)
+    subst (λ (bs : List (List ℕ)). PassedBy (through ecntable (suc i) bs (kept a.run a.zeroth.now)) (kept f.result.run a.zeroth.now) f.result.bytes 0 f.result.used f.result.ended a.out.now f.new.out)
     (one_whole a.block.now c.requires.1) (f.ensures.passed (suc i))
 
 pub returns-in_default : goal.returns-in_default
@@ -30,7 +29,7 @@ returns-in_default c = λ i.
     let a = c.args in
     let f = c.take_all-first in
     let p = first (goal.at.returns-in_default c).After-slice_known-2-1 i in
-    let e = all_refused i a.block.now (whole_in a.rest.now) (kept a.run a.zeroth.now) (p.refusal ∙ ap refusal_in c.in_default.is) in
+    let e = all_refused i a.block.now (whole_in a.rest.now) (kept a.run a.zeroth.now) (p.refusal ∙ c.in_default.is) in
     rw e (passed_run p refl)
 
 pub take_all-last-requires : goal.take_all-last-requires
@@ -52,5 +51,5 @@ returns c = λ i.
     let a = c.args in
     let f = c.take_all-first in
     let p = first (goal.at.returns c).After-slice_known-2-1 i in
-    let q = subst (λ (o : Option Refusal). PassedBy (one i a.block.now (whole_in a.rest.now) (kept a.run a.zeroth.now)) (kept f.result.run a.zeroth.now) f.result.bytes 0 f.result.used o a.out.now f.new.out) (ap refusal_in c.in-Going.is) p in
+    let q = subst (λ (o : Option Refusal). PassedBy (one i a.block.now (whole_in a.rest.now) (kept a.run a.zeroth.now)) (kept f.result.run a.zeroth.now) f.result.bytes 0 f.result.used o a.out.now f.new.out) c.in-None.is p in
     passes_both i a.block.now (whole_in a.rest.now) (kept a.run a.zeroth.now) q (c.take_all-last.ensures.passed (suc (suc i))) f.auto.out refl

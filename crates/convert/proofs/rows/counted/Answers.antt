@@ -34,6 +34,6 @@ returns c =
     let b = c.args.block.now in
     let wide = c.width-width in
     let size : 8 + c.args.n * wide.result - 8 ≡ c.args.n * wide.result = omega arith in
-    let count = c.count_block.ensures.value ∙ ap (λ (k : ℕ). block_count run.totals.source wide.result (take k (drop 8 b))) size
+    let count = c.count_block-counted.ensures.value ∙ ap (λ (k : ℕ). block_count run.totals.source wide.result (take k (drop 8 b))) size
     ∙ ap (λ (w : ℕ). block_count run.totals.source w (take (c.args.n * w) (drop 8 b))) wide.ensures in
-    λ i. record { form = run.form; length = run.length; ssrc = run.ssrc; totals = (c.with_block-totals.ensures ∙ ap (with_block run.totals) count) i }
+    λ i. record { form = run.form; length = run.length; ssrc = run.ssrc; totals = (c.with_block.ensures ∙ ap (with_block run.totals) count) i }

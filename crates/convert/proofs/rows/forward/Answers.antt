@@ -8,15 +8,15 @@ use Rattle.convert.proofs.rows.forward.Goals as goal
 pub forward_row-requires : goal.forward_row-requires
 forward_row-requires c =
     let a = c.args in
-    (c.requires, later_arrivals a.run.form a.run.ssrc a.block.now (sym c.read_own.ensures.value ∙ c.in-Arrivals.is))
+    (c.requires, later_arrivals a.run.form a.run.ssrc a.block.now (sym c.read_own.ensures.value ∙ c.in-Ok.is))
 
-pub returns-in-Arrivals : goal.returns-in-Arrivals
-returns-in-Arrivals c =
+pub returns-in-Ok : goal.returns-in-Ok
+returns-in-Ok c =
     let a = c.args in
-    rw (next_by_lem a.run a.block.now (sym c.read_own.ensures.value ∙ c.in-Arrivals.is)) c.forward_row.ensures
+    rw (next_by_lem a.run a.block.now (sym c.read_own.ensures.value ∙ c.in-Ok.is)) c.forward_row.ensures
 
-pub returns-in-Refused : goal.returns-in-Refused
-returns-in-Refused c =
+pub returns-in-Err : goal.returns-in-Err
+returns-in-Err c =
     let a = c.args in
     let b = a.block.now in
-    forwarded_refuses a.run (row_in a.zeroth.now (next_of a.run b)) a.out.now (next_by_lem a.run b (sym c.read_own.ensures.value ∙ c.in-Refused.is)) c.refused.ensures.0 c.refused.ensures.1
+    forwarded_refuses a.run (row_in a.zeroth.now (next_of a.run b)) a.out.now (next_by_lem a.run b (sym c.read_own.ensures.value ∙ c.in-Err.is)) c.refused.ensures.0 c.refused.ensures.1

@@ -1,15 +1,13 @@
-use borrow.Enum.Refused.{opened}
+use Rattle.std.specs.Prelude.{None}
 use mathlib.Core.Path.{◌≡◌, sym, ap, ◌∙◌}
 use native.Mathlib.Omega.{arith}
 use Prim.Native.Nat.{ℕ, ◌+◌, ◌-◌}
 use lib.ListN.{take, drop}
 use mathlib.Core.List.{List}
-use mathlib.Core.Option.{none}
 use Rattle.answers.specs.Writers.{Wrote}
 use Rattle.answers.proofs.Stores.{wrote_same}
 use Rattle.table.specs.Lines.{row_fault, row_bytes}
 use Rattle.walk.specs.Steps.{goes, state_after}
-use Rattle.walk.proofs.Putting.{after_other}
 use Rattle.convert.specs.Runs.{row_of}
 use Rattle.convert.proofs.Kept.{good, whole, row_fits}
 use Rattle.convert.proofs.rows.row.Goals.{After-write_row-answer}
@@ -17,7 +15,7 @@ use Rattle.convert.proofs.rows.row.Goals as goal
 
 -- what the row's writer answered and stored
 written_row : (c : After-write_row-answer)
-    → Wrote none (row_of c.args.next c.args.zeroth.now) c.args.out.now c.write_row-answer.result c.write_row-answer.new.out
+    → Wrote None (row_of c.args.next c.args.zeroth.now) c.args.out.now c.write_row-answer.result c.write_row-answer.new.out
 unfolding row_of
 written_row c =
     let next = c.args.next in
@@ -32,12 +30,12 @@ overflow_add-end c = omega (arith, (good c.requires).short)
 pub slice_bounds-write_row-end : goal.slice_bounds-write_row-end
 slice_bounds-write_row-end c = let g = good c.requires in omega (arith, g.short, whole g)
 
-pub returns-in-Length : goal.returns-in-Length
-returns-in-Length c =
+pub returns-in-Ok : goal.returns-in-Ok
+returns-in-Ok c =
     let a = c.args in
-    record { wrote = written_row (goal.at.returns-in-Length c).After-write_row-answer; after = sym (ap (state_after a.run (goes a.next)) c.in-Length.is) }
+    record { wrote = written_row (goal.at.returns-in-Ok c).After-write_row-answer; after = sym (ap (state_after a.run (goes a.next)) c.in-Ok.is) }
 
-pub returns-in_default : goal.returns-in_default
-returns-in_default c =
+pub returns-in-Err : goal.returns-in-Err
+returns-in-Err c =
     let a = c.args in
-    record { wrote = written_row (goal.at.returns-in_default c).After-write_row-answer; after = sym (after_other a.run a.next c.write_row-answer.result (opened c.in_default.in_default-own.keys2)) }
+    record { wrote = written_row (goal.at.returns-in-Err c).After-write_row-answer; after = sym (ap (state_after a.run (goes a.next)) c.in-Err.is) }

@@ -7,15 +7,15 @@ use Rattle.convert.proofs.rows.step.Goals as goal
 
 pub arrivals-requires : goal.arrivals-requires
 arrivals-requires c =
-    (c.requires, later_arrivals c.args.run.form c.args.run.ssrc c.args.block.now (sym c.read_own.ensures.value ∙ c.in-Arrivals.is))
+    (c.requires, later_arrivals c.args.run.form c.args.run.ssrc c.args.block.now (sym c.read_own.ensures.value ∙ c.in-Ok.is))
 
-pub returns-in-Arrivals : goal.returns-in-Arrivals
-returns-in-Arrivals c =
+pub returns-in-Ok : goal.returns-in-Ok
+returns-in-Ok c =
     let a = c.args in
-    rw (next_by_lem a.run a.block.now (sym c.read_own.ensures.value ∙ c.in-Arrivals.is)) c.arrivals.ensures
+    rw (next_by_lem a.run a.block.now (sym c.read_own.ensures.value ∙ c.in-Ok.is)) c.arrivals.ensures
 
-pub returns-in-Refused : goal.returns-in-Refused
-returns-in-Refused c =
+pub returns-in-Err : goal.returns-in-Err
+returns-in-Err c =
     let a = c.args in
     let b = a.block.now in
-    step_refuses a.run (row_in a.zeroth.now (next_of a.run b)) a.out.now (next_by_lem a.run b (sym c.read_own.ensures.value ∙ c.in-Refused.is)) c.refused.ensures.0 c.refused.ensures.1
+    step_refuses a.run (row_in a.zeroth.now (next_of a.run b)) a.out.now (next_by_lem a.run b (sym c.read_own.ensures.value ∙ c.in-Err.is)) c.refused.ensures.0 c.refused.ensures.1

@@ -16,4 +16,4 @@ returns-then-t-gt-MOST c = let t = c.args.t in all_false (sound_totals t) 1 (lt-
 pub returns : goal.returns
 returns c =
     let t = c.args.t in
-    totals_last t (lost_packets t.source (sym c.lost.ensures.value ∙ c.in-Packets.is)).good c.if-t-gt-MOST.false
+    totals_last t (lost_packets t.source (sym c.lost.ensures.value ∙ c.in-Ok.is)).good c.if-t-gt-MOST.false

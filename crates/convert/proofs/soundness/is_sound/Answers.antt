@@ -14,9 +14,9 @@ pub returns-then-not-is_own : goal.returns-then-not-is_own
 unfolding sound_run
 returns-then-not-is_own c = let a = c.args in all_false (run_conditions a.run a.zeroth.now) 0 (was_false c.is_own.ensures c.if-not-is_own.true)
 
-pub returns-then-length-gt-BODY_BYTES : goal.returns-then-length-gt-BODY_BYTES
+pub returns-then-run-gt-BODY_BYTES : goal.returns-then-run-gt-BODY_BYTES
 unfolding sound_run
-returns-then-length-gt-BODY_BYTES c = let a = c.args in all_false (run_conditions a.run a.zeroth.now) 1 (lt-leb a.run.length body_bytes c.if-length-gt-BODY_BYTES.true)
+returns-then-run-gt-BODY_BYTES c = let a = c.args in all_false (run_conditions a.run a.zeroth.now) 1 (lt-leb a.run.length body_bytes c.if-run-gt-BODY_BYTES.true)
 
 pub slice_bounds-is_label-end : goal.slice_bounds-is_label-end
 slice_bounds-is_label-end c =
@@ -39,4 +39,4 @@ returns c =
     let same : 8 + a.run.length - 8 ≡ a.run.length = omega arith in
     let label = ap (λ (k : ℕ). take k (drop 8 a.zeroth.now)) same in
     c.are_sound.ensures
-    ∙ sound_last a.run a.zeroth.now (was_true c.is_own.ensures c.if-not-is_own.false) c.if-length-gt-BODY_BYTES.false (ap label_ok (sym label) ∙ was_true c.is_label.ensures c.if-not-is_label.false)
+    ∙ sound_last a.run a.zeroth.now (was_true c.is_own.ensures c.if-not-is_own.false) c.if-run-gt-BODY_BYTES.false (ap label_ok (sym label) ∙ was_true c.is_label.ensures c.if-not-is_label.false)

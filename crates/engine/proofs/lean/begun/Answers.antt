@@ -6,7 +6,7 @@ use Rattle.engine.proofs.lean.begun.Goals as goal
 
 pub returns : goal.returns
 returns c =
-    let w = c.awaited_in-awaited.ensures in
+    let w = c.awaited_in.ensures in
     let a = c.args in
     let low = c.magnitude.ensures ∙ ap nat_abs (seen_is a.s.base.0 (search rules)) in
     let high = c.magnitude-2.ensures ∙ ap nat_abs (seen_is a.s.highest.0 (search rules)) in

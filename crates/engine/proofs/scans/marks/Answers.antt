@@ -32,8 +32,8 @@ overflow_sub-ones-2 c =
     (known_threes c.args.width s c.args.n c.args.turned d.result h d.ensures none)
     (known_all c.args.width s c.args.n c.args.turned d.result h d.ensures none)
 
-pub overflow_sub-scan : goal.overflow_sub-scan
-overflow_sub-scan c =
+pub overflow_sub-result : goal.overflow_sub-result
+overflow_sub-result c =
     let d = c.added-sums in
     let s = c.args.records.now in
     let h = c.requires.0 in
@@ -43,8 +43,8 @@ overflow_sub-scan c =
     (known_threes c.args.width s c.args.n c.args.turned d.result h d.ensures none)
     (known_all c.args.width s c.args.n c.args.turned d.result h d.ensures none)
 
-pub overflow_sub-scan-2 : goal.overflow_sub-scan-2
-overflow_sub-scan-2 c =
+pub overflow_sub-result-2 : goal.overflow_sub-result-2
+overflow_sub-result-2 c =
     let d = c.added-sums in
     let s = c.args.records.now in
     let h = c.requires.0 in
@@ -54,8 +54,8 @@ overflow_sub-scan-2 c =
     (known_threes c.args.width s c.args.n c.args.turned d.result h d.ensures none)
     (known_all c.args.width s c.args.n c.args.turned d.result h d.ensures none)
 
-pub overflow_sub-scan-3 : goal.overflow_sub-scan-3
-overflow_sub-scan-3 c =
+pub overflow_sub-result-3 : goal.overflow_sub-result-3
+overflow_sub-result-3 c =
     let d = c.added-sums in
     let s = c.args.records.now in
     let h = c.requires.0 in

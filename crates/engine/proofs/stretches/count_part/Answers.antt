@@ -37,7 +37,7 @@ top-is c =
 -- the first number lies outside it
 outside : (c : Then-below-ge-WIDE) → within (top_of c.args.s) (held c.args.width c.args.records.now) ≡ false
 outside c =
-    let first = first_is (up-After-number-first _ _ _ _ c.before.before.before.before.before) in
+    let first = first_is (up-After-number-first _ _ _ _ c.before.before.before.before) in
     let far : 64 ≤ (top_of c.args.s + 65536 - word 2 c.args.records.now (c.args.width - 4)) % 65536 =
     subst (λ (x : ℕ). 64 ≤ x) (ap₂ (λ (top first : ℕ). (top + 65536 - first) % 65536) (top-is (up-After-magnitude _ _ _ _ c.before.before)) first)
     c.if-below-ge-WIDE.true in
@@ -72,20 +72,20 @@ pub placed-requires : goal.placed-requires
 placed-requires c =
     record {
       held = (c.requires.0, c.requires.1);
-      from_first = (first_is (goal.at.placed-requires c).After-number-first, sym c.in-Fits.is ∙ c.marks.ensures);
+      from_first = (first_is (goal.at.placed-requires c).After-number-first, sym c.in-Some.is ∙ c.marks.ensures);
     }
 
-pub returns-in-Fits : goal.returns-in-Fits
-returns-in-Fits c =
+pub returns-in-Some : goal.returns-in-Some
+returns-in-Some c =
     let a = c.args in
     let s = a.records.now in
-    (c.placed.ensures, packets_wired a.width (length s / a.width) s (octets (goal.at.returns-in-Fits c).After-shared_slice_known-1))
+    (c.placed.ensures, packets_wired a.width (length s / a.width) s (octets (goal.at.returns-in-Some c).After-shared_slice_known-1))
 
-pub returns-in-Misfit : goal.returns-in-Misfit
-returns-in-Misfit c =
+pub returns-in-None : goal.returns-in-None
+returns-in-None c =
     let a = c.args in
     let s = a.records.now in (
-      misfit_of (turned c.number-first.result) (held a.width s) (sym c.in-Misfit.is ∙ c.marks.ensures),
+      misfit_of (turned c.number-first.result) (held a.width s) (sym c.in-None.is ∙ c.marks.ensures),
       packets_wired a.width (length s / a.width) s
-          (octets (goal.at.returns-in-Misfit c).After-shared_slice_known-1),
+          (octets (goal.at.returns-in-None c).After-shared_slice_known-1),
     )

@@ -9,7 +9,7 @@ use Rattle.engine.specs.Windows.{held, turned, found_in}
 use Rattle.engine.specs.Settled.{top_of, ShiftedBy}
 use Rattle.engine.proofs.Placing.{scan_fit, scan_of_lem, scan_strays, found_at, found_none, up_few, more_few, settled_is}
 use Rattle.engine.proofs.stretches.placed.Lts.View.{up-After-magnitude}
-use Rattle.engine.proofs.stretches.placed.Goals.{After-find-found, After-magnitude}
+use Rattle.engine.proofs.stretches.placed.Goals.{After-find, After-magnitude}
 use Rattle.engine.proofs.stretches.placed.Goals as goal
 
 -- the highest number without its sign
@@ -17,13 +17,13 @@ size : (c : After-magnitude) → c.magnitude.result ≡ nat_abs c.args.s.highest
 size c = c.magnitude.ensures ∙ ap nat_abs (seen_is c.args.s.highest.0 (search rules))
 
 -- what is found, in the record's own window
-told : (c : After-find-found) → c.find-found.result ≡ found_in (top_of c.args.s) (held c.args.width c.args.records.now)
+told : (c : After-find) → c.find.result ≡ found_in (top_of c.args.s) (held c.args.width c.args.records.now)
 told c =
-    c.find-found.ensures
+    c.find.ensures
     ∙ ap (λ (m : ℕ). found_in (m % 65536 + 40) (held c.args.width c.args.records.now)) (size (up-After-magnitude _ _ _ _ c.before.before))
 
-pub find-found-requires : goal.find-found-requires
-find-found-requires c =
+pub find-requires : goal.find-requires
+find-requires c =
     record {
       held = (c.requires.held.0, omega arith);
       from_first = (
@@ -36,7 +36,7 @@ find-found-requires c =
 pub returns-in_default : goal.returns-in_default
 returns-in_default c = (
   scan_fit c.args.width c.args.records.now c.args.n (turned c.args.first) c.requires.held.0 c.args.scan c.requires.from_first.1,
-  found_none (top_of c.args.s) (held c.args.width c.args.records.now) (sym c.in_default.is ∙ told (goal.at.returns-in_default c).After-find-found),
+  found_none (top_of c.args.s) (held c.args.width c.args.records.now) (sym c.in_default.is ∙ told (goal.at.returns-in_default c).After-find),
 )
 
 pub moved_on-requires : goal.moved_on-requires
@@ -48,7 +48,7 @@ settled-requires c =
     let s = c.args.records.now in
     let ps = held c.args.width s in
     let top = top_of c.args.s in
-    let at = found_at top _ ps (sym c.in-At.is ∙ told (goal.at.settled-requires c).After-find-found) in
+    let at = found_at top _ ps (sym c.in-Some.is ∙ told (goal.at.settled-requires c).After-find) in
     let of = scan_of_lem c.args.width s c.args.n (turned c.args.first) c.requires.held.0 c.args.scan c.requires.from_first.1 in
     let by = subst (λ (b : ℕ). ShiftedBy c.args.s.history b c.moved_on.result) at.1 c.moved_on.ensures in
     record {
@@ -64,7 +64,7 @@ returns c =
     let s = c.args.records.now in
     let ps = held c.args.width s in
     let top = top_of c.args.s in
-    let at = found_at top _ ps (sym c.in-At.is ∙ told (goal.at.returns c).After-find-found) in
+    let at = found_at top _ ps (sym c.in-Some.is ∙ told (goal.at.returns c).After-find) in
     let of = scan_of_lem c.args.width s c.args.n (turned c.args.first) c.requires.held.0 c.args.scan c.requires.from_first.1 in
     let by = subst (λ (b : ℕ). ShiftedBy c.args.s.history b c.moved_on.result) at.1 c.moved_on.ensures in (
       scan_fit c.args.width s c.args.n (turned c.args.first) c.requires.held.0 c.args.scan c.requires.from_first.1,

@@ -1,3 +1,4 @@
+use Rattle.std.specs.Prelude.{None}
 use borrow.Author.Rules.{rules}
 use mathlib.Core.Path.{◌≡◌, sym, ap, ◌∙◌}
 use native.Mathlib.Omega.{arith}
@@ -8,7 +9,6 @@ use mir.Val.{to_z}
 use mir.ValLaws.{to_z_pos}
 use Rattle.numbers.proofs.Signed.{seen_is}
 use Rattle.source.specs.declared.Source.{Source}
-use Rattle.source.specs.declared.Remembered.TheVariants.{Nothing}
 use Rattle.source.specs.Arrivals.{extended}
 use Rattle.source.proofs.Facts.{Facts, facts, some_has_counted, highest_fits}
 use Rattle.engine.specs.declared.scans.Scan.{Scan}
@@ -82,5 +82,5 @@ returns c =
       ce = a.s.ce + a.scan.ce;
       duplicates = a.s.duplicates + (a.n - a.shifted.more);
       history = a.shifted.history;
-      remembered = Nothing;
+      remembered = None;
     }

@@ -1,10 +1,10 @@
+use Rattle.std.specs.Prelude.{Some}
 use mathlib.Core.Path.{◌≡◌, refl, sym, ap, ◌∙◌}
 use native.Mathlib.Omega.{arith}
 use Prim.Native.Nat.{ℕ, ◌+◌, ◌-◌, ◌/◌, ◌%◌, ◌<◌}
 use mathlib.Core.Bool.{true}
 use borrow.Author.Tests.{lt-ltb, le-ltb}
 use lib.ListN.{length}
-use Rattle.engine.specs.declared.window.Found.TheVariants.{At}
 use Rattle.numbers.proofs.BigEndian.{Octets, word_lt}
 use Rattle.source.proofs.Totalled.{length-packets}
 use Rattle.engine.specs.Windows.{held, within, row_from}
@@ -49,4 +49,4 @@ returns c =
     let a = c.args in
     let seen = c.seen_in-found in
     let all : within a.top (held a.width a.records.now) ≡ true = sym seen.ensures.joined ∙ lt-ltb seen.result.joined 64 c.if-found-ge-WIDE.false in
-    rw all (ap At (seen.ensures.bits all))
+    rw all (ap Some (seen.ensures.bits all))

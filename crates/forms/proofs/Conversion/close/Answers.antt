@@ -15,8 +15,8 @@ use Rattle.forms.proofs.Conversion.close.Goals as goal
 pub returns-then-not-is_sound : goal.returns-then-not-is_sound
 returns-then-not-is_sound c = let a = c.args in close_malformed a.self a.part.now a.out.now (was_false c.is_sound.ensures c.if-not-is_sound.true)
 
-pub returns-then-held-eq0 : goal.returns-then-held-eq0
-returns-then-held-eq0 c = let a = c.args in close_none a.self a.part.now a.out.now (was_true c.is_sound.ensures c.if-not-is_sound.false) c.if-held-eq0.true
+pub returns-then-self-eq0 : goal.returns-then-self-eq0
+returns-then-self-eq0 c = let a = c.args in close_none a.self a.part.now a.out.now (was_true c.is_sound.ensures c.if-not-is_sound.false) c.if-self-eq0.true
 
 -- the records lie in the part
 fits : (c : After-width) → c.args.self.held * c.width.result ≤ length c.args.part.now
@@ -36,4 +36,4 @@ pub returns : goal.returns
 returns c =
     let a = c.args in
     let octets : Octets a.part.now = λ i. omega (arith, c.shared_slice_known-1.given i) in
-    close_some a.self a.part.now a.out.now octets (was_true c.is_sound.ensures c.if-not-is_sound.false) (omega (arith, c.if-held-eq0.false)) c.other-to.ensures c.width.ensures c.write_records.ensures
+    close_some a.self a.part.now a.out.now octets (was_true c.is_sound.ensures c.if-not-is_sound.false) (omega (arith, c.if-self-eq0.false)) c.other-to.ensures c.width.ensures c.write_records.ensures

@@ -17,7 +17,7 @@ use Rattle.forms.proofs.packing.gather.Goals.{After-width}
 use Rattle.forms.proofs.packing.gather.Goals as goal
 
 wide : (c : After-width) → c.width.result ≡ width (shape_of (other_form c.args.form))
-wide c = c.width.ensures ∙ ap (λ (f : Form). width (shape_of f)) c.other-to.ensures
+wide c = c.width.ensures ∙ ap (λ (f : Form). width (shape_of f)) c.other.ensures
 
 -- the records that are held lie in the part
 fits : (c : After-width) → c.args.held * c.width.result ≤ length c.args.part.now

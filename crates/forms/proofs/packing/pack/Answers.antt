@@ -19,7 +19,6 @@ use Rattle.forms.proofs.Held.{is_sound_lem}
 use Rattle.forms.proofs.Packed.{most_some}
 use Rattle.forms.proofs.Parting.{all_fit, none_stored, all_kept, taken_is, blocks_hold, blocks_most, taken_fit, front_ready, rest_good, rest_long, rest_fit, full_stored, rest_left}
 use Rattle.forms.proofs.Steps.{few_records}
-use Rattle.forms.proofs.packing.pack.Lts.View.{up-After-most-most, up-Else-full-eq0}
 use Rattle.forms.proofs.packing.pack.Goals.{After-most-most, After-width, After-width-2, Else-full-eq0}
 use Rattle.forms.proofs.packing.pack.Goals as goal
 
@@ -40,8 +39,8 @@ wide c = c.width.ensures ∙ ap (λ (f : Form). width (shape_of f)) c.other-to.e
 at-is : (c : After-width) → c.args.c.held * c.width.result ≡ c.args.c.held * width (to_shape c.args.c)
 at-is c = ap (λ (k : ℕ). c.args.c.held * k) (wide c)
 
-pub overflow_mul-held : goal.overflow_mul-held
-overflow_mul-held c = omega (arith, at-is (goal.at.overflow_mul-held c).After-width, all_fit c.requires.0 (most_is (goal.at.overflow_mul-held c).After-most-most) c.if-full-eq0.true)
+pub overflow_mul-c : goal.overflow_mul-c
+overflow_mul-c c = omega (arith, at-is (goal.at.overflow_mul-c c).After-width, all_fit c.requires.0 (most_is (goal.at.overflow_mul-c c).After-most-most) c.if-full-eq0.true)
 
 pub put_records-requires : goal.put_records-requires
 put_records-requires c = (c.requires.0.good, c.requires.0.long, omega (arith, at-is (goal.at.put_records-requires c).After-width, all_fit c.requires.0 (most_is (goal.at.put_records-requires c).After-most-most) c.if-full-eq0.true))
@@ -66,14 +65,19 @@ overflow_mul-taken c = omega (arith, blocks_most c.requires.0 (most_is (goal.at.
 pub overflow_sub-taken : goal.overflow_sub-taken
 overflow_sub-taken c = blocks_hold c.requires.0 (most_is (goal.at.overflow_sub-taken c).After-most-most) (some (goal.at.overflow_sub-taken c).Else-full-eq0)
 
+abbrev taken_by : ℕ → ℕ → ℕ → ℕ
+taken_by held n most = (held + n) / most * most - held
+
 abbrev taken : (c : Else-full-eq0) → ℕ
-taken c = (c.args.c.held + c.args.n) / c.most-most.result * c.most-most.result - c.args.c.held
+taken c = taken_by c.args.c.held c.args.n c.most-most.result
 
-from_is : (c : After-width-2) → taken (up-Else-full-eq0 _ _ _ c.before.before) * c.width-2.result ≡ taken (up-Else-full-eq0 _ _ _ c.before.before) * width (shape_of c.args.c.form)
-from_is c = ap (λ (k : ℕ). taken (up-Else-full-eq0 _ _ _ c.before.before) * k) c.width-2.ensures
+from_is : (c : After-width-2) → taken_by c.args.c.held c.args.n c.most-most.result * c.width-2.result ≡ taken_by c.args.c.held c.args.n c.most-most.result * width (shape_of c.args.c.form)
+from_is c = ap (λ (k : ℕ). taken_by c.args.c.held c.args.n c.most-most.result * k) c.width-2.ensures
 
-from-fit : (c : After-width-2) → taken (up-Else-full-eq0 _ _ _ c.before.before) * c.width-2.result ≤ length c.args.body.now
-from-fit c = omega (arith, from_is c, taken_fit c.requires.0 (most_is (up-After-most-most _ _ _ c.before.before.before)) (some (up-Else-full-eq0 _ _ _ c.before.before)))
+from-fit : (c : After-width-2) → taken_by c.args.c.held c.args.n c.most-most.result * c.width-2.result ≤ length c.args.body.now
+from-fit c =
+    let most = c.most-most.ensures ∙ ap (λ (f : Form). (shape_of f).most) c.other-to.ensures in
+    omega (arith, from_is c, taken_fit c.requires.0 most (omega (arith, c.if-full-eq0.false)))
 
 pub overflow_mul-from : goal.overflow_mul-from
 overflow_mul-from c = omega (arith, from-fit (goal.at.overflow_mul-from c).After-width-2)

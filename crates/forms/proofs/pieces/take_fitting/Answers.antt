@@ -32,35 +32,35 @@ pub loop-at-preserved : goal.loop-at-preserved
 loop-at-preserved c =
     let loop = c.loop-at in
     let octets : Octets c.args.piece.now = λ i. omega (arith, c.shared_slice_known-1.given i) in
-    loop_taken loop.invariant c.loop-at-test.true refl c.put_blocks-step.ensures octets c.in-Length.is c.put_blocks-step.auto.part
+    loop_taken loop.invariant c.loop-at-test.true refl c.put_blocks-step.ensures octets c.in-Ok.is c.put_blocks-step.auto.part
 
 pub overflow_add-used : goal.overflow_add-used
 overflow_add-used c =
     let loop = c.loop-at in
     let octets : Octets c.args.piece.now = λ i. omega (arith, c.shared_slice_known-1.given i) in
-    let again = loop_taken loop.invariant c.loop-at-test.true refl c.put_blocks-step.ensures octets c.in-Length.is c.put_blocks-step.auto.part in
+    let again = loop_taken loop.invariant c.loop-at-test.true refl c.put_blocks-step.ensures octets c.in-Ok.is c.put_blocks-step.auto.part in
     omega (arith, loop_inside again)
 
-pub shape_of-part-in-Room : goal.shape_of-part-in-Room
-shape_of-part-in-Room c = c.put_blocks-step.auto.part ∙ c.loop-at.invariant.long
+pub shape_of-part-in-Err-Room : goal.shape_of-part-in-Err-Room
+shape_of-part-in-Err-Room c = c.put_blocks-step.auto.part ∙ c.loop-at.invariant.long
 
-pub shape_of-out-in-Room : goal.shape_of-out-in-Room
-shape_of-out-in-Room c = c.put_blocks-step.auto.out ∙ loop_size c.loop-at.invariant
+pub shape_of-out-in-Err-Room : goal.shape_of-out-in-Err-Room
+shape_of-out-in-Err-Room c = c.put_blocks-step.auto.out ∙ loop_size c.loop-at.invariant
 
-pub returns-in-Room : goal.returns-in-Room
-returns-in-Room c =
+pub returns-in-Err-Room : goal.returns-in-Err-Room
+returns-in-Err-Room c =
     let loop = c.loop-at in
     let octets : Octets c.args.piece.now = λ i. omega (arith, c.shared_slice_known-1.given i) in
-    loop_pauses loop.invariant c.loop-at-test.true refl c.put_blocks-step.ensures octets c.in-Room.is
+    loop_pauses loop.invariant c.loop-at-test.true refl c.put_blocks-step.ensures octets c.in-Err-Room.is (rw c.in-Err-Room.is at c.in-Err-Room.field-0-is)
 
-pub shape_of-part-in-Refused : goal.shape_of-part-in-Refused
-shape_of-part-in-Refused c = c.put_blocks-step.auto.part ∙ c.loop-at.invariant.long
+pub shape_of-part-in-Err-Refused : goal.shape_of-part-in-Err-Refused
+shape_of-part-in-Err-Refused c = c.put_blocks-step.auto.part ∙ c.loop-at.invariant.long
 
-pub shape_of-out-in-Refused : goal.shape_of-out-in-Refused
-shape_of-out-in-Refused c = c.put_blocks-step.auto.out ∙ loop_size c.loop-at.invariant
+pub shape_of-out-in-Err-Refused : goal.shape_of-out-in-Err-Refused
+shape_of-out-in-Err-Refused c = c.put_blocks-step.auto.out ∙ loop_size c.loop-at.invariant
 
-pub returns-in-Refused : goal.returns-in-Refused
-returns-in-Refused c = loop_refused c.loop-at.invariant c.loop-at-test.true refl c.put_blocks-step.ensures c.in-Refused.is
+pub returns-in-Err-Refused : goal.returns-in-Err-Refused
+returns-in-Err-Refused c = loop_refused c.loop-at.invariant c.loop-at-test.true refl c.put_blocks-step.ensures c.in-Err-Refused.is (rw c.in-Err-Refused.is at c.in-Err-Refused.field-0-is)
 
 pub loop-at-smaller : goal.loop-at-smaller
 loop-at-smaller c = omega (arith, loop_within c.loop-at.invariant, c.loop-at-test.true)

@@ -5,10 +5,10 @@ use Rattle.forms.proofs.taking.step.Goals as goal
 
 pub timed-requires : goal.timed-requires
 timed-requires c =
-    (c.requires, later_arrivals c.args.c.form c.args.c.ssrc c.args.block.now (sym c.read_own.ensures.value ∙ c.in-Arrivals.is))
+    (c.requires, later_arrivals c.args.c.form c.args.c.ssrc c.args.block.now (sym c.read_own.ensures.value ∙ c.in-Ok.is))
 
-pub returns-in-Refused : goal.returns-in-Refused
-returns-in-Refused c =
+pub returns-in-Err : goal.returns-in-Err
+returns-in-Err c =
     rw c.refused.ensures
     (takes_refuses c.args.c c.args.part.now c.args.out.now
-    (next_refused c.args.c.form c.args.c.ssrc c.args.block.now (sym c.read_own.ensures.value ∙ c.in-Refused.is)))
+    (next_refused c.args.c.form c.args.c.ssrc c.args.block.now (sym c.read_own.ensures.value ∙ c.in-Err.is)))

@@ -9,4 +9,4 @@ returns-in_default c =
 pub returns : goal.returns
 returns c =
     let a = c.args in
-    taken_front a.self a.piece.now c.in-Going.is c.sound_front-front.ensures c.number_after.ensures
+    taken_front a.self a.piece.now c.in-None.is c.sound_front-front.ensures c.number_after-block.ensures

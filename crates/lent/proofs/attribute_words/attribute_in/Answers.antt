@@ -5,12 +5,12 @@ use Rattle.lent.proofs.attribute_words.attribute_in.Goals as goal
 pub returns : goal.returns
 unfolding attribute_in
 returns c =
-    let mode = c.mode_of-mode.ensures ∙ ap mode_of c.word_at.ensures in
-    let ect = c.ect_of-ect.ensures ∙ ap ect_of c.word_at-2.ensures in
+    let mode = c.mode_of.ensures ∙ ap mode_of c.word_at-2.ensures in
+    let ect = c.ect_of.ensures ∙ ap ect_of c.word_at-3.ensures in
     λ i.
     record {
-      used = c.word_at-used.ensures i;
-      methods = c.methods_in-methods.ensures i;
+      used = c.word_at.ensures i;
+      methods = c.methods_in.ensures i;
       mode = mode i;
       ect = ect i;
     }

@@ -27,9 +27,3 @@ returns c =
     let l = c.loop-i in
     let words = c.args.words.now in
     places_done words l.i (omega (arith, c.loop-i-test.false)) ∙ l.invariant.1
-
-pub overflow_add-i : goal.overflow_add-i
-overflow_add-i c = omega (arith, c.loop-i-test.true)
-
-pub loop-i-smaller : goal.loop-i-smaller
-loop-i-smaller c = omega (arith, c.loop-i-test.true)

@@ -2,10 +2,10 @@ use mathlib.Core.Path.{sym, ap}
 use Rattle.lent.specs.CompoundWords.{feedback_words}
 use Rattle.lent.proofs.compound_words.feedback_in.Goals as goal
 
-pub returns-in-Present : goal.returns-in-Present
+pub returns-in-Some : goal.returns-in-Some
 unfolding feedback_words
-returns-in-Present c = sym (ap feedback_words c.in-Present.is)
+returns-in-Some c = sym (ap feedback_words c.in-Some.is)
 
-pub returns-in-Absent : goal.returns-in-Absent
+pub returns-in-None : goal.returns-in-None
 unfolding feedback_words
-returns-in-Absent c = sym (ap feedback_words c.in-Absent.is)
+returns-in-None c = sym (ap feedback_words c.in-None.is)

@@ -1,3 +1,4 @@
+use Rattle.std.specs.Prelude.{Some}
 use mathlib.Core.Path.{◌≡◌}
 use mathlib.Core.Bool.{true}
 use Prim.Native.Nat.{◌^◌}
@@ -7,7 +8,6 @@ use lib.Dec.{ltb}
 use lib.ListN.{get_or}
 use Rattle.answers.specs.Conditions.{all}
 use Rattle.answers.proofs.Conditions.{all_true, and_right}
-use Rattle.rtcp.specs.declared.MaybeFeedback.{MaybeFeedback}
 use Rattle.lent.specs.Widths.{counts_fit}
 use Rattle.lent.specs.CompoundWords.{feedback_numbers, feedback_fits}
 use Rattle.lent.proofs.FitLaws.{is_there, not_there, where_fits}
@@ -33,4 +33,4 @@ overflow_cast-result c =
 pub returns : goal.returns
 returns c =
     rw (is_there c.word_at.ensures c.if-word_at-ne1.false)
-    (λ i. MaybeFeedback.Present (record { sender = 0; highest = c.word_at-highest.ensures i; counts = c.counts_of-counts.ensures i }))
+    (λ i. Some (record { sender = 0; highest = c.word_at-highest.ensures i; counts = c.counts_of-counts.ensures i }))

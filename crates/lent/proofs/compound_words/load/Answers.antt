@@ -1,8 +1,8 @@
+use Rattle.std.specs.Prelude.{Some}
 use mathlib.Core.Path.{ap}
 use borrow.Author.Tests.{eq-eqb, ne_eqb}
 use lib.ListN.{length}
 use Rattle.answers.proofs.Conditions.{was_true, was_false}
-use Rattle.lent.specs.declared.compound_words.Loaded.TheVariants.{Held}
 use Rattle.lent.specs.CompoundWords.{loaded}
 use Rattle.lent.proofs.compound_words.load.Goals as goal
 
@@ -22,4 +22,4 @@ pub returns : goal.returns
 unfolding loaded
 returns c =
     rw (eq-eqb (length c.args.words.now) 25 c.if-words-ne-WORDS.false, was_true c.do_fit.ensures c.if-not-do_fit.false)
-    (ap Held c.compound_of.ensures)
+    (ap Some c.compound_of.ensures)

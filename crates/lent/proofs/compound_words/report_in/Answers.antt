@@ -19,15 +19,15 @@ widened_is : (z : ℤ) → SFits w32 z → to_z w64 (of_z w64 (to_z w32 (of_z w3
 widened_is z f = to_z-of_z w64 (to_z w32 (of_z w32 z)) (widened z f) ∙ to_z-of_z w32 z f
 
 pub overflow_cast-x : goal.overflow_cast-x
-overflow_cast-x c = widened c.in-Present.x.lost (search rules)
+overflow_cast-x c = widened c.in-Some.x.lost (search rules)
 
-pub returns-in-Present : goal.returns-in-Present
+pub returns-in-Some : goal.returns-in-Some
 unfolding report_words
-returns-in-Present c =
-    let x = c.in-Present.x in
+returns-in-Some c =
+    let x = c.in-Some.x in
     let lost = c.complement.ensures ∙ ap (modulo (2 ^ 64)) (widened_is x.lost (search rules)) in
-    (λ i. 1 ∷ x.fraction ∷ lost i ∷ x.highest ∷ x.jitter ∷ x.lsr ∷ x.dlsr ∷ []) ∙ sym (ap report_words c.in-Present.is)
+    (λ i. 1 ∷ x.fraction ∷ lost i ∷ x.highest ∷ x.jitter ∷ x.lsr ∷ x.dlsr ∷ []) ∙ sym (ap report_words c.in-Some.is)
 
-pub returns-in-Absent : goal.returns-in-Absent
+pub returns-in-None : goal.returns-in-None
 unfolding report_words
-returns-in-Absent c = sym (ap report_words c.in-Absent.is)
+returns-in-None c = sym (ap report_words c.in-None.is)

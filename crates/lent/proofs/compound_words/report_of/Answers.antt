@@ -1,3 +1,4 @@
+use Rattle.std.specs.Prelude.{Some}
 use mathlib.Core.Path.{◌≡◌}
 use mathlib.Core.Bool.{true}
 use Prim.Native.Nat.{◌^◌}
@@ -7,7 +8,6 @@ use lib.IntN.{pos}
 use lib.ListN.{get_or}
 use Rattle.answers.specs.Conditions.{all}
 use Rattle.answers.proofs.Conditions.{all_true}
-use Rattle.rtcp.specs.declared.MaybeReport.{MaybeReport}
 use Rattle.lent.specs.CompoundWords.{report_numbers, report_fits}
 use Rattle.lent.proofs.FitLaws.{is_there, not_there, where_fits}
 use Rattle.lent.proofs.compound_words.report_of.Goals.{After-word_at-highest}
@@ -34,4 +34,4 @@ overflow_cast-result-2 c =
 pub returns : goal.returns
 returns c =
     rw (is_there c.word_at.ensures c.if-word_at-ne1.false)
-    (λ i. MaybeReport.Present (record { fraction = c.word_at-fraction.ensures i; lost = pos 0; highest = c.word_at-highest.ensures i; jitter = 0; lsr = 0; dlsr = 0; reporter = 0 }))
+    (λ i. Some (record { fraction = c.word_at-fraction.ensures i; lost = pos 0; highest = c.word_at-highest.ensures i; jitter = 0; lsr = 0; dlsr = 0; reporter = 0 }))

@@ -1,5 +1,5 @@
+use Rattle.std.specs.Prelude.{Some}
 use mathlib.Core.Path.{ap}
-use Rattle.rtcp.specs.declared.MaybeSummary.{MaybeSummary}
 use Rattle.lent.specs.Widths.{counts_fit}
 use Rattle.lent.specs.CompoundWords.{summary_fits}
 use Rattle.lent.proofs.FitLaws.{is_there, not_there, where_fits}
@@ -13,4 +13,4 @@ unfolding summary_fits
 counts_of-counts-requires c = where_fits (counts_fit c.args.words.now 19 21) c.word_at.ensures c.if-word_at-ne1.false c.requires
 
 pub returns : goal.returns
-returns c = rw (is_there c.word_at.ensures c.if-word_at-ne1.false) (ap MaybeSummary.Present c.counts_of-counts.ensures)
+returns c = rw (is_there c.word_at.ensures c.if-word_at-ne1.false) (ap Some c.counts_of-counts.ensures)

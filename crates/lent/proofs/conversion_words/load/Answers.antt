@@ -1,10 +1,10 @@
+use Rattle.std.specs.Prelude.{Some}
 use mathlib.Core.Path.{sym, ap, ◌∙◌}
 use borrow.Author.Tests.{eq-eqb, ne_eqb, lt-ltb, le-ltb}
 use native.Mathlib.Omega.{arith}
 use Prim.Native.Nat.{◌^◌}
 use lib.ListN.{length, get_or}
 use Rattle.answers.proofs.Conditions.{was_true, was_false}
-use Rattle.lent.specs.declared.conversion_words.Loaded.TheVariants.{Held}
 use Rattle.lent.specs.FormWords.{is_form, form_of}
 use Rattle.lent.specs.ConversionWords.{loaded}
 use Rattle.lent.proofs.conversion_words.load.Goals as goal
@@ -37,4 +37,4 @@ returns c =
     let its = c.word_at-ssrc.ensures in
     let ssrc = lt-ltb (get_or words 1 0) (2 ^ 32) (omega (arith, its, c.if-ssrc-ge-NUMBERS.false)) in
     rw (eq-eqb (length words) 3 c.if-words-ne-WORDS.false, form, ssrc)
-    (ap Held (λ i. record { form = (c.form_of-form.ensures ∙ ap form_of number) i; ssrc = its i; held = c.word_at-held.ensures i }))
+    (ap Some (λ i. record { form = (c.form_of-form.ensures ∙ ap form_of number) i; ssrc = its i; held = c.word_at-held.ensures i }))

@@ -1,3 +1,4 @@
+use Rattle.std.specs.Prelude.{Some}
 use mathlib.Core.Path.{sym, ap, ◌∙◌}
 use borrow.Author.Tests.{eq-eqb, ne_eqb}
 use lib.Dec.{eqb}
@@ -5,8 +6,6 @@ use lib.ListN.{length}
 use Prim.Native.Nat.{ℕ}
 use Rattle.answers.proofs.Conditions.{was_true, was_false}
 use Rattle.between.specs.declared.calls.Kept.{Kept}
-use Rattle.between.specs.declared.calls.MaybeKept.{MaybeKept}
-use Rattle.lent.specs.declared.kept_words.Loaded.TheVariants.{Held}
 use Rattle.lent.specs.KeptWords.{loaded}
 use Rattle.lent.proofs.kept_words.load.Goals as goal
 
@@ -30,7 +29,7 @@ returns-then-word_at-eq1 c =
     let words = c.args.words.now in
     let there = ap (λ (n : ℕ). eqb n 1) (sym c.word_at.ensures) ∙ eq-eqb c.word_at.result 1 c.if-word_at-eq1.true in
     rw (eq-eqb (length words) 4 c.if-words-ne-WORDS.false, there, was_true c.do_fit.ensures c.if-not-do_fit.false)
-    (ap (λ (k : Kept). Held (MaybeKept.Present k)) c.kept_in-kept.ensures)
+    (ap (λ (k : Kept). Some (Some k)) c.kept_in-kept.ensures)
 
 pub returns-then-not-are_zero : goal.returns-then-not-are_zero
 unfolding loaded

@@ -1,10 +1,10 @@
+use Rattle.std.specs.Prelude.{Some}
 use mathlib.Core.Path.{sym, ap, ◌∙◌}
 use borrow.Author.Tests.{eq-eqb, ne_eqb, lt-ltb, le-ltb}
 use native.Mathlib.Omega.{arith}
 use Prim.Native.Nat.{◌^◌}
 use lib.ListN.{length, get_or}
 use Rattle.answers.proofs.Conditions.{was_true, was_false}
-use Rattle.lent.specs.declared.run_words.Loaded.TheVariants.{Held}
 use Rattle.lent.specs.FormWords.{is_form}
 use Rattle.lent.specs.RunWords.{record_in, run_with, loaded}
 use Rattle.lent.proofs.SourceLaws.{held, other}
@@ -32,19 +32,19 @@ returns-then-word_at-ge-NUMBERS c =
 pub run_with-requires : goal.run_with-requires
 run_with-requires c = omega (arith, c.word_at-2.ensures, c.if-word_at-ge-NUMBERS.false)
 
-pub returns-in-Held : goal.returns-in-Held
+pub returns-in-Some : goal.returns-in-Some
 unfolding loaded
-returns-in-Held c =
+returns-in-Some c =
     let words = c.args.words.now in
     let form = sym (ap is_form c.word_at.ensures) ∙ was_true c.is_form.ensures c.if-not-is_form.false in
     let ssrc = lt-ltb (get_or words 2 0) (2 ^ 32) (omega (arith, c.word_at-2.ensures, c.if-word_at-ge-NUMBERS.false)) in
-    let its = held (record_in words) (sym c.load.ensures ∙ c.in-Held.is) in
-    rw (eq-eqb (length words) 15 c.if-words-ne-WORDS.false, form, ssrc, its.1) (ap Held (c.run_with.ensures ∙ ap (run_with words) its.2))
+    let its = held (record_in words) (sym c.load.ensures ∙ c.in-Some.is) in
+    rw (eq-eqb (length words) 15 c.if-words-ne-WORDS.false, form, ssrc, its.1) (ap Some (c.run_with.ensures ∙ ap (run_with words) its.2))
 
-pub returns-in-Malformed : goal.returns-in-Malformed
+pub returns-in-None : goal.returns-in-None
 unfolding loaded
-returns-in-Malformed c =
+returns-in-None c =
     let words = c.args.words.now in
     let form = sym (ap is_form c.word_at.ensures) ∙ was_true c.is_form.ensures c.if-not-is_form.false in
     let ssrc = lt-ltb (get_or words 2 0) (2 ^ 32) (omega (arith, c.word_at-2.ensures, c.if-word_at-ge-NUMBERS.false)) in
-    rw (eq-eqb (length words) 15 c.if-words-ne-WORDS.false, form, ssrc, other (record_in words) (sym c.load.ensures ∙ c.in-Malformed.is))
+    rw (eq-eqb (length words) 15 c.if-words-ne-WORDS.false, form, ssrc, other (record_in words) (sym c.load.ensures ∙ c.in-None.is))

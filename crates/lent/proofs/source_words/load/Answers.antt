@@ -1,8 +1,8 @@
+use Rattle.std.specs.Prelude.{Some}
 use mathlib.Core.Path.{ap, ◌∙◌}
 use borrow.Author.Tests.{eq-eqb, ne_eqb, le-leb, lt-leb}
 use native.Mathlib.Omega.{arith}
 use lib.ListN.{length, get_or}
-use Rattle.lent.specs.declared.source_words.Loaded.TheVariants.{Held}
 use Rattle.lent.specs.SourceWords.{remembered_in, source_with, loaded}
 use Rattle.lent.proofs.source_words.load.Goals as goal
 
@@ -22,4 +22,4 @@ returns c =
     let words = c.args.words.now in
     let last = c.word_at-last.ensures in
     rw (eq-eqb (length words) 10 c.if-words-ne-WORDS.false, le-leb (get_or words 9 0) 65536 (omega (arith, last, c.if-last-gt-MOST_REMEMBERED.false)))
-    (ap Held (c.source_with.ensures ∙ ap (source_with words) (c.remembered_in.ensures ∙ ap remembered_in last)))
+    (ap Some (c.source_with.ensures ∙ ap (source_with words) (c.remembered_in.ensures ∙ ap remembered_in last)))

@@ -18,12 +18,6 @@ loop-i-init c =
     let long : length t.places ≡ 16 = search (rules, length-mapped) in
     (omega arith, c.in_use-n.ensures, omega (arith, c.in_use-n.ensures, length-take t.count t.places, long), zero-add (length (held_of (lent t))))
 
-pub offset_bounds-t-i : goal.offset_bounds-t-i
-offset_bounds-t-i c = omega arith
-
-pub bounds-t-i : goal.bounds-t-i
-bounds-t-i c = omega arith
-
 pub returns-then-not-has_arrivals : goal.returns-then-not-has_arrivals
 returns-then-not-has_arrivals c =
     let l = c.loop-i in
@@ -45,10 +39,5 @@ pub returns : goal.returns
 returns c =
     let l = c.loop-i in
     let t = c.args.t in
-    sym (held_done (lent t) l.i (omega (arith, l.invariant.1, c.loop-i-test.false))) ∙ l.invariant.3
-
-pub overflow_add-i : goal.overflow_add-i
-overflow_add-i c = omega arith
-
-pub loop-i-smaller : goal.loop-i-smaller
-loop-i-smaller c = omega arith
+    let all : c.in_use-n.result ≡ l.i = omega (arith, l.invariant.0, c.loop-i-test.false) in
+    all ∙ sym (held_done (lent t) l.i (omega (arith, l.invariant.1, c.loop-i-test.false))) ∙ l.invariant.3

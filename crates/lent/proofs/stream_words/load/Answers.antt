@@ -8,7 +8,7 @@ use Rattle.lent.proofs.StreamTaking.{outside, few, enough, unruled, unfit, fitti
 use Rattle.lent.proofs.stream_words.load.Goals as goal
 
 pub returns-then-not-are_words : goal.returns-then-not-are_words
-returns-then-not-are_words c = let a = c.args in c.refused.ensures ∙ outside a.words.now a.lines.now (was_false c.are_words.ensures c.if-not-are_words.true)
+returns-then-not-are_words c = let a = c.args in outside a.words.now a.lines.now (was_false c.are_words.ensures c.if-not-are_words.true)
 
 pub are_ruled-requires : goal.are_ruled-requires
 are_ruled-requires c =
@@ -23,7 +23,7 @@ returns-then-not-are_ruled c =
     let a = c.args in
     let ws = a.lines.now in
     let e = was_true c.are_words.ensures c.if-not-are_words.false in
-    c.refused-then-not-are_ruled.ensures ∙ unruled a.words.now ws e (was_false (c.are_ruled.ensures ∙ ap (λ (n : ℕ). all (are_ruled n ws)) c.word_at-n.ensures) c.if-not-are_ruled.true)
+    unruled a.words.now ws e (was_false (c.are_ruled.ensures ∙ ap (λ (n : ℕ). all (are_ruled n ws)) c.word_at-n.ensures) c.if-not-are_ruled.true)
 
 pub are_fit-requires : goal.are_fit-requires
 are_fit-requires c =
@@ -39,10 +39,10 @@ returns-then-not-are_fit c =
     let ws = a.lines.now in
     let e = was_true c.are_words.ensures c.if-not-are_words.false in
     let r = was_true (c.are_ruled.ensures ∙ ap (λ (n : ℕ). all (are_ruled n ws)) c.word_at-n.ensures) c.if-not-are_ruled.false in
-    c.refused-then-not-are_fit.ensures ∙ unfit a.words.now ws e r (was_false c.are_fit.ensures c.if-not-are_fit.true)
+    unfit a.words.now ws e r (was_false c.are_fit.ensures c.if-not-are_fit.true)
 
-pub run_in-run-requires : goal.run_in-run-requires
-run_in-run-requires c =
+pub run_in-requires : goal.run_in-requires
+run_in-requires c =
     let a = c.args in
     let e = was_true c.are_words.ensures c.if-not-are_words.false in
     let most = few a.words.now a.lines.now e in
@@ -55,4 +55,4 @@ returns c =
     let ws = a.lines.now in
     let e = was_true c.are_words.ensures c.if-not-are_words.false in
     let r = was_true (c.are_ruled.ensures ∙ ap (λ (n : ℕ). all (are_ruled n ws)) c.word_at-n.ensures) c.if-not-are_ruled.false in
-    fitting a.words.now ws e r (was_true c.are_fit.ensures c.if-not-are_fit.false) c.run_in-run.ensures
+    fitting a.words.now ws e r (was_true c.are_fit.ensures c.if-not-are_fit.false) c.run_in.ensures

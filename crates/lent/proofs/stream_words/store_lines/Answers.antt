@@ -22,30 +22,6 @@ loop-i-init c =
     let long : length t.places ≡ 16 = search (rules, length-mapped) in
     (refl, omega arith, omega (arith, c.held_in-n.ensures, front_le (lent t), length-take t.count t.places, long), c.held_in-n.ensures, refl)
 
-pub offset_bounds-table-i : goal.offset_bounds-table-i
-offset_bounds-table-i c = omega arith
-
-pub bounds-table-i : goal.bounds-table-i
-bounds-table-i c = omega arith
-
-pub offset_bounds-tallies-i : goal.offset_bounds-tallies-i
-offset_bounds-tallies-i c = omega arith
-
-pub bounds-tallies-i : goal.bounds-tallies-i
-bounds-tallies-i c = omega arith
-
-pub overflow_mul-i : goal.overflow_mul-i
-overflow_mul-i c = omega arith
-
-pub put_line-requires : goal.put_line-requires
-put_line-requires c = omega arith
-
-pub overflow_add-i : goal.overflow_add-i
-overflow_add-i c = omega arith
-
-pub loop-i-smaller : goal.loop-i-smaller
-loop-i-smaller c = omega arith
-
 pub loop-i-preserved : goal.loop-i-preserved
 loop-i-preserved c =
     let l = c.loop-i in

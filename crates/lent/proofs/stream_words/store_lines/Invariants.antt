@@ -1,5 +1,5 @@
 use mathlib.Core.Path.{◌≡◌}
-use Prim.Native.Nat.{◌-◌, ◌*◌, ◌≤◌}
+use Prim.Native.Nat.{◌*◌, ◌≤◌}
 use lib.ListN.{length, drop}
 use lib.Seq.{sets}
 use Rattle.sources.specs.Places.{held_of}
@@ -13,8 +13,5 @@ invariant-loop-i l =
     (length l.lines ≡ length l.initial.lines)
     × (l.i ≤ l.n)
     × (l.n ≤ 16)
-    × (l.n ≡ length (held_of (lent l.table)))
-    × (sets l.lines (13 * l.i) (lines_words (drop l.i (lines_from (held_of (lent l.table)) l.tallies))) ≡ sets l.initial.lines 0 (lines_words (lines_from (held_of (lent l.table)) l.tallies)))
-
-abbrev pub decreases-loop-i : goal.decreases-loop-i
-decreases-loop-i l = l.n - l.i
+    × (l.n ≡ length (held_of (lent l.run.table)))
+    × (sets l.lines (13 * l.i) (lines_words (drop l.i (lines_from (held_of (lent l.run.table)) l.run.tallies))) ≡ sets l.initial.lines 0 (lines_words (lines_from (held_of (lent l.run.table)) l.run.tallies)))

@@ -12,12 +12,6 @@ loop-i-init c =
     let all : a.n - 0 ≡ a.n = omega arith in
     ap (λ (j : ℕ). each_below a.limit a.k j a.words.now) all
 
-pub overflow_mul-i : goal.overflow_mul-i
-overflow_mul-i c = omega arith
-
-pub overflow_add-i : goal.overflow_add-i
-overflow_add-i c = omega arith
-
 pub returns-then-limit-word_at : goal.returns-then-limit-word_at
 returns-then-limit-word_at c =
     let l = c.loop-i in
@@ -35,9 +29,3 @@ returns c =
     let l = c.loop-i in
     let a = c.args in
     sym (none_below a.limit a.k a.n l.i (drop (11 * l.i) a.words.now) c.loop-i-test.false) ∙ l.invariant
-
-pub overflow_add-i-in-loop-i : goal.overflow_add-i-in-loop-i
-overflow_add-i-in-loop-i c = omega arith
-
-pub loop-i-smaller : goal.loop-i-smaller
-loop-i-smaller c = omega arith

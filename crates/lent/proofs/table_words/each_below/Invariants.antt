@@ -6,6 +6,3 @@ use Rattle.lent.proofs.table_words.each_below.Given as goal
 
 abbrev pub invariant-loop-i : goal.invariant-loop-i
 invariant-loop-i l = each_below l.limit l.k (l.n - l.i) (drop (11 * l.i) l.words) ≡ each_below l.limit l.k l.n l.words
-
-abbrev pub decreases-loop-i : goal.decreases-loop-i
-decreases-loop-i l = l.n - l.i

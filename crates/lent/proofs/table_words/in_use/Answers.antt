@@ -5,14 +5,8 @@ use lib.ListN.{length, length-take}
 use Rattle.sources.proofs.Turns.{length-mapped}
 use Rattle.lent.proofs.table_words.in_use.Goals as goal
 
-pub returns-then-t-gt-MOST : goal.returns-then-t-gt-MOST
-returns-then-t-gt-MOST c =
-    let t = c.args.t in
-    let long : length t.places ≡ 16 = search (rules, length-mapped) in
-    omega (arith, long, length-take t.count t.places, c.if-t-gt-MOST.true)
-
 pub returns : goal.returns
 returns c =
     let t = c.args.t in
     let long : length t.places ≡ 16 = search (rules, length-mapped) in
-    omega (arith, long, length-take t.count t.places, c.if-t-gt-MOST.false)
+    omega (arith, long, length-take t.count t.places, c.min.ensures)

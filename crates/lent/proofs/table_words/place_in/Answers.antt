@@ -10,4 +10,4 @@ pub returns : goal.returns
 returns c =
     let words = c.args.words.now in
     let rest = take_all (length words - 1) (drop 1 words) (omega (arith, length-drop 1 words)) in
-    λ i. record { ssrc = get_or words 0 0 % 2 ^ 32; source = (c.read-source.ensures ∙ ap source_near rest) i }
+    λ i. record { ssrc = get_or words 0 0 % 2 ^ 32; source = (c.read.ensures ∙ ap source_near rest) i }

@@ -11,7 +11,7 @@ pub returns : goal.returns
 returns c =
     let a = c.args in
     let first = c.put.ensures in
-    let new = c.words_of-new.ensures in
+    let new = c.words_of.ensures in
     c.put_all.ensures
     ∙ ap₂ (λ (l n : List ℕ). sets l (a.at + 1) n) first new
     ∙ ap (λ (k : ℕ). sets (set a.words.now a.at a.p.ssrc) k (source_words a.p.source)) (add-one a.at)

@@ -18,24 +18,6 @@ loop-i-init c =
     let long : length t.places ≡ 16 = search (rules, length-mapped) in
     (refl, omega (arith, c.in_use-n.ensures, length-take t.count t.places, long), c.in_use-n.ensures, refl)
 
-pub offset_bounds-t-i : goal.offset_bounds-t-i
-offset_bounds-t-i c = omega arith
-
-pub bounds-t-i : goal.bounds-t-i
-bounds-t-i c = omega arith
-
-pub overflow_mul-i : goal.overflow_mul-i
-overflow_mul-i c = omega arith
-
-pub put_place-requires : goal.put_place-requires
-put_place-requires c = omega arith
-
-pub overflow_add-i : goal.overflow_add-i
-overflow_add-i c = omega arith
-
-pub loop-i-smaller : goal.loop-i-smaller
-loop-i-smaller c = omega arith
-
 pub loop-i-preserved : goal.loop-i-preserved
 loop-i-preserved c =
     let l = c.loop-i in

@@ -1,5 +1,5 @@
 use mathlib.Core.Path.{◌≡◌}
-use Prim.Native.Nat.{◌-◌, ◌*◌, ◌≤◌}
+use Prim.Native.Nat.{◌*◌, ◌≤◌}
 use lib.ListN.{length, drop}
 use lib.Seq.{sets}
 use Rattle.sources.specs.Tables.{lent}
@@ -12,6 +12,3 @@ invariant-loop-i l =
     × (l.n ≤ 16)
     × (l.n ≡ length (lent l.t))
     × (sets l.words (11 * l.i) (table_words (drop l.i (lent l.t))) ≡ sets l.initial.words 0 (table_words (lent l.t)))
-
-abbrev pub decreases-loop-i : goal.decreases-loop-i
-decreases-loop-i l = l.n - l.i

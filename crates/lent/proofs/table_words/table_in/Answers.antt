@@ -14,17 +14,8 @@ loop-i-init c =
     let all : a.n - 0 ≡ a.n = omega arith in
     (omega arith, ap (λ t. t.count) c.empty-t.ensures, (λ i. sets (c.empty-t.ensures i).places 0 (places_near (all i) a.words.now)))
 
-pub overflow_mul-at : goal.overflow_mul-at
-overflow_mul-at c = omega arith
-
-pub offset_bounds-words-at : goal.offset_bounds-words-at
-offset_bounds-words-at c = omega arith
-
-pub slice_bounds-place_in-count : goal.slice_bounds-place_in-count
-slice_bounds-place_in-count c = omega arith
-
-pub place_in-p-requires : goal.place_in-p-requires
-place_in-p-requires c =
+pub place_in-requires : goal.place_in-requires
+place_in-requires c =
     let l = c.loop-i in
     let words = c.args.words.now in
     let at = 11 * l.i in
@@ -37,7 +28,7 @@ loop-i-preserved c =
     let words = a.words.now in
     let at = 11 * l.i in
     let rest = take_all (length words - at) (drop at words) (omega (arith, length-drop at words)) in
-    let here = c.place_in-p.ensures ∙ ap place_near rest in (
+    let here = c.place_in.ensures ∙ ap place_near rest in (
       omega arith,
       l.invariant.1,
       (λ j. sets (set l.t.places l.i (here j)) (l.i + 1) (places_near (a.n - (l.i + 1)) (drop (11 * (l.i + 1)) words)))
@@ -52,9 +43,3 @@ returns c =
     let none : a.n - l.i ≡ 0 = omega arith in
     let stored = ap (λ (k : ℕ). sets l.t.places l.i (places_near k (drop (11 * l.i) a.words.now))) none in
     all_taken place_near a.n a.words.now l.t (omega arith) l.invariant.1 (sym stored ∙ l.invariant.2)
-
-pub overflow_add-i : goal.overflow_add-i
-overflow_add-i c = omega arith
-
-pub loop-i-smaller : goal.loop-i-smaller
-loop-i-smaller c = omega arith

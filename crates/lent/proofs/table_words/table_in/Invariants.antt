@@ -11,6 +11,3 @@ invariant-loop-i l =
     (l.i ≤ l.n)
     × (l.t.count ≡ l.n)
     × (sets l.t.places l.i (places_near (l.n - l.i) (drop (11 * l.i) l.words)) ≡ sets (replicate 16 empty_place) 0 (places_near l.n l.words))
-
-abbrev pub decreases-loop-i : goal.decreases-loop-i
-decreases-loop-i l = l.n - l.i

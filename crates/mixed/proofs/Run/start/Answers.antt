@@ -1,15 +1,16 @@
-use borrow.Enum.Refused.{opened}
+use Rattle.std.specs.Prelude.{Ok}
+use Rattle.std.proofs.lemmas.Result.{err_from_is_err_and}
 use mathlib.Core.Path.{sym, ap, ◌∙◌}
-use Rattle.mixed.specs.declared.Begin.TheVariants as begin
-use Rattle.mixed.proofs.Calls.{start_other, start_label}
+use Rattle.mixed.proofs.Calls.{start_by_lem}
 use Rattle.mixed.proofs.Run.start.Goals as goal
 
-pub returns-in_default : goal.returns-in_default
-returns-in_default c =
-    let read = c.read_block-read in
-    ap begin.Refused c.fault_of.ensures ∙ sym (start_other c.args.zeroth.now read.result (sym read.ensures.value) (opened c.in_default.in_default-own.keys2))
+pub returns-in_err-read : goal.returns-in_err-read
+returns-in_err-read c =
+    let p = err_from_is_err_and c.from_residual.result c.from_residual.ensures.1 in
+    rw (p.1, p.2) (sym (start_by_lem c.args.zeroth.now (sym c.read_block.ensures.value ∙ c.in_err-read.was)))
 
-pub returns : goal.returns
-returns c =
-    let read = c.read_block-read in
-    sym (start_label c.args.zeroth.now (sym read.ensures.value ∙ c.in-Label.is))
+pub returns-in-Label : goal.returns-in-Label
+returns-in-Label c = sym (start_by_lem c.args.zeroth.now (sym c.read_block.ensures.value ∙ c.in_ok-read.was ∙ ap Ok c.in-Label.is))
+
+pub returns-in-Arrivals : goal.returns-in-Arrivals
+returns-in-Arrivals c = sym (start_by_lem c.args.zeroth.now (sym c.read_block.ensures.value ∙ c.in_ok-read.was ∙ ap Ok c.in-Arrivals.is))

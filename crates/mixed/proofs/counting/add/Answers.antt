@@ -12,11 +12,10 @@ use Rattle.mixed.proofs.Stored.{line_added}
 use Rattle.mixed.proofs.Calls.{is_sound_lem, new_full, new_goes, takes_refuses, takes_goes}
 use Rattle.mixed.proofs.counting.add.Goals as goal
 
-pub returns-then-held-ge-MOST : goal.returns-then-held-ge-MOST
-returns-then-held-ge-MOST c =
+pub returns-then-run-ge-MOST : goal.returns-then-run-ge-MOST
+returns-then-run-ge-MOST c =
     let a = c.args in
-    rw c.refused.ensures
-    (takes_refuses a.run a.lines.now (new_full (counted a.run.form a.n a.block.now) a.ssrc a.run.held a.lines.now c.if-held-ge-MOST.true))
+    takes_refuses a.run a.lines.now (new_full (counted a.run.form a.n a.block.now) a.ssrc a.run.held a.lines.now c.if-run-ge-MOST.true)
 
 pub lower-at-requires : goal.lower-at-requires
 lower-at-requires c = let s = is_sound_lem c.requires.0 in (s.few, omega (arith, s.room, s.few))
@@ -24,13 +23,13 @@ lower-at-requires c = let s = is_sound_lem c.requires.0 in (s.few, omega (arith,
 pub push-requires : goal.push-requires
 push-requires c =
     let s = is_sound_lem c.requires.0 in
-    let room = c.if-held-ge-MOST.false in
+    let room = c.if-run-ge-MOST.false in
     (c.lower-at.ensures.1, omega (arith, room), omega (arith, room, s.room))
 
 pub slice_bounds-store-end : goal.slice_bounds-store-end
 slice_bounds-store-end c =
     let s = is_sound_lem c.requires.0 in
-    let room = c.if-held-ge-MOST.false in
+    let room = c.if-run-ge-MOST.false in
     omega (arith, room, s.room, c.lower-at.ensures.1, c.push.auto.lines)
 
 pub returns : goal.returns
@@ -39,7 +38,7 @@ returns c =
     let ws = a.lines.now in
     let n = a.run.held in
     let count = counted a.run.form a.n a.block.now in
-    let room = c.if-held-ge-MOST.false in
+    let room = c.if-run-ge-MOST.false in
     let lower = c.lower-at in
     let push = c.push in
     let store = c.store in

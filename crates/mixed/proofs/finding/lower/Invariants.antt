@@ -8,6 +8,3 @@ use Rattle.mixed.proofs.finding.lower.Given as goal
 abbrev pub invariant-loop-i : goal.invariant-loop-i
 invariant-loop-i l =
     (l.i ≤ l.n) × (l.i + lower_by ssrc_in l.ssrc (lines_in (l.n - l.i) (drop (13 * l.i) l.lines)) ≡ lower_by ssrc_in l.ssrc (lines_in l.n l.lines))
-
-abbrev pub decreases-loop-i : goal.decreases-loop-i
-decreases-loop-i l = l.n - l.i

@@ -6,9 +6,9 @@ use lib.ListN.{length, take, drop, get_or}
 use Rattle.answers.proofs.Stores.{wrote_refused, wrote_same}
 use Rattle.table.specs.Lines as lines
 use Rattle.table.proofs.Faults.{fault_none}
-use Rattle.mixed.specs.Lines.{totals_in, loaded_by}
+use Rattle.mixed.specs.Lines.{totals_in}
 use Rattle.mixed.specs.Rows.{label_of, row_of}
-use Rattle.mixed.proofs.Taking.{loaded_held, loaded_malformed, taken_sound}
+use Rattle.mixed.proofs.Taking.{taken_sound}
 use Rattle.mixed.proofs.Calls.{is_sound_lem}
 use Rattle.mixed.proofs.Told.{is_own, row_wide, row_no_line, row_goes, row_is}
 use Rattle.mixed.proofs.rows.write.Goals.{After-load, Start}
@@ -22,11 +22,11 @@ small : (c : Start) → 13 * c.args.i ≤ 208
 small c = let s = is_sound_lem c.requires.0 in omega (arith, s.few, c.requires.2)
 
 -- what was loaded was line i
-told : (c : After-load) → loaded_by (totals_in (take 13 (drop (13 * c.args.i) c.args.lines.now))) ≡ c.load.result
+told : (c : After-load) → totals_in (take 13 (drop (13 * c.args.i) c.args.lines.now)) ≡ c.load.result
 told c =
     let a = c.args in
     let size : 13 ≡ 13 * a.i + 13 - 13 * a.i = omega arith in
-    ap (λ (k : ℕ). loaded_by (totals_in (take k (drop (13 * a.i) a.lines.now)))) size ∙ sym c.load.ensures
+    ap (λ (k : ℕ). totals_in (take k (drop (13 * a.i) a.lines.now))) size ∙ sym c.load.ensures
 
 pub overflow_mul-from : goal.overflow_mul-from
 overflow_mul-from c = omega (arith, small (goal.at.overflow_mul-from c).Start)
@@ -55,7 +55,7 @@ slice_bounds-load-end c = omega (arith, inside (goal.at.slice_bounds-load-end c)
 pub returns-in_default : goal.returns-in_default
 returns-in_default c =
     let a = c.args in
-    let none = loaded_malformed (totals_in (take 13 (drop (13 * a.i) a.lines.now))) (told (goal.at.returns-in_default c).After-load ∙ c.in_default.is) in
+    let none = told (goal.at.returns-in_default c).After-load ∙ c.in_default.is in
     wrote_refused (row_of a.run a.i a.lines.now a.zeroth.now) a.out.now
     (row_no_line a.run a.i a.lines.now a.zeroth.now c.requires.0 c.requires.1 c.requires.2 c.if-ssrc-gt-MOST_SSRC.false none)
 
@@ -73,8 +73,8 @@ returns c =
     let a = c.args in
     let ws = a.lines.now in
     let zeroth = a.zeroth.now in
-    let t = c.in-Held.totals in
-    let found = loaded_held (totals_in (take 13 (drop (13 * a.i) ws))) t (told (goal.at.returns c).After-load ∙ c.in-Held.is) in
+    let t = c.in-Some.totals in
+    let found = told (goal.at.returns c).After-load ∙ c.in-Some.is in
     let sound = taken_sound (take 13 (drop (13 * a.i) ws)) t found in
     let own = is_own a.run zeroth c.requires.1 in
     let few = c.if-ssrc-gt-MOST_SSRC.false in

@@ -24,19 +24,19 @@ returns-then-read16-label c =
     let label = c.label in
     all_false (own_conditions a.run a.zeroth.now) 1 (ap₂ eqb (sym kind.ensures) (sym label.ensures) ∙ ne_eqb kind.result label.result c.if-read16-label.true)
 
-pub returns-then-read16-length : goal.returns-then-read16-length
+pub returns-then-read16-run : goal.returns-then-read16-run
 unfolding own_label
-returns-then-read16-length c =
+returns-then-read16-run c =
     let a = c.args in
     let count = c.read16-2 in
     all_false (own_conditions a.run a.zeroth.now) 2 (ap (λ (n : ℕ). eqb n a.run.length) (sym count.ensures)
-    ∙ ne_eqb count.result a.run.length c.if-read16-length.true)
+    ∙ ne_eqb count.result a.run.length c.if-read16-run.true)
 
-pub returns-then-length-gt-BODY_BYTES : goal.returns-then-length-gt-BODY_BYTES
+pub returns-then-run-gt-BODY_BYTES : goal.returns-then-run-gt-BODY_BYTES
 unfolding own_label
-returns-then-length-gt-BODY_BYTES c =
+returns-then-run-gt-BODY_BYTES c =
     let a = c.args in
-    all_false (own_conditions a.run a.zeroth.now) 3 (lt-leb a.run.length body_bytes c.if-length-gt-BODY_BYTES.true)
+    all_false (own_conditions a.run a.zeroth.now) 3 (lt-leb a.run.length body_bytes c.if-run-gt-BODY_BYTES.true)
 
 pub returns : goal.returns
 returns c =
@@ -48,4 +48,4 @@ returns c =
     c.is_label.ensures
     ∙ ap (λ (k : ℕ). label_ok (take k (drop 8 a.zeroth.now))) same
     ∙ own_last a.run a.zeroth.now c.if-zeroth-ne-BLOCK.false (sym kind.ensures ∙ c.if-read16-label.false ∙ form.ensures)
-    (sym count.ensures ∙ c.if-read16-length.false) c.if-length-gt-BODY_BYTES.false
+    (sym count.ensures ∙ c.if-read16-run.false) c.if-run-gt-BODY_BYTES.false

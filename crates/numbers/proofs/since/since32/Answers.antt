@@ -1,4 +1,4 @@
-use Rattle.std.proofs.Common.{◌^◌, rules}
+use Rattle.std.proofs.Common.{◌^◌, arith}
 use Rattle.numbers.specs.Since.{since}
 use Rattle.numbers.proofs.Differences.{since_unique}
 use Rattle.numbers.proofs.since.since32.Goals as goal
@@ -7,4 +7,4 @@ pub returns : goal.returns
 unfolding since
 returns c =
     let a = c.args in
-    since_unique (2 ^ 32) a.later a.earlier c.wrapping_sub_u32.result (search rules) (search rules) (search rules) c.wrapping_sub_u32.ensures.value
+    since_unique (2 ^ 32) a.later a.earlier _ (omega arith) (omega arith) (omega arith) (omega arith)

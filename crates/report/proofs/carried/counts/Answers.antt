@@ -14,6 +14,6 @@ returns c =
       ect1 = a.s.ect1 % 2 ^ 32;
       ce = a.s.ce % 2 ^ 16;
       notect = a.s.notect % 2 ^ 16;
-      lost = (c.low16-carried.ensures ∙ ap (modulo (2 ^ 16)) (seen_is a.lost c.ranges.lost ∙ c.requires)) i;
+      lost = (c.low16.ensures ∙ ap (modulo (2 ^ 16)) (seen_is a.lost c.ranges.lost ∙ c.requires)) i;
       duplicates = a.s.duplicates % 2 ^ 16;
     }

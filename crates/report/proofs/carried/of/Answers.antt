@@ -1,30 +1,31 @@
 use borrow.Author.Rules.{rules}
 use mathlib.Core.Path.{sym, ap, ap₂, ◌∙◌}
-use Prim.Native.Nat.{◌^◌}
+use Prim.Native.Nat.{ℕ, ◌^◌}
+use Rattle.std.specs.Prelude.{Ok, Result}
+use Rattle.std.proofs.lemmas.Result.{err_from_is_err_and}
+use Rattle.answers.specs.declared.Refusal.{Refusal}
 use Rattle.numbers.specs.Integers.{modulo}
 use Rattle.numbers.proofs.Signed.{seen_is}
-use Rattle.source.proofs.Losses.{Counted, lost_refused, lost_packets}
+use Rattle.format.specs.declared.Counts.{Counts}
+use Rattle.source.proofs.Losses.{lost_packets}
+use Rattle.report.specs.declared.carried.Carried.{Carried}
 use Rattle.report.specs.Carried.{carried_of}
-use Rattle.report.specs.declared.carried.Carried.TheVariants.{Fields}
-use Rattle.report.proofs.carried.of.Goals.{After-highest-1}
+use Rattle.report.proofs.Faults.{carried_refused}
 use Rattle.report.proofs.carried.of.Goals as goal
 
-known : (c : After-highest-1) → Counted c.args.s c.in-Packets.lost
-known c = lost_packets c.args.s (sym c.lost.ensures.value ∙ c.in-Packets.is)
-
 pub counts-requires : goal.counts-requires
-counts-requires c =
-    let n = known (goal.at.counts-requires c).After-highest-1 in
-    seen_is c.in-Packets.lost (search rules) ∙ n.is
+counts-requires c = seen_is c.in_ok-lost.lost (search rules) ∙ (lost_packets c.args.s (sym c.lost.ensures.value ∙ c.in_ok-lost.was)).is
 
-pub returns-in-Refused : goal.returns-in-Refused
-unfolding carried_of
-returns-in-Refused c = rw (lost_refused c.args.s (sym c.lost.ensures.value ∙ c.in-Refused.is))
+pub returns-in_err-lost : goal.returns-in_err-lost
+returns-in_err-lost c =
+    let p = err_from_is_err_and c.from_residual.result c.from_residual.ensures.1 in
+    rw (p.1, p.2) (carried_refused c.args.s (sym c.lost.ensures.value ∙ c.in_err-lost.was))
 
-pub returns-in-Packets : goal.returns-in-Packets
+pub returns : goal.returns
 unfolding carried_of
-returns-in-Packets c =
+returns c =
     let s = c.args.s in
-    let n = known (goal.at.returns-in-Packets c).After-highest-1 in
+    let n = lost_packets s (sym c.lost.ensures.value ∙ c.in_ok-lost.was) in
     let highest = c.low32.ensures ∙ ap (modulo (2 ^ 32)) (seen_is s.highest.0 (search rules)) in
-    rw n.good (ap₂ Fields highest c.counts.ensures)
+    let carried : (h : ℕ) → Counts → Result Carried Refusal = λ h k. Ok (record { highest = h; counts = k }) in
+    rw n.good (ap₂ carried highest c.counts.ensures)

@@ -1,5 +1,5 @@
 use mathlib.Core.Path.{◌≡◌}
-use Prim.Native.Nat.{◌-◌, ◌*◌, ◌≤◌}
+use Prim.Native.Nat.{◌*◌}
 use lib.ListN.{length, drop}
 use lib.Seq.{sets}
 use Rattle.report.specs.Reports.{words_bytes}
@@ -7,8 +7,5 @@ use Rattle.report.proofs.layout.put_words.Given as goal
 
 abbrev pub invariant-loop-i : goal.invariant-loop-i
 invariant-loop-i l =
-    (length l.out ≡ length l.initial.out) × (l.i ≤ length l.words)
+    (length l.out ≡ length l.initial.out)
     × (sets l.out (4 * l.i) (words_bytes (drop l.i l.words)) ≡ sets l.initial.out 0 (words_bytes l.words))
-
-abbrev pub decreases-loop-i : goal.decreases-loop-i
-decreases-loop-i l = length l.words - l.i

@@ -5,7 +5,7 @@ use lib.ListN.{length}
 use Rattle.answers.proofs.Conditions.{was_true, was_false}
 use Rattle.rtcp.specs.EcnReports.{feedback, feedback_in}
 use Rattle.rtcp.proofs.Whole.{feedback_within}
-use Rattle.rtcp.proofs.ecn.feedback_in.Goals.{Else-not-is_feedback}
+use Rattle.rtcp.proofs.ecn.feedback_in.Goals.{Else-not-is_feedback, then-not-is_feedback-via-then-not-is_feedback, then-not-is_feedback-via-else-not-is_feedback+then-number32-media}
 use Rattle.rtcp.proofs.ecn.feedback_in.Goals as goal
 
 -- feedback lies whole in the compound
@@ -15,16 +15,18 @@ within c =
     let s = c.requires in
     omega (arith, s.whole, feedback_within a.header a.b.now a.at s (was_true c.is_feedback.ensures c.if-not-is_feedback.false))
 
-pub returns-then-not-is_feedback : goal.returns-then-not-is_feedback
-unfolding feedback_in
-returns-then-not-is_feedback c = rw (was_false c.is_feedback.ensures c.if-not-is_feedback.true)
-
 pub number32-requires : goal.number32-requires
 number32-requires c = omega (arith, within ((goal.at.number32-requires c).Else-not-is_feedback))
 
-pub returns-then-number32-media : goal.returns-then-number32-media
+-- no feedback, or about another source
+pub returns-then-not-is_feedback : goal.returns-then-not-is_feedback
 unfolding feedback_in
-returns-then-number32-media c = rw (was_true c.is_feedback.ensures c.if-not-is_feedback.false, ← c.number32.ensures, ne_eqb _ _ c.if-number32-media.true)
+returns-then-not-is_feedback c =
+    elim c.then-not-is_feedback.branch [
+      | then-not-is_feedback-via-then-not-is_feedback w ↦ rw (was_false c.is_feedback.ensures w.if-not-is_feedback.true)
+      | then-not-is_feedback-via-else-not-is_feedback+then-number32-media w ↦
+          rw (was_true c.is_feedback.ensures w.if-not-is_feedback.false, ← w.number32.ensures, ne_eqb _ _ w.if-number32-media.true)
+    ]
 
 pub number32-requires-2 : goal.number32-requires-2
 number32-requires-2 c = omega (arith, within (goal.at.number32-requires-2 c).Else-not-is_feedback)

@@ -13,19 +13,19 @@ returns-in_default c =
 pub without-requires : goal.without-requires
 without-requires c =
     let a = c.args in
-    let inside = front_next a.self.form a.self.ssrc a.piece.now c.sound_front-front.ensures c.in-Refused.is in
+    let inside = front_next a.self.form a.self.ssrc a.piece.now c.sound_front-front.ensures c.in-Some.is in
     omega (arith, inside, c.well_formed)
 
-pub returns-in-Going-next : goal.returns-in-Going-next
-returns-in-Going-next c =
+pub returns-in-None-ended : goal.returns-in-None-ended
+returns-in-None-ended c =
     let a = c.args in
-    takes_whole a.self a.piece.now c.in-Going.is c.sound_front-front.ensures c.in-Going-next.is c.moved.ensures
+    takes_whole a.self a.piece.now c.in-None.is c.sound_front-front.ensures c.in-None-ended.is c.moved.ensures
 
-pub returns-in-Refused : goal.returns-in-Refused
-returns-in-Refused c =
+pub returns-in-Some : goal.returns-in-Some
+returns-in-Some c =
     let a = c.args in
     let front = c.sound_front-front in
     let w = c.without in
     subst⁻¹ (λ (q : Portion). TakesBy a.self q a.err.now w.result w.new.err)
-    (portion_front a.self a.piece.now c.in-Going.is front.ensures c.in-Refused.is)
+    (portion_front a.self a.piece.now c.in-None.is front.ensures c.in-Some.is)
     w.ensures

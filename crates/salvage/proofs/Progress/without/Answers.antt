@@ -1,6 +1,5 @@
-use borrow.Enum.Refused.{opened}
+use Rattle.std.specs.Prelude.{Some}
 use mathlib.Core.Path.{ap, ap₂}
-use mathlib.Core.Option.{some}
 use native.Mathlib.Omega.{arith}
 use Rattle.table.specs.Lines.{refused_line}
 use Rattle.salvage.specs.declared.Progress.{Progress}
@@ -11,7 +10,7 @@ use Rattle.salvage.proofs.Progress.without.Goals as goal
 pub returns-in_default : goal.returns-in_default
 returns-in_default c =
     let a = c.args in
-    takes_none a.self (portion_by a.self.block a.many (some a.refusal)) c.none_taken.ensures (opened c.in_default.in_default-own.keys2)
+    takes_none a.self (portion_by a.self.block a.many (Some a.refusal)) c.none_taken.ensures c.in_default.is
     (ap₂ refused_line c.number.ensures (ap (λ (p : Progress). p.block) c.moved-at.ensures))
     c.write_refused-answer.ensures
 
@@ -19,6 +18,6 @@ pub returns : goal.returns
 returns c =
     let a = c.args in
     let at = c.moved-at in
-    takes_all a.self (portion_by a.self.block a.many (some a.refusal)) c.in-Length.is (omega arith) (omega arith) (moved_more a.self a.many at.ensures c.moved.ensures)
+    takes_all a.self (portion_by a.self.block a.many (Some a.refusal)) c.in-Ok.is (omega arith) (omega arith) (moved_more a.self a.many at.ensures c.moved.ensures)
     (ap₂ refused_line c.number.ensures (ap (λ (p : Progress). p.block) at.ensures))
     c.write_refused-answer.ensures

@@ -1,5 +1,5 @@
 use borrow.Author.Rules.{rules}
-use mathlib.Core.Path.{sym, subst}
+use mathlib.Core.Path.{refl, sym, subst}
 use native.Mathlib.Omega.{arith}
 use Rattle.answers.proofs.Conditions.{was_true, was_false}
 use Rattle.sdp.specs.declared.steps.Part.TheVariants as part
@@ -10,11 +10,11 @@ use Rattle.sdp.proofs.Walking.{Walking, walking_starts, walking_ends, turn_none,
 use Rattle.sdp.proofs.reader.read.Goals as goal
 
 pub returns-then-line-gt255 : goal.returns-then-line-gt255
-returns-then-line-gt255 c = rw c.refused.ensures (Reads.long c.if-line-gt255.true)
+returns-then-line-gt255 c = Reads.long c.if-line-gt255.true
 
 pub returns-then-not-is_attribute : goal.returns-then-not-is_attribute
 returns-then-not-is_attribute c =
-    rw c.refused-then-not-is_attribute.ensures (reads_unnamed _ c.if-line-gt255.false (was_false c.is_attribute.ensures c.if-not-is_attribute.true))
+    reads_unnamed _ c.if-line-gt255.false (was_false c.is_attribute.ensures c.if-not-is_attribute.true)
 
 pub loop-at-init : goal.loop-at-init
 loop-at-init c =
@@ -32,7 +32,7 @@ noted-tally-requires c =
 
 pub returns-in-Nothing : goal.returns-in-Nothing
 returns-in-Nothing c =
-    turn_none _ _ _ _ c.loop-at.invariant (search rules) c.step_at-step.ensures c.in-Nothing.is c.refused-in-Nothing.ensures
+    turn_none _ _ _ _ c.loop-at.invariant (search rules) c.step_at-step.ensures c.in-Nothing.is refl
 
 pub returns-in-Last : goal.returns-in-Last
 returns-in-Last c =
@@ -49,4 +49,4 @@ loop-at-preserved c =
     (turn_more _ _ _ _ c.loop-at.invariant (search rules) c.step_at-step.ensures c.in-More.is c.noted-tally.ensures).0
 
 pub returns : goal.returns
-returns c = walking_ends _ _ _ _ c.loop-at.invariant (search rules) c.refused-2.ensures
+returns c = walking_ends _ _ _ _ c.loop-at.invariant (search rules) refl

@@ -12,5 +12,5 @@ slice_bounds-method_item-end c =
 
 pub returns : goal.returns
 returns c =
-    method_some _ _ c.requires.1 c.token_end-end.ensures c.if-end-at.false c.method_item-item.ensures
+    method_some _ _ c.requires.1 c.token_end-end.ensures c.if-end-at.false c.method_item.ensures
     c.behind_method.ensures

@@ -1,15 +1,23 @@
-use native.Mathlib.Omega.{arith}
-use Rattle.sdp.proofs.Texting.{grown_grown, parms_behind}
+use Rattle.sdp.specs.Writing.{with_parms}
+use Rattle.sdp.proofs.Texting.{grown_none, grown_grown, parms_behind}
 use Rattle.sdp.proofs.writer.with_parms.Goals as goal
 
-pub with_ect_behind-requires : goal.with_ect_behind-requires
-with_ect_behind-requires c =
-    omega (arith, c.with_mode-first.ensures.bounded, c.with-space.ensures.long, c.requires)
+pub returns-in-None-None : goal.returns-in-None-None
+unfolding with_parms
+returns-in-None-None c = rw (c.in-None-None.is-0, c.in-None-None.is-1) (grown_none _)
 
-pub returns-in-Absent : goal.returns-in-Absent
-returns-in-Absent c = rw c.in-Absent.is c.with_ect_alone.ensures
+pub returns-in-None-Some : goal.returns-in-None-Some
+unfolding with_parms
+returns-in-None-Some c = rw (c.in-None-Some.is-0, c.in-None-Some.is-1) (grown_grown c.with.ensures c.with_ect.ensures)
 
-pub returns-in-Present : goal.returns-in-Present
-returns-in-Present c =
-    rw (c.in-Present.is, parms_behind)
-    (grown_grown (grown_grown c.with-space.ensures c.with_mode-first.ensures.grown) c.with_ect_behind.ensures)
+pub returns-in-Some-None : goal.returns-in-Some-None
+unfolding with_parms
+returns-in-Some-None c =
+    rw (c.in-Some-None.is-0, c.in-Some-None.is-1) (grown_grown c.with-in-Some-None.ensures c.with_mode.ensures.grown)
+
+pub returns-in-Some-Some : goal.returns-in-Some-Some
+unfolding with_parms
+returns-in-Some-Some c =
+    rw (c.in-Some-Some.is-0, c.in-Some-Some.is-1, parms_behind)
+    (grown_grown (grown_grown c.with-in-Some-Some.ensures c.with_mode-in-Some-Some.ensures.grown)
+    (grown_grown c.with-in-Some-Some-2.ensures c.with_ect-in-Some-Some.ensures))

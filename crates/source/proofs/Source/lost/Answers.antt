@@ -1,10 +1,10 @@
+use Rattle.std.specs.Prelude.{Ok}
 use borrow.Author.Rules.{rules}
 use mathlib.Core.Path.{sym, ap, ◌∙◌}
 use Rattle.answers.proofs.Conditions.{was_false, was_true}
 use Rattle.source.specs.Numbered.{lost_as}
 use Rattle.source.proofs.Facts.{sound_has_counted}
 use Rattle.numbers.proofs.Signed.{seen_is}
-use Rattle.source.specs.declared.Lost.TheVariants.{Packets}
 use Rattle.source.specs.Record.{lost, lost_answer}
 use mathlib.Core.Path.{ap}
 use Rattle.source.proofs.Source.lost.Goals as goal
@@ -33,7 +33,7 @@ packets-requires c =
 pub returns-clause-value : goal.returns-clause-value
 unfolding lost_answer
 returns-clause-value c =
-    rw (was_true c.is_sound.ensures c.if-not-is_sound.false) (ap Packets (seen_is c.packets.result (search rules) ∙ c.packets.ensures))
+    rw (was_true c.is_sound.ensures c.if-not-is_sound.false) (ap Ok (seen_is c.packets.result (search rules) ∙ c.packets.ensures))
 
 pub returns-clause-numbered : goal.returns-clause-numbered
 returns-clause-numbered c = ap lost_as (returns-clause-value c)

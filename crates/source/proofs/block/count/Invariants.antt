@@ -1,10 +1,11 @@
-use Prim.Native.Nat.{◌-◌, ◌≤◌}
-use lib.ListN.{length}
+use Rattle.std.proofs.Common.{◌≡◌}
+use Rattle.std.specs.Slice.Iter.{chunks_exact_rest, chunks_exact_size}
 use Rattle.source.proofs.Packets.{CountLeft}
 use Rattle.source.proofs.block.count.Given as goal
 
-abbrev pub invariant-loop-at : goal.invariant-loop-at
-invariant-loop-at l = (4 ≤ l.width) × CountLeft l.width l.records l.initial.next l.at l.next l.jumps l.restarts
-
-abbrev pub decreases-loop-at : goal.decreases-loop-at
-decreases-loop-at l = length l.records - l.at
+abbrev pub invariant-loop-record : goal.invariant-loop-record
+invariant-loop-record l =
+    (goal.iterator-loop-record).can_next l.record-iterator ×
+    (goal.iterator-loop-record).is_finite l.record-iterator ×
+    (chunks_exact_size l.record-iterator ≡ l.width) ×
+    CountLeft l.width l.records l.initial.next (chunks_exact_rest l.record-iterator) l.next l.jumps l.restarts

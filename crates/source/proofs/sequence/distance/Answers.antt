@@ -21,5 +21,5 @@ pub returns : goal.returns
 unfolding distance
 returns c =
     let a = c.args in
-    distance_nat a.wire.0 c.natural-h.result (search rules)
-    ∙ ap (λ (z : ℤ). modulo 65536 (pos a.wire.0 -ℤ z)) (sym c.natural-h.ensures)
+    rw c.from.ensures (distance_nat a.wire.0 c.natural.result (search rules)
+    ∙ ap (λ (z : ℤ). modulo 65536 (pos a.wire.0 -ℤ z)) (sym c.natural.ensures))

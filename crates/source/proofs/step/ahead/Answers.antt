@@ -1,8 +1,4 @@
-use mathlib.Core.Path.{ap₂, ◌∙◌}
-use Rattle.source.specs.Arrivals.{counted, ahead}
 use Rattle.source.proofs.Facts.{facts, highest_fits}
-use Rattle.source.specs.declared.History.{History}
-use Rattle.source.specs.declared.Extended.{Extended}
 use Rattle.source.proofs.step.ahead.Goals as goal
 
 pub plus-next-requires : goal.plus-next-requires
@@ -13,10 +9,3 @@ plus-next-requires c =
 pub moved_on-moved-requires : goal.moved_on-moved-requires
 moved_on-moved-requires c =
     (c.requires.2, (facts c.args.s c.requires.0).fits)
-
-pub returns : goal.returns
-unfolding ahead
-returns c =
-    let a = c.args in
-    c.counted.ensures
-    ∙ ap₂ (λ (e : Extended) (h : History). counted a.s a.mark a.s.base e a.s.duplicates h) c.plus-next.ensures c.moved_on-moved.ensures

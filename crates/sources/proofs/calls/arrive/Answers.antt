@@ -1,22 +1,22 @@
+use Rattle.std.specs.Prelude.{Option}
 use mathlib.Core.Path.{sym, ap, ◌∙◌}
-use mathlib.Core.Option.{Option}
 use Rattle.answers.specs.declared.Refusal.{Refusal}
 use Rattle.sources.specs.Seeing.{fault_seen}
 use Rattle.sources.specs.Changes.{arriving_by}
 use Rattle.sources.proofs.Checking.{by_refused, by_held}
 use Rattle.sources.proofs.calls.arrive.Goals as goal
 
-pub returns-in-Refused : goal.returns-in-Refused
+pub returns-in-Err : goal.returns-in-Err
 unfolding arriving_by
-returns-in-Refused c =
+returns-in-Err c =
     let a = c.args in
     c.not_arriving.ensures
     ∙ sym (ap (λ (f : Option Refusal). arriving_by f a.seen a.ssrc a.wire a.mark)
-    (by_refused (fault_seen a.seen) a.seen.held (sym c.in-Refused.is ∙ c.judged.ensures)))
+    (by_refused (fault_seen a.seen) a.seen.held (sym c.in-Err.is ∙ c.judged.ensures)))
 
-pub returns-in-Held : goal.returns-in-Held
-returns-in-Held c =
+pub returns-in-Ok : goal.returns-in-Ok
+returns-in-Ok c =
     let a = c.args in
     c.arrive_held.ensures
     ∙ sym (ap (λ (f : Option Refusal). arriving_by f a.seen a.ssrc a.wire a.mark)
-    (by_held (fault_seen a.seen) a.seen.held (sym c.in-Held.is ∙ c.judged.ensures)))
+    (by_held (fault_seen a.seen) a.seen.held (sym c.in-Ok.is ∙ c.judged.ensures)))

@@ -46,20 +46,20 @@ slice_bounds-renewed-count c = omega arith
 pub slice_bounds-renewed-end : goal.slice_bounds-renewed-end
 slice_bounds-renewed-end c = omega (arith, c.loop-at.invariant.within, c.loop-at-test.true)
 
-pub offset_bounds-table-i-in-Held : goal.offset_bounds-table-i-in-Held
-offset_bounds-table-i-in-Held c = omega (arith, c.place_of-i.ensures)
+pub offset_bounds-table-i-in-Some : goal.offset_bounds-table-i-in-Some
+offset_bounds-table-i-in-Some c = omega (arith, c.place_of-i.ensures)
 
-pub bounds-table-i-in-Held : goal.bounds-table-i-in-Held
-bounds-table-i-in-Held c = c.place_of-i.ensures
+pub bounds-table-i-in-Some : goal.bounds-table-i-in-Some
+bounds-table-i-in-Some c = c.place_of-i.ensures
 
-pub offset_bounds-tallies-i-in-Held : goal.offset_bounds-tallies-i-in-Held
-offset_bounds-tallies-i-in-Held c = omega (arith, c.place_of-i.ensures)
+pub offset_bounds-tallies-i-in-Some : goal.offset_bounds-tallies-i-in-Some
+offset_bounds-tallies-i-in-Some c = omega (arith, c.place_of-i.ensures)
 
-pub bounds-tallies-i-in-Held : goal.bounds-tallies-i-in-Held
-bounds-tallies-i-in-Held c = c.place_of-i.ensures
+pub bounds-tallies-i-in-Some : goal.bounds-tallies-i-in-Some
+bounds-tallies-i-in-Some c = c.place_of-i.ensures
 
-pub returns-in-Other : goal.returns-in-Other
-returns-in-Other c = let l = c.loop-at in (l.invariant.onward, run_good _ l.invariant.whole.good)
+pub returns-in-None : goal.returns-in-None
+returns-in-None c = let l = c.loop-at in (l.invariant.onward, run_good _ l.invariant.whole.good)
 
 pub loop-at-smaller : goal.loop-at-smaller
 loop-at-smaller c = omega (arith, c.loop-at.invariant.within, c.loop-at-test.true)
@@ -73,7 +73,7 @@ loop-at-preserved c =
     let octets : Octets piece = λ j. omega (arith, c.shared_slice_known-1.given j) in
     loop_turn l.invariant c.loop-at-test.true octets i
     (subst (Renews a.start.form (get_or l.table.places i empty_place) (get_or l.tallies i no_tally) (take (l.at + 512 - l.at) (drop l.at piece)))
-    c.in-Held.is c.renewed.ensures)
+    c.in-Some.is c.renewed.ensures)
 
 pub returns : goal.returns
 returns c = let l = c.loop-at in (l.invariant.onward, run_good _ l.invariant.whole.good)

@@ -1,7 +1,7 @@
+use Rattle.std.specs.Prelude.{None}
 use mathlib.Core.Path.{ap}
-use Rattle.walk.specs.declared.Ended.TheVariants.{Going}
 use Rattle.sources.specs.declared.runs.Run.{Run}
 use Rattle.sources.proofs.pieces.not_begun.Goals as goal
 
 pub returns : goal.returns
-returns c = ap (λ (r : Run). record { run = r; block = 0; ended = Going }) c.empty.ensures
+returns c = ap (λ (r : Run). record { run = r; block = 0; ended = None }) c.empty.ensures

@@ -1,5 +1,6 @@
 use borrow.Author.Rules.{rules}
 use Prim.Native.Nat.{◌+◌, ◌-◌, ◌≤◌}
+use mathlib.Core.Path.{sym, ◌∙◌}
 use native.Mathlib.Omega.{arith}
 use lib.ListN.{take, drop}
 use Rattle.numbers.proofs.BigEndian.{Octets}
@@ -47,14 +48,14 @@ slice_bounds-step-count c = omega arith
 pub slice_bounds-step-end : goal.slice_bounds-step-end
 slice_bounds-step-end c = omega (arith, (taken (goal.at.slice_bounds-step-end c).After-take-known).within, c.if-piece-from-lt-BLOCK.false)
 
-pub returns-in-Refused : goal.returns-in-Refused
-returns-in-Refused c =
+pub returns-in-Some : goal.returns-in-Some
+returns-in-Some c =
     let a = c.args in
     let run = c.take-known.result.run in
     let at = c.take-known.result.at in
-    taking_refused (bytes (goal.at.returns-in-Refused c).After-shared_slice_known-1) (taken (goal.at.returns-in-Refused c).After-take-known)
+    taking_refused (bytes (goal.at.returns-in-Some c).After-shared_slice_known-1) (taken (goal.at.returns-in-Some c).After-take-known)
     (omega (arith, c.if-piece-from-lt-BLOCK.false))
-    (told_refuses run (next_of run (take (at + 512 - at) (drop at a.piece.now))) c.step-next.result c.step-next.ensures c.in-Refused.is)
+    (told_refuses run (next_of run (take (at + 512 - at) (drop at a.piece.now))) c.step-next.result c.step-next.ensures (sym c.refusal_in.ensures ∙ c.in-Some.is))
 
 pub loop-at-smaller : goal.loop-at-smaller
 loop-at-smaller c =
@@ -68,7 +69,7 @@ loop-at-preserved c =
     let at = c.take-known.result.at in
     taking_more (bytes (goal.at.loop-at-preserved c).After-shared_slice_known-1) (taken (goal.at.loop-at-preserved c).After-take-known)
     (omega (arith, c.if-piece-from-lt-BLOCK.false))
-    (told_goes run (next_of run (take (at + 512 - at) (drop at a.piece.now))) c.step-next.result c.step-next.ensures c.in_default.not-Refused)
+    (told_goes run (next_of run (take (at + 512 - at) (drop at a.piece.now))) c.step-next.result c.step-next.ensures (sym c.refusal_in.ensures ∙ c.in_default.is))
 
 pub returns : goal.returns
 returns c = let l = c.loop-at in taking_last (bytes (goal.at.returns c).After-shared_slice_known-1) l.invariant (omega (arith, c.loop-at-test.false))

@@ -11,16 +11,16 @@ slice_bounds-write_held-start c = omega (arith, c.requires.2)
 pub write_held-requires : goal.write_held-requires
 write_held-requires c = (c.requires.0, c.requires.1)
 
-pub returns-in-Length : goal.returns-in-Length
-returns-in-Length c =
+pub returns-in-Ok : goal.returns-in-Ok
+returns-in-Ok c =
     let a = c.args in
     let row = row_of a.run a.i a.zeroth.now in
     let w = c.write_held.ensures.0 in
-    (sym (ap length_in c.in-Length.is) ∙ ap length_in (put_size a.out.now row _ a.at _ c.requires.2 w), put_there a.out.now row _ a.at _ c.requires.2 w)
+    (sym (ap length_in c.in-Ok.is) ∙ ap length_in (put_size a.out.now row _ a.at _ c.requires.2 w), put_there a.out.now row _ a.at _ c.requires.2 w)
 
-pub returns-in_default : goal.returns-in_default
-returns-in_default c =
+pub returns-in-Err : goal.returns-in-Err
+returns-in-Err c =
     let a = c.args in
     let row = row_of a.run a.i a.zeroth.now in
     let w = c.write_held.ensures.0 in
-    absurd (never_other _ (put_size a.out.now row _ a.at _ c.requires.2 w) c.in_default.not-Length)
+    absurd (never_other _ (put_size a.out.now row _ a.at _ c.requires.2 w) c.in-Err.is)

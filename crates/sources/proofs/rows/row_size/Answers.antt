@@ -1,3 +1,4 @@
+use Rattle.std.specs.Prelude.{Err}
 use mathlib.Core.Path.{sym, ap, ◌∙◌}
 use native.Mathlib.Omega.{arith}
 use Rattle.answers.specs.Writers.{size_in}
@@ -8,23 +9,23 @@ use Rattle.sources.proofs.rows.row_size.Goals as goal
 pub write_held-requires : goal.write_held-requires
 write_held-requires c = c.requires
 
-pub returns-in-Length : goal.returns-in-Length
-returns-in-Length c =
+pub returns-in-Ok : goal.returns-in-Ok
+returns-in-Ok c =
     let a = c.args in
     let w = c.write_held.ensures in
-    let e = sym (ap size_in c.in-Length.is) ∙ size_told (row_of a.run a.i a.zeroth.now) _ _ w.0.answers in
+    let e = sym (ap size_in c.in-Ok.is) ∙ size_told (row_of a.run a.i a.zeroth.now) _ _ w.0.answers in
     (e, omega (arith, e, w.1))
 
-pub returns-in-Room : goal.returns-in-Room
-returns-in-Room c =
+pub returns-in-Err-Room : goal.returns-in-Err-Room
+returns-in-Err-Room c =
     let a = c.args in
     let w = c.write_held.ensures in
-    let e = sym (ap size_in c.in-Room.is) ∙ size_told (row_of a.run a.i a.zeroth.now) _ _ w.0.answers in
+    let e = sym (ap size_in (c.in-Err-Room.is ∙ ap Err c.in-Err-Room.field-0-is)) ∙ size_told (row_of a.run a.i a.zeroth.now) _ _ w.0.answers in
     (e, omega (arith, e, w.1))
 
-pub returns-in-Refused : goal.returns-in-Refused
-returns-in-Refused c =
+pub returns-in-Err-Refused : goal.returns-in-Err-Refused
+returns-in-Err-Refused c =
     let a = c.args in
     let w = c.write_held.ensures in
-    let e = sym (ap size_in c.in-Refused.is) ∙ size_told (row_of a.run a.i a.zeroth.now) _ _ w.0.answers in
+    let e = sym (ap size_in (c.in-Err-Refused.is ∙ ap Err c.in-Err-Refused.field-0-is)) ∙ size_told (row_of a.run a.i a.zeroth.now) _ _ w.0.answers in
     (e, omega arith)

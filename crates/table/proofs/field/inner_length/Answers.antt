@@ -10,19 +10,19 @@ use Rattle.table.proofs.field.inner_length.Goals as goal
 
 -- the byte of a turn
 abbrev byte : (c : After-byte_length-count) → ℕ
-byte c = get_or c.args.s.now c.loop-i.i 0
+byte c = get_or c.args.s.now c.loop-c.c-index 0
 
-pub loop-i-init : goal.loop-i-init
-loop-i-init c = (search rules, search rules, zero-add _)
+pub loop-c-init : goal.loop-c-init
+loop-c-init c = (search rules, zero-add _)
 
 pub overflow_add-count : goal.overflow_add-count
 overflow_add-count c = omega (arith, byte_length (byte (goal.at.overflow_add-count c).After-byte_length-count))
 
-pub loop-i-preserved : goal.loop-i-preserved
-loop-i-preserved c =
-    let loop = c.loop-i in
-    let turn = length-turn c.args.s.now loop.i c.loop-i-test.true in
-    (omega arith, omega (arith, byte_length (byte (goal.at.loop-i-preserved c).After-byte_length-count)), omega (arith, turn))
+pub loop-c-preserved : goal.loop-c-preserved
+loop-c-preserved c =
+    let loop = c.loop-c in
+    let turn = length-turn c.args.s.now loop.c-index c.loop-c-test.true in
+    (omega (arith, byte_length (byte (goal.at.loop-c-preserved c).After-byte_length-count)), omega (arith, turn))
 
 pub returns : goal.returns
-returns c = omega (arith, ap length (doubled_done c.args.s.now c.loop-i.i c.loop-i-test.false))
+returns c = omega (arith, ap length (doubled_done c.args.s.now c.loop-c.c-index c.loop-c-test.false))

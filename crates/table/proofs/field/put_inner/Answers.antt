@@ -1,4 +1,3 @@
-use borrow.Author.Rules.{rules}
 use mathlib.Core.Path.{refl, ap, ◌∙◌}
 use Prim.Native.Nat.{◌+◌}
 use native.Mathlib.Omega.{arith}
@@ -8,26 +7,25 @@ use Rattle.table.specs.Field.{doubled, doubled_byte}
 use Rattle.answers.proofs.Stores.{sets-step}
 use Rattle.table.proofs.field.put_inner.Goals as goal
 
-pub loop-i-init : goal.loop-i-init
-loop-i-init c = (search rules, refl, refl, refl)
+pub loop-c-init : goal.loop-c-init
+loop-c-init c = (refl, refl, refl)
 
 pub put_byte-place-requires : goal.put_byte-place-requires
 put_byte-place-requires c =
-    omega (arith, length-turn c.args.s.now c.loop-i.i c.loop-i-test.true)
+    omega (arith, length-turn c.args.s.now c.loop-c.c-index c.loop-c-test.true)
 
-pub loop-i-preserved : goal.loop-i-preserved
-loop-i-preserved c =
-    let loop = c.loop-i in
+pub loop-c-preserved : goal.loop-c-preserved
+loop-c-preserved c =
+    let loop = c.loop-c in
     let s = c.args.s.now in
     let put = c.put_byte-place in
-    let turn = c.loop-i-test.true in (
-      omega arith,
-      omega (arith, length-turn s loop.i turn),
-      put.auto.out ∙ loop.invariant.2,
-      sets-step _ _ (doubled_byte (get_or s loop.i 0)) (doubled (drop (loop.i + 1) s)) (doubled_turn s loop.i turn) put.ensures.written put.ensures.value ∙ loop.invariant.3,
+    let turn = c.loop-c-test.true in (
+      omega (arith, length-turn s loop.c-index turn),
+      put.auto.out ∙ loop.invariant.1,
+      sets-step _ _ (doubled_byte (get_or s loop.c-index 0)) (doubled (drop (loop.c-index + 1) s)) (doubled_turn s loop.c-index turn) put.ensures.written put.ensures.value ∙ loop.invariant.2,
     )
 
 pub returns : goal.returns
 returns c =
-    let done = doubled_done c.args.s.now c.loop-i.i c.loop-i-test.false in
-    record { value = omega (arith, ap length done); written = rw done at c.loop-i.invariant.3 }
+    let done = doubled_done c.args.s.now c.loop-c.c-index c.loop-c-test.false in
+    record { value = omega (arith, ap length done); written = rw done at c.loop-c.invariant.2 }

@@ -15,8 +15,8 @@ pub returns : goal.returns
 returns c =
     let a = c.args in
     let high = c.magnitude-high.result in
-    let size = c.magnitude-size.result in
+    let size = c.magnitude.result in
     let below = lt_z (seen a.lost) (pos 0) in
     let highest = highest_decimal a.t.source c.requires.1 ∙ ap decimal (sym (size_of a.t.source.highest.0 (search rules) c.magnitude-high.ensures)) in
-    let lost = ap signed (sym c.requires.2) ∙ signed_parts a.lost c.ranges.lost ∙ ap (minus below) (sym (size_of a.lost c.ranges.lost c.magnitude-size.ensures)) in
+    let lost = ap signed (sym c.requires.2) ∙ signed_parts a.lost c.ranges.lost ∙ ap (minus below) (sym (size_of a.lost c.ranges.lost c.magnitude.ensures)) in
     wrote_same refl (sym (row_parts a.label.now a.ssrc a.t high below size highest lost)) c.line.ensures

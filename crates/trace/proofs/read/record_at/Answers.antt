@@ -1,3 +1,4 @@
+use Rattle.std.specs.Prelude.{Ok}
 use Rattle.std.proofs.Common.{◌≡◌, ℕ, ◌+◌, ◌*◌, ◌≤◌, true, refl, ap, ◌∙◌, arith}
 use borrow.Enum.Refused.{opened}
 use Rattle.trace.specs.Numbered.{found_as}
@@ -9,7 +10,6 @@ use Rattle.trace.proofs.Decisions.{count_right, kind_told, found_short, found_wh
 use Rattle.trace.specs.Contents.{count_ok}
 use Rattle.trace.specs.Layout.{record_at, body_of}
 use Rattle.trace.specs.Reading.{found_by, found_at}
-use Rattle.trace.specs.declared.Found.TheVariants.{Is}
 use mathlib.Core.Path.{ap}
 use Rattle.trace.proofs.read.record_at.Goals.{After-width, Else-not-is_count, In-Arrivals}
 use Rattle.trace.proofs.read.record_at.Goals as goal
@@ -66,7 +66,7 @@ pub returns-clause-value : goal.returns-clause-value
 returns-clause-value c =
     let a = c.args in
     let form = c.in-Arrivals.form in
-    ap Is (c.record_in.ensures ∙ ap (λ (w : ℕ). record_at (shape_of form) (body_of a.b.now) (a.i * w)) c.width.ensures)
+    ap Ok (c.record_in.ensures ∙ ap (λ (w : ℕ). record_at (shape_of form) (body_of a.b.now) (a.i * w)) c.width.ensures)
     ∙ found_here a.b.now a.i form c.read16-count.ensures (count (goal.at.returns-clause-value c).Else-not-is_count) c.if-count-i.false ∙ arrivals (goal.at.returns-clause-value c).In-Arrivals
 
 pub returns-clause-numbered : goal.returns-clause-numbered

@@ -9,16 +9,16 @@ returns-then-not-is_sound c =
     let both = closes_numbered (closes_unchanged (close_malformed a.self a.lent.now (was_false c.is_sound.ensures c.if-not-is_sound.true)) refl refl) in
     record { closes = both.0; numbered = both.1 }
 
-pub returns-in-Refused : goal.returns-in-Refused
-returns-in-Refused c =
+pub returns-in-Some : goal.returns-in-Some
+returns-in-Some c =
     let a = c.args in
     let e = was_true c.is_sound.ensures c.if-not-is_sound.false in
-    let both = closes_numbered (closes_unchanged (close_sound a.self a.lent.now e c.in-Refused.is) c.repeated.ensures.0 c.repeated.ensures.1) in
+    let both = closes_numbered (closes_unchanged (close_sound a.self a.lent.now e c.in-Some.is) c.repeated.ensures.0 c.repeated.ensures.1) in
     record { closes = both.0; numbered = both.1 }
 
-pub returns-in-Going : goal.returns-in-Going
-returns-in-Going c =
+pub returns-in-None : goal.returns-in-None
+returns-in-None c =
     let a = c.args in
     let e = was_true c.is_sound.ensures c.if-not-is_sound.false in
-    let both = closes_numbered (rw (close_sound a.self a.lent.now e c.in-Going.is) (c.closed.ensures a.lent.now)) in
+    let both = closes_numbered (rw (close_sound a.self a.lent.now e c.in-None.is) (c.closed.ensures a.lent.now)) in
     record { closes = both.0; numbered = both.1 }

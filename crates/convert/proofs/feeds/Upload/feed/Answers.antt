@@ -12,18 +12,18 @@ returns-then-not-is_sound c =
     record { feeds = both.0; numbered = both.1 }
 
 pub take_stretch-requires : goal.take_stretch-requires
-take_stretch-requires c = (was_true c.is_sound.ensures c.if-not-is_sound.false, c.in-Going.is)
+take_stretch-requires c = (was_true c.is_sound.ensures c.if-not-is_sound.false, c.in-None.is)
 
-pub returns-in-Refused : goal.returns-in-Refused
-returns-in-Refused c =
+pub returns-in-Some : goal.returns-in-Some
+returns-in-Some c =
     let a = c.args in
     let e = was_true c.is_sound.ensures c.if-not-is_sound.false in
-    let both = feeds_numbered (feeds_unchanged a.out.now (feed_sound a.self a.lent.now a.stretch.now (length a.out.now) e c.in-Refused.is) c.repeated.ensures.0 c.repeated.ensures.1) in
+    let both = feeds_numbered (feeds_unchanged a.out.now (feed_sound a.self a.lent.now a.stretch.now (length a.out.now) e c.in-Some.is) c.repeated.ensures.0 c.repeated.ensures.1) in
     record { feeds = both.0; numbered = both.1 }
 
-pub returns-in-Going : goal.returns-in-Going
-returns-in-Going c =
+pub returns-in-None : goal.returns-in-None
+returns-in-None c =
     let a = c.args in
     let e = was_true c.is_sound.ensures c.if-not-is_sound.false in
-    let both = feeds_numbered (rw (feed_sound a.self a.lent.now a.stretch.now (length a.out.now) e c.in-Going.is) c.take_stretch.ensures) in
+    let both = feeds_numbered (rw (feed_sound a.self a.lent.now a.stretch.now (length a.out.now) e c.in-None.is) c.take_stretch.ensures) in
     record { feeds = both.0; numbered = both.1 }

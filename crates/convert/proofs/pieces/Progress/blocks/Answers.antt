@@ -12,7 +12,7 @@ pub returns-then-not-is_sound : goal.returns-then-not-is_sound
 returns-then-not-is_sound c =
     let a = c.args in
     rw c.none_taken-then-not-is_sound.ensures
-    (takes_malformed a.self a.zeroth.now a.piece.now a.out.now c.in-Going.is (was_false c.is_sound.ensures c.if-not-is_sound.true))
+    (takes_malformed a.self a.zeroth.now a.piece.now a.out.now c.in-None.is (was_false c.is_sound.ensures c.if-not-is_sound.true))
 
 pub take_fitting-reach-requires : goal.take_fitting-reach-requires
 take_fitting-reach-requires c = was_true c.is_sound.ensures c.if-not-is_sound.false
@@ -20,5 +20,5 @@ take_fitting-reach-requires c = was_true c.is_sound.ensures c.if-not-is_sound.fa
 pub returns : goal.returns
 returns c =
     let a = c.args in
-    takes_fitted a.self a.zeroth.now a.piece.now a.out.now c.in-Going.is (was_true c.is_sound.ensures c.if-not-is_sound.false)
+    takes_fitted a.self a.zeroth.now a.piece.now a.out.now c.in-None.is (was_true c.is_sound.ensures c.if-not-is_sound.false)
     c.take_fitting-reach.ensures c.number_after.ensures

@@ -5,14 +5,14 @@ use Rattle.convert.proofs.pieces.Progress.end.Goals as goal
 pub returns-then-rest-eq0 : goal.returns-then-rest-eq0
 returns-then-rest-eq0 c =
     let a = c.args in
-    ends_none a.self a.rest.now a.out.now a.err.now (end_whole a.self a.rest.now c.in-Going.is c.if-rest-eq0.true)
+    ends_none a.self a.rest.now a.out.now a.err.now (end_whole a.self a.rest.now c.in-None.is c.if-rest-eq0.true)
 
-pub returns-in-Refused : goal.returns-in-Refused
-returns-in-Refused c =
+pub returns-in-Some : goal.returns-in-Some
+returns-in-Some c =
     let a = c.args in
-    ends_line a.self a.rest.now (end_refused a.self a.rest.now c.in-Refused.is) c.refused_at.ensures
+    ends_line a.self a.rest.now (end_refused a.self a.rest.now c.in-Some.is) c.refused_at.ensures
 
 pub returns-else-rest-eq0 : goal.returns-else-rest-eq0
 returns-else-rest-eq0 c =
     let a = c.args in
-    ends_line a.self a.rest.now (end_part a.self a.rest.now c.in-Going.is (omega (arith, c.if-rest-eq0.false))) c.refused_at-in-Going.ensures
+    ends_line a.self a.rest.now (end_part a.self a.rest.now c.in-None.is (omega (arith, c.if-rest-eq0.false))) c.refused_at-in-None.ensures

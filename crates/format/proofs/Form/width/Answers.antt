@@ -1,7 +1,0 @@
-use Rattle.format.proofs.Form.width.Goals as goal
-
-pub returns-in-One : goal.returns-in-One
-returns-in-One c = rw c.in-One.is
-
-pub returns-in-Two : goal.returns-in-Two
-returns-in-Two c = rw c.in-Two.is

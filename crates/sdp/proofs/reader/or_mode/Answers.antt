@@ -1,4 +1,0 @@
-use Rattle.sdp.proofs.reader.or_mode.Goals as goal
-
-pub returns-in-Absent : goal.returns-in-Absent
-returns-in-Absent c = rw c.in-Absent.is
