@@ -25,7 +25,7 @@ pub some_between : (n : ℕ) → 1 ≤ n → n ≤ last_number → meaning_fault
 unfolding meaning_fault
 some_between n l h = rw (le-leb 1 n l, le-leb n last_number h)
 
--- each of Some texts is short
+-- each of some texts is short
 each_short : (most : ℕ) (texts : List (List ℕ)) → all (map (λ t. leb (length t) most) texts) ≡ true → (n : ℕ) → length (get_or texts n []) ≤ most
 each_short most [] t n = omega arith
 each_short most (x ∷ texts) t zero = leb-true (length x) most (and_left (leb (length x) most) _ t)

@@ -7,7 +7,7 @@ use Rattle.breaker.specs.declared.Breaker.{Breaker}
 use Rattle.breaker.specs.declared.Step.{Step}
 use Rattle.breaker.specs.Answers.{reason_number}
 
--- whether to reduce, and the number of the reason to stop, 0 for None; a refusal says neither
+-- whether to reduce, and the number of the reason to stop, 0 for none; a refusal says neither
 pub record Verdict : Type 0 where
   pub reduce : Bool
   pub reason : ℕ

@@ -122,7 +122,7 @@ pub enum Answer {
     Refused(Refusal),
 }
 
-// The answer, and the next breaker. (An enum cannot hold the window's array.)
+// The answer, and the next breaker.
 #[derive(Clone, Copy)]
 pub struct Step {
     pub answer: Answer,

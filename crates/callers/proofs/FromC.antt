@@ -58,7 +58,7 @@ module _ (ps : List TruePacket) (d : Described ps) where
   same : source_of (end_words ps) ≡ run ps
   same = sym (held (end_words ps) read).2 ∙ sym end.state
 
-  -- no refusal for the words, and so None where the values have None
+  -- no refusal for the words, and so none where the values have none
   unrefused : {f : Option Refusal} → f ≡ None → record_fault (end_words ps) f ≡ None
   unfolding record_fault
   unrefused e = rw (is_source_lem, e)

@@ -24,7 +24,7 @@ end_words ps = arrive_chain (replicate 10 0) (map passed ps)
 -- each function is given by its contract: whatever it answers and leaves of these words, it answers and leaves that of the count
 pub record EndFromC (ps : List TruePacket) : Type 0 where
   pub chain : Chain ps
-  -- the next call reads the words as the record that the last handed back, which is sound: None is refused with 9
+  -- the next call reads the words as the record that the last handed back, which is sound: none is refused with 9
   pub read : loaded (end_words ps) ≡ Some (count (arrivals ps))
   pub sound : sound (count (arrivals ps)) ≡ true
   -- flasknib_write_feedback and flasknib_write_summary, whatever the SSRCs and the output

@@ -41,13 +41,13 @@ closed_words h = words_by h.words (closed_of h.words h.lent)
 
 -- ---- however a trace is cut
 
--- the number of a run's refusal, 0 for None
+-- the number of a run's refusal, 0 for none
 abbrev pub end_number : Option Ending → ℕ
 end_number None = 0
 end_number (Some e) = number_of e.refusal
 
 -- what was fed and then closed is the run in one go: the head line, the rows joined and the line of close's refusal are what ecntable prints; close's answer is
--- the refusal, 0 for None; its block is the word of the blocks; and the run in the words is that of the walk
+-- the refusal, 0 for none; its block is the word of the blocks; and the run in the words is that of the walk
 pub record WordsInOne (trace : List ℕ) (h : Holding) : Type 0 where
   pub prints : printed trace ≡ to_output (head_bytes ++ (h.rows ++ (closing (ending_in (closed_of h.words h.lent).answer)).out))
   pub answer : close_code (closed_of h.words h.lent).answer ≡ end_number (walked ecntable (blocks_of trace)).ended

@@ -96,7 +96,7 @@ TellsLost words old r found =
 
 -- ---- flasknib_write_feedback, flasknib_write_summary
 
--- "Ok", ECN feedback: 9, 12; or its 32 bytes
+-- "Packets", ECN feedback: 9, 12; or its 32 bytes
 abbrev pub WritesFeedback : List ℕ → ℕ → ℕ → List ℕ → ℤ → List ℕ → Type 0
 WritesFeedback words sender media old r out =
     Gives length_code
@@ -104,7 +104,7 @@ WritesFeedback words sender media old r out =
     (feedback_bytes sender media (source_of words))
     old r out
 
--- "Ok", the ECN summary block: 9, 12; or its 24 bytes
+-- "Packets", the ECN summary block: 9, 12; or its 24 bytes
 abbrev pub WritesSummary : List ℕ → ℕ → List ℕ → ℤ → List ℕ → Type 0
 WritesSummary words media old r out =
     Gives length_code

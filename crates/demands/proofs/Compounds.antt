@@ -109,7 +109,7 @@ module _ (sender : ℕ) (hs : sender < 2 ^ 32) (q : Place) (hq : q.ssrc < 2 ^ 32
   unfolding blocks
   no_blocks = rw its_kind
 
-  -- None of its checks fails
+  -- none of its checks fails
   passes : (profile : Profile) (more : List Check) → first_fault (packet_checks profile (header_at head 0) b at ++ more) ≡ first_fault more
   unfolding header_at padding padding_right may_stand body_right is_report is_feedback word
   passes Profile.Compound more =

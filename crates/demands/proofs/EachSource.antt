@@ -34,7 +34,7 @@ use Rattle.demands.proofs.OneCall.{good_behind, ssrcs_behind, others_stay, own_c
 
 -- ---- the calls one after the other
 
--- the first call, which brings the packets `front` to the source if it names it, and else None
+-- the first call, which brings the packets `front` to the source if it names it, and else none
 module _ (ps : List Place) (good : fault ps ≡ None) (c : Call) (h : Fits c) (ssrc : ℕ) (seat : cond (eqb (named c) ssrc) (seated_call ps c) true ≡ true) where
   record First (front : List TruePacket) : Type 0 where
     state : record_of ssrc (behind_call ps c) ≡ run_from (record_of ssrc ps) front

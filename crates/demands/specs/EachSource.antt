@@ -42,7 +42,7 @@ pub record ReadsBack (ps : List Place) (sender : ℕ) (profile : Profile) : Type
   pub held : (i : ℕ) → i < length (held_of ps)
       → reading (compound_bytes sender ps) (get_or (held_of ps) i empty_place).ssrc profile
       ≡ only_feedback (Some (feedback_from sender (get_or (held_of ps) i empty_place).source))
-  -- about any other: None
+  -- about any other: none
   pub others : (ssrc : ℕ) → new_to ssrc ps ≡ true → reading (compound_bytes sender ps) ssrc profile ≡ only_feedback None
 
 abbrev pub CompoundReadsBack : Type 0
@@ -93,7 +93,7 @@ abbrev pub places_suffice : ℕ → List Place → List Call → Bool
 places_suffice ssrc ps [] = true
 places_suffice ssrc ps (c ∷ calls) = cond (eqb (named c) ssrc) (seated_call ps c) true && places_suffice ssrc (behind_call ps c) calls
 
--- the packets that a call brings: an arrival its own; a block those of its records, and None where they are outside the limits, which is refused with 10
+-- the packets that a call brings: an arrival its own; a block those of its records, and none where they are outside the limits, which is refused with 10
 abbrev pub brought : Call → List Packet
 brought (arrives a) = record { wire = a.wire; mark = a.mark } ∷ []
 brought (counts ssrc width bytes) = cond (outside width bytes) [] (packets width (length bytes / width) bytes)
@@ -131,7 +131,7 @@ pub record SourceOutcome (ps : List Place) (calls : List Call) (ssrc : ℕ) (tps
   pub answers : AllAnswered ssrc ps calls
   -- neither 16 nor 9 refuses the table at the end
   pub good : fault (behind_all ps calls) ≡ None
-  -- the source's record there is what the count over its arrivals gives, and a place holds it where there are Some
+  -- the source's record there is what the count over its arrivals gives, and a place holds it where there are some
   pub state : record_of ssrc (behind_all ps calls) ≡ count (arrivals tps)
   pub place : 1 ≤ length (arrivals tps) → found ssrc (held_of (behind_all ps calls)) ≡ Some (count (arrivals tps))
   -- and the table's compound carries that count of it

@@ -41,7 +41,7 @@ single = (singly block_calls).blocks ((singly block_calls).begin label).state c1
 abbrev pub single_given : Printed
 single_given = both ((singly block_calls).begin label).printed (both single.printed ((singly block_calls).end single.state []))
 
--- ---- a program of which each block prints one byte, and which refuses None
+-- ---- a program of which each block prints one byte, and which refuses none
 
 abbrev pub one : Program (Unit {0})
 one = record {

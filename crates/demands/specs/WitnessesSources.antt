@@ -29,7 +29,7 @@ abbrev pub one_block : List Call
 one_block = counts 3 8 (one_record 255 250 2 ++ one_record 255 161 0 ++ one_record 0 4 3 ++ one_record 0 4 1) ∷ []
 
 pub record MetSources : Type 0 where
-  -- CompoundReadsBack, with a held place and an SSRC that None holds
+  -- CompoundReadsBack, with a held place and an SSRC that none holds
   pub good : fault some_table ≡ None
   pub ssrcs : ssrcs_fit (held_of some_table) ≡ true
   pub sender : 9 < 2 ^ 32

@@ -66,7 +66,7 @@ run_of words ws = record {
 abbrev pub are_words : List ℕ → List ℕ → List Bool
 are_words words ws = eqb (length words) 3 ∷ leb 208 (length ws) ∷ leb (held_in words) most_places ∷ []
 
--- the rules of a table: in rising order of SSRC, None twice, and each has an arrival counted
+-- the rules of a table: in rising order of SSRC, none twice, and each has an arrival counted
 abbrev pub is_held : List ℕ → Bool
 is_held line = held (place_in line)
 

@@ -11,7 +11,7 @@ abbrev pub line_as : Result Attribute Refusal → Numbered Attribute
 line_as (Ok attribute) = succeeds attribute
 line_as (Err refusal) = refuses refusal nothing
 
--- an offer: what the answer carries, or None where the attribute is left out
+-- an offer: what the answer carries, or none where the attribute is left out
 abbrev pub negotiated_as : Result (Option Chosen) Refusal → Numbered (Option Chosen)
 negotiated_as (Ok (Some c)) = succeeds (Some c)
 negotiated_as (Ok None) = succeeds None

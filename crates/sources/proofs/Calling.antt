@@ -183,7 +183,7 @@ module _ (ssrc : ℕ) (t : Table) where
         go true = full_is
         go false = refl
 
-    -- 10 and 15, and None
+    -- 10 and 15, and none
     module _ (out : Bool) where
       refused_limits : out ≡ true → refusal out ssrc (lent t) ≡ Some Limits
       unfolding refusal

@@ -29,7 +29,7 @@ use Rattle.sources.proofs.Behind.{free, rest_behind, record_sound, next_some, ar
 
 -- ---- in either order
 
--- a call that is taken meets None of 16, 9, 10 and 15
+-- a call that is taken meets none of 16, 9, 10 and 15
 taken_free : (ps : List Place) (a : Arrival) → taken (answer ps a) ≡ true → refusal (ltb 3 a.mark) a.ssrc ps ≡ None
 unfolding arrive_answer
 taken_free ps a e = go (refusal (ltb 3 a.mark) a.ssrc ps) e

@@ -1,4 +1,4 @@
--- The refusals of a run, case by case, and what is known of one that None meets. Assumes nothing.
+-- The refusals of a run, case by case, and what is known of one that none meets. Assumes nothing.
 use Rattle.std.specs.Prelude.{Option, Some, None, Ok, Err}
 use mathlib.Core.Path.{◌≡◌, refl, sym, ap, ◌∙◌}
 use mathlib.Core.Bool.{Bool, true, false, cond, and-true}

@@ -1,4 +1,4 @@
--- The rules of a table, and the refusals that come before a call's own (document 02, L1): 16, table against these rules or over 16 places; 9, Some held
+-- The rules of a table, and the refusals that come before a call's own (document 02, L1): 16, table against these rules or over 16 places; 9, some held
 -- record is malformed.
 use Rattle.std.specs.Prelude.{ℕ, ◌+◌, Bool, true, cond, not, ◌&&◌, List, [], ◌∷◌, map, leb, length, Option, Some, None}
 use Rattle.answers.specs.Conditions.{all}
@@ -11,7 +11,7 @@ use Rattle.sources.specs.Places.{empty, sound_place, held_of, rest_of}
 abbrev pub most_places : ℕ
 most_places = 16
 
--- rising order of SSRC, None twice: the first is at least `least`, and each other above the one before
+-- rising order of SSRC, none twice: the first is at least `least`, and each other above the one before
 unfoldable pub rising : ℕ → List Place → Bool
 rising least [] = true
 rising least (p ∷ ps) = leb least p.ssrc && rising (p.ssrc + 1) ps

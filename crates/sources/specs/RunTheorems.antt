@@ -73,7 +73,7 @@ Rising [] = Unit {0}
 Rising (a ∷ []) = Unit {0}
 Rising (a ∷ b ∷ ss) = (a < b) × Rising (b ∷ ss)
 
--- lines in rising order of SSRC, so that None has two, and at most 16
+-- lines in rising order of SSRC, so that none has two, and at most 16
 pub record InOrder (ls : List Line) : Type 0 where
   pub rising : Rising (map (λ l. l.ssrc) ls)
   pub few : length ls ≤ most_places

@@ -78,7 +78,7 @@ unfoldable pub seen_from : ℕ → Seen → ℕ → List Place → Seen
 seen_from ssrc s i [] = s
 seen_from ssrc s i (p ∷ ps) = seen_from ssrc (seen_next s i p ssrc) (suc i) ps
 
--- the first `count` places; None where there are over 16
+-- the first `count` places; none where there are over 16
 unfoldable pub seen_in : ℕ → ℕ → List Place → Seen
 seen_in ssrc count ps = seen_from ssrc (seen_first count) 0 (take (in_use count) ps)
 

@@ -113,7 +113,7 @@ unfoldable pub Wires : List Arrival → Type 0
 Wires [] = Unit {0}
 Wires (a ∷ rest) = (a.wire.0 < 65536) × Wires rest
 
--- whatever calls for other sources come between; from the fresh record where the table had None
+-- whatever calls for other sources come between; from the fresh record where the table had none
 abbrev pub EachSourceAlone : Type 0
 EachSourceAlone =
     (ps : List Place) (calls : List Arrival) (ssrc : ℕ) → Wires calls → fault ps ≡ None → places_suffice ssrc ps calls ≡ true

@@ -42,7 +42,7 @@ lower = calling 3 100 1
 abbrev pub next : Arrival
 next = calling 7 0 3
 
--- with them a jump, a mark above 3, a source that takes the last place, and one that finds None
+-- with them a jump, a mark above 3, a source that takes the last place, and one that finds none
 abbrev pub some_calls : List Arrival
 some_calls = lower ∷ calling 7 30000 2 ∷ next ∷ calling 3 101 4 ∷ calling 9 5 0 ∷ calling 11 5 0 ∷ []
 

@@ -67,6 +67,6 @@ unfoldable pub record_of : ℕ → List ℕ → Option Split
 record_of zero s = None
 record_of (suc most) s = go_on (record_of most) (field s)
 
--- the first record of a text, or None where it does not begin with a whole one
+-- the first record of a text, or none where it does not begin with a whole one
 unfoldable pub split : List ℕ → Option Split
 split s = record_of (suc (length s)) s

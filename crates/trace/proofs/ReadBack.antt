@@ -166,7 +166,7 @@ list_at (t ∷ times) (n ∷ numbers) [] i d en em h = absurd (omega arith)
 list_at (t ∷ times) (n ∷ numbers) (m ∷ marks) zero d en em h = refl
 list_at (t ∷ times) (n ∷ numbers) (m ∷ marks) (suc i) d en em h = list_at times numbers marks i d (omega arith) (omega arith) (omega arith)
 
--- what a fault says that is None
+-- what a fault says that is none
 no_fault : (t : Bool) → cond t None (Some Limits) ≡ None → t ≡ true
 no_fault true e = refl
 no_fault false e = let z : ◌≡◌ {A = ℕ} 0 1 = cc in absurd (omega arith)

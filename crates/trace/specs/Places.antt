@@ -1,4 +1,4 @@
--- Document 01, "Trace file": what a block is at its place. (Result Block Refusal) 0 holds the label, the others arrivals of the label's form and SSRC.
+-- Document 01, "Trace file": what a block is at its place. Block 0 holds the label, the others arrivals of the label's form and SSRC.
 use Rattle.answers.specs.declared.Refusal.{Refusal}
 use Rattle.std.specs.Prelude.{ℕ, cond, ◌&&◌, List, ◌==◌, Result, Ok, Err}
 use Rattle.answers.specs.declared.Refusal.TheVariants.{Contents}

@@ -1,5 +1,5 @@
 -- Block 0 of a trace, written again: in a given form (request L10), or in its own form with its label spaced (L14). The label is one that the trace has
--- already, so None is refused with 19. Refusals: 1, 13, 14, then 12.
+-- already, so none is refused with 19. Refusals: 1, 13, 14, then 12.
 use Rattle.answers.specs.declared.Unwritten.{Unwritten}
 use Rattle.std.specs.Prelude.{◌≡◌, ℕ, List, [], take, Option, Some, None, Result, Ok, Err}
 use Rattle.answers.specs.Writers.{written, stored}

@@ -67,7 +67,7 @@ module _ {A S : Type 0} {c : Singles A} {p : Program S} (m : Mirrors c p) where
       abbrev here : Held A
       here = record { state = Some a; block = block; refusal = None }
 
-      -- by what the block brings, with what the first block and then None gives
+      -- by what the block brings, with what the first block and then none gives
       abbrev took_one : Turn S → Took S
       took_one t = one_more t t.refusal (none_taken t.state)
 

@@ -15,7 +15,7 @@ pub record Gave (H : Type 0) : Type 0 where
   pub taken : ℕ
   pub printed : Printed
 
--- the calls, where the outputs of the first and the last have room; `blocks` is lent an output of Some length; `going` says of a state that no block was refused
+-- the calls, where the outputs of the first and the last have room; `blocks` is lent an output of some length; `going` says of a state that no block was refused
 pub record Machine (H : Type 0) : Type 0 where
   pub begin : List ℕ → Gave H
   pub blocks : H → List ℕ → ℕ → Gave H

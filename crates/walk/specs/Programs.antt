@@ -18,7 +18,7 @@ to_output bytes = record { out = bytes; err = [] }
 abbrev pub both : Printed → Printed → Printed
 both p q = record { out = p.out ++ q.out; err = p.err ++ q.err }
 
--- what a block does: the next state, what is printed, and the refusal that ends the run, or None to go on
+-- what a block does: the next state, what is printed, and the refusal that ends the run, or none to go on
 pub record Turn (S : Type 0) : Type 0 where
   pub state : S
   pub printed : Printed
