@@ -24,7 +24,8 @@ call_in found kept = call_for (compound_of found) (kept_in kept)
 -- a refused call leaves what is kept as it was
 abbrev pub kept_by : Result ℕ Unwritten → List ℕ → List ℕ → List ℕ
 kept_by (Ok n) next old = next
-kept_by (Err why) next old = old
+kept_by (Err (Unwritten.Room n)) next old = old
+kept_by (Err (Unwritten.Refused refusal)) next old = old
 
 -- 9, 12; or 0, the 6 words of the call, and the 4 words of what is kept then
 pub record CallsFor (found kept old : List ℕ) (r : ℕ) (left out : List ℕ) : Type 0 where

@@ -40,7 +40,7 @@ fn record_in(words: &[u64]) -> Option<Breaker>
     if words.len() != breaker_words::WORDS {
         return None;
     }
-    breaker_words::load(words)
+    breaker_words::load(words).ok()
 }
 
 // Stores the next record in the place of the last, unless the call is refused, and gives the answer's number.

@@ -36,8 +36,10 @@ pub fn move_block(lent: &mut [u8])
     requires { lent_bytes ≤ length lent.old }
     ensures { lent.new ≡ sets lent.old 0 (part_in lent.old) }
 {
-    let (label, next) = lent.split_at_mut(BLOCK);
-    label.copy_from_slice(&next[..BLOCK]);
+    // A loop, as in put_bytes: by split_at_mut and copy_from_slice the C library is asked for memmove.
+    for i in 0..BLOCK {
+        lent[i] = lent[BLOCK + i];
+    }
 }
 
 // Stores what is kept of the next block, and zeros after it.

@@ -1,5 +1,5 @@
 -- The breaker's record (document 01, "The breaker", and 02, requests L4 and L9) as 77 words, in the order of include/flasknib.h.
-use Rattle.std.specs.Prelude.{◌≡◌, Bool, true, cond, List, [], ◌∷◌, ℕ, zero, suc, ◌%◌, ◌^◌, leb, ltb, eqb, length, drop, get_or, ◌&&◌, Option, Some, None}
+use Rattle.std.specs.Prelude.{◌≡◌, Bool, true, cond, List, [], ◌∷◌, ℕ, zero, suc, ◌%◌, ◌^◌, leb, ltb, eqb, length, drop, get_or, Result, Ok, Err}
 use Rattle.answers.specs.Conditions.{all}
 use Rattle.breaker.specs.declared.Reason.TheVariants.{Timeout, Media, Congestion}
 use Rattle.breaker.specs.declared.State.{State}
@@ -87,9 +87,9 @@ words_fit ws =
     ∷ leb (get_or ws 11 0) 1
     ∷ []
 
--- the record that words are read as, where they fit a record's
-abbrev pub loaded : List ℕ → Option Breaker
-loaded ws = cond (all (words_fit ws)) (Some (breaker_of ws)) None
+-- the record that words are read as, and whether they fit a record's
+abbrev pub loaded : List ℕ → Result Breaker Breaker
+loaded ws = cond (all (words_fit ws)) (Ok (breaker_of ws)) (Err (breaker_of ws))
 
 -- ---- both ways are inverse
 

@@ -161,12 +161,13 @@ fn do_fit(words: &[u64]) -> bool
         && word_at(words, 11) <= 1
 }
 
-// The record that the words are read as, where they fit a record's. How many there are is not asked: a word past the end reads as 0.
-pub fn load(words: &[u64]) -> Option<Breaker>
+// The record that the words are read as: Ok where they fit a record's, else Err. How many there are is not asked: a word past the end reads as 0.
+pub fn load(words: &[u64]) -> Result<Breaker, Breaker>
     ensures { result ≡ loaded words.now }
 {
+    let breaker = breaker_in(words);
     if !do_fit(words) {
-        return None;
+        return Err(breaker);
     }
-    Some(breaker_in(words))
+    Ok(breaker)
 }

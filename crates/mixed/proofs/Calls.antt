@@ -1,6 +1,7 @@
 -- What a block does to a run and its lines, case by case. Assumes nothing.
 use Rattle.std.specs.Prelude.{None, Result, Ok, Err}
 use Rattle.answers.specs.declared.Unwritten.{Unwritten}
+use denote.Enum.Declared.{tag_of}
 use mathlib.Core.Path.{◌≡◌, refl, sym, ap, ◌∙◌}
 use mathlib.Core.Bool.{true, false, and-true}
 use mathlib.Core.List.{List, []}
@@ -19,9 +20,10 @@ use Rattle.source.specs.Totals.{fresh_totals}
 use Rattle.format.specs.Forms.{same_form}
 use Rattle.format.specs.declared.Form.{Form}
 use Rattle.format.proofs.Same.{same_form_lem}
-use Rattle.trace.specs.Reading.{block_of}
+use Rattle.trace.specs.Reading.{block_of, fault_of}
 use Rattle.trace.specs.declared.Block.{Block}
 use Rattle.trace.specs.declared.Block.TheVariants as read
+use Rattle.trace.specs.contracts.Block.{the_type}
 use Rattle.walk.specs.Blocks.{joined}
 use Rattle.walk.specs.Steps.{Next, goes, refuses}
 use Rattle.walk.proofs.Putting.{step_refuses}
@@ -55,6 +57,11 @@ module _ (b : List ℕ) where
   pub start_by_lem : {r : Result Block Refusal} → block_of b ≡ r → start_of b ≡ start_by r
   unfolding start_of
   start_by_lem e = ap start_by e
+
+-- another kind than a label's
+pub start_other : (x : Block) → tag_of the_type x ≡ 1 → start_by (Ok x) ≡ Err (fault_of (Ok x))
+start_other (read.Label form n ssrc) h = absurd (omega arith)
+start_other (read.Arrivals form n ssrc) h = refl
 
 -- ---- a later block
 

@@ -11,7 +11,7 @@ use answers::{Refusal, Unwritten};
 use format::Form;
 use source::Totals;
 use trace::Block;
-use trace::read::read_block;
+use trace::read::{fault_of, read_block};
 
 mod counting;
 mod finding;
@@ -51,14 +51,13 @@ impl Run {
     pub fn start(zeroth: &[u8]) -> Result<Run, Refusal>
         ensures { result ≡ start_of zeroth.now }
     {
-        let read = read_block(zeroth)?;
-        match read {
-            Block::Label { form, length, .. } => Ok(Run {
+        match read_block(zeroth) {
+            Ok(Block::Label { form, length, .. }) => Ok(Run {
                 form,
                 length,
                 held: 0,
             }),
-            Block::Arrivals { .. } => Err(Refusal::Contents),
+            other => Err(fault_of(other)),
         }
     }
 

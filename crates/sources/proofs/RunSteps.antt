@@ -1,6 +1,7 @@
 -- What a block does to a run, case by case, and what the calls give. Assumes nothing.
 use Rattle.std.specs.Prelude.{Option, Some, None, Result, Ok, Err}
 use Rattle.answers.specs.declared.Unwritten.{Unwritten}
+use denote.Enum.Declared.{tag_of}
 use mathlib.Core.Path.{◌≡◌, refl, sym, ap, ◌∙◌}
 use mathlib.Core.Bool.{Bool, true, false, cond}
 use mathlib.Core.List.{List, [], ◌++◌}
@@ -19,11 +20,12 @@ use Rattle.format.specs.Forms.{shape_of, width, same_form}
 use Rattle.format.specs.declared.Form.{Form}
 use Rattle.format.proofs.Same.{same_form_lem}
 use Rattle.std.proofs.lemmas.Option.{none-some}
-use Rattle.trace.specs.Reading.{block_of}
+use Rattle.trace.specs.Reading.{block_of, fault_of}
 use Rattle.trace.specs.Places.{zeroth_by, zeroth_of}
 use Rattle.trace.specs.declared.Zeroth.{Zeroth}
 use Rattle.trace.specs.declared.Block.{Block}
 use Rattle.trace.specs.declared.Block.TheVariants as read
+use Rattle.trace.specs.contracts.Block.{the_type}
 use Rattle.walk.specs.Steps.{Next, goes, refuses, fault_in, state_after}
 use Rattle.walk.proofs.Putting.{step_refuses, part, part_long, part_front}
 use Rattle.sources.specs.declared.Stand.{Stand}
@@ -81,6 +83,11 @@ module _ (run : Run) (b : List ℕ) where
   pub next_by_block : {r : Result Block Refusal} → block_of b ≡ r → next_of run b ≡ next_by run b r
   unfolding next_of
   next_by_block e = ap (next_by run b) e
+
+  -- another kind than that of arrivals
+  pub next_other : (x : Block) → tag_of the_type x ≡ 0 → next_by run b (Ok x) ≡ refuses (fault_of (Ok x))
+  next_other (read.Label form n ssrc) h = refl
+  next_other (read.Arrivals form n ssrc) h = absurd (omega arith)
 
   module _ {form : Form} {n ssrc : ℕ} (e : block_of b ≡ Ok (read.Arrivals form n ssrc)) where
     next_by_lem : (c : Bool) → same_form form run.form ≡ c → next_of run b ≡ cond c (counted_run run n ssrc b) (refuses Contents)

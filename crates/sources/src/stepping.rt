@@ -12,7 +12,7 @@ use answers::{Refusal, Unwritten};
 use format::block::BODY;
 use source::{BlockCount, Source, Totals};
 use trace::Block;
-use trace::read::read_block;
+use trace::read::{fault_of, read_block};
 
 // A refusal, with the run that was given.
 pub fn refused(run: Run, refusal: Refusal) -> Step
@@ -131,7 +131,6 @@ pub fn step(run: Run, block: &[u8]) -> Step
             }
             count_in(run, count, ssrc, block)
         }
-        Ok(Block::Label { .. }) => refused(run, Refusal::Contents),
-        Err(refusal) => refused(run, refusal),
+        other => refused(run, fault_of(other)),
     }
 }

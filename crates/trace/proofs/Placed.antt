@@ -1,29 +1,33 @@
 -- What a block is at its place in a trace, and what that says of the block. Assumes nothing.
 use Rattle.std.specs.Prelude.{Result, Ok, Err}
 use Rattle.answers.specs.declared.Refusal.{Refusal}
+use denote.Enum.Declared.{tag_of}
 use Rattle.std.proofs.Common.{◌≡◌, ℕ, Bool, true, false, cond, ◌&&◌, eqb, List, length, sym, refl, ap, ◌∙◌, ap₂, arith, eq-eqb, eqb-true}
 use Rattle.answers.specs.declared.Refusal.TheVariants.{Incomplete, Contents}
 use Rattle.answers.proofs.Conditions.{and_left, and_right}
 use Rattle.format.specs.Forms.{shape_of, same_form}
 use Rattle.format.specs.declared.Form.{Form}
 use Rattle.format.proofs.Same.{same_form_lem}
-use Rattle.trace.specs.Reading.{block_of}
+use Rattle.trace.specs.Reading.{block_of, fault_of}
 use Rattle.trace.specs.Places.{zeroth_by, zeroth_of, later_by, later_of}
 use Rattle.trace.specs.declared.Block.{Block}
 use Rattle.trace.specs.declared.Block.TheVariants.{Label, Arrivals}
 use Rattle.trace.specs.declared.Zeroth.{Zeroth}
+use Rattle.trace.specs.contracts.Block.{the_type}
 use Rattle.trace.proofs.Decisions.{not_whole}
 
 -- ---- block 0
+
+-- another kind than a label's
+pub zeroth_other : (x : Block) → tag_of the_type x ≡ 1 → zeroth_by (Ok x) ≡ Err (fault_of (Ok x))
+zeroth_other (Label form n ssrc) h = absurd (omega arith)
+zeroth_other (Arrivals form n ssrc) h = refl
 
 module _ (b : List ℕ) where
   -- by what it reads as
   pub zeroth_by_lem : {r : Result Block Refusal} → block_of b ≡ r → zeroth_of b ≡ zeroth_by r
   unfolding zeroth_of
   zeroth_by_lem e = ap zeroth_by e
-
-  pub zeroth_arrivals : {form : Form} {n ssrc : ℕ} → block_of b ≡ Ok (Arrivals form n ssrc) → zeroth_of b ≡ Err Contents
-  zeroth_arrivals e = zeroth_by_lem e
 
   -- a label at its place is a label
   pub zeroth_label : {form : Form} {n ssrc : ℕ} → zeroth_of b ≡ Ok (record { form = form; length = n; ssrc = ssrc }) → block_of b ≡ Ok (Label form n ssrc)
@@ -45,6 +49,11 @@ module _ (b : List ℕ) where
 
 -- ---- a later block, by the label's form and SSRC
 
+-- another kind than that of arrivals
+pub later_other : (form : Form) (ssrc : ℕ) (x : Block) → tag_of the_type x ≡ 0 → later_by form ssrc (Ok x) ≡ Err (fault_of (Ok x))
+later_other form ssrc (Label its n number) h = refl
+later_other form ssrc (Arrivals its n number) h = absurd (omega arith)
+
 -- a form is its own
 pub own_form : (form : Form) → same_form form form ≡ true
 own_form form = eq-eqb (shape_of form).label (shape_of form).label refl
@@ -54,9 +63,6 @@ module _ (form : Form) (ssrc : ℕ) (b : List ℕ) where
   pub later_by_lem : {r : Result Block Refusal} → block_of b ≡ r → later_of form ssrc b ≡ later_by form ssrc r
   unfolding later_of
   later_by_lem e = ap (later_by form ssrc) e
-
-  pub later_label : {its : Form} {n number : ℕ} → block_of b ≡ Ok (Label its n number) → later_of form ssrc b ≡ Err Contents
-  later_label e = later_by_lem e
 
   module _ {its : Form} {n number : ℕ} (e : block_of b ≡ Ok (Arrivals its n number)) where
     pub later_foreign : (same_form its form && eqb number ssrc) ≡ false → later_of form ssrc b ≡ Err Contents

@@ -4,7 +4,7 @@ ghost use Rattle.format.specs.Forms.{same_form};
 ghost use Rattle.trace.specs.Numbered.{zeroth_as, later_as};
 ghost use Rattle.trace.specs.Places.{zeroth_of, later_of};
 
-use crate::read::read_block;
+use crate::read::{fault_of, read_block};
 use crate::{Block, Zeroth};
 use answers::Refusal;
 use format::Form;
@@ -24,10 +24,9 @@ pub fn read_label(zeroth: &[u8]) -> Result<Zeroth, Refusal>
     ensures value { result ≡ zeroth_of zeroth.now }
     ensures numbered { zeroth_as result ≡ zeroth_as (zeroth_of zeroth.now) }
 {
-    let read = read_block(zeroth)?;
-    match read {
-        Block::Label { form, length, ssrc } => Ok(Zeroth { form, length, ssrc }),
-        Block::Arrivals { .. } => Err(Refusal::Contents),
+    match read_block(zeroth) {
+        Ok(Block::Label { form, length, ssrc }) => Ok(Zeroth { form, length, ssrc }),
+        other => Err(fault_of(other)),
     }
 }
 
@@ -37,18 +36,19 @@ pub fn read_own(form: Form, ssrc: u32, block: &[u8]) -> Result<usize, Refusal>
     ensures value { result ≡ later_of form ssrc block.now }
     ensures numbered { later_as result ≡ later_as (later_of form ssrc block.now) }
 {
-    let read = read_block(block)?;
-    match read {
-        Block::Arrivals {
-            form: its,
-            count,
-            ssrc: number,
-        } => {
+    match read_block(block) {
+        Ok(
+            Block::Arrivals {
+                form: its,
+                count,
+                ssrc: number,
+            },
+        ) => {
             if !is_own(form, ssrc, its, number) {
                 return Err(Refusal::Contents);
             }
             Ok(count)
         }
-        Block::Label { .. } => Err(Refusal::Contents),
+        other => Err(fault_of(other)),
     }
 }

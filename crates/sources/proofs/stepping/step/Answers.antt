@@ -3,10 +3,12 @@ use mathlib.Core.Path.{sym, ap, subst, ◌∙◌}
 use Rattle.answers.specs.declared.Refusal.{Refusal}
 use Rattle.answers.proofs.Conditions.{was_true, was_false}
 use Rattle.trace.specs.declared.Block.{Block}
-use Rattle.trace.specs.Reading.{block_of}
+use Rattle.trace.specs.Reading.{block_of, fault_of}
+use Rattle.walk.specs.Steps.{Next, refuses}
+use Rattle.sources.specs.declared.runs.Run.{Run}
 use Rattle.sources.specs.Runs.{next_of, TakesBlock}
-use Rattle.sources.proofs.RunSteps.{next_by_block, next_foreign, next_goes, of_trace, takes_refuses}
-use Rattle.sources.proofs.stepping.step.Goals.{Then-not-is_of_trace}
+use Rattle.sources.proofs.RunSteps.{next_by_block, next_other, next_foreign, next_goes, of_trace, takes_refuses}
+use Rattle.sources.proofs.stepping.step.Goals.{Then-not-is_of_trace, in_default-via-in-Ok+in-Label-1, in_default-via-in-Err-1}
 use Rattle.sources.proofs.stepping.step.Goals as goal
 
 pub returns-then-not-is_of_trace : goal.returns-then-not-is_of_trace
@@ -30,15 +32,18 @@ returns-else-not-is_of_trace c =
     (sym (next_goes a.run b (sym c.read_block.ensures.value ∙ c.in-Ok-Arrivals.is ∙ ap Ok c.in-Ok-Arrivals.field-0-is) (was_true c.is_of_trace.ensures c.if-not-is_of_trace.false)))
     c.count_in.ensures
 
-pub returns-in-Ok-Label : goal.returns-in-Ok-Label
-returns-in-Ok-Label c =
-    let a = c.args in
-    let b = a.block.now in
-    subst (TakesBlock a.run (next_of a.run b)) (sym c.refused-in-Ok-Label.ensures)
-    (takes_refuses a.run (next_by_block a.run b (sym c.read_block.ensures.value ∙ c.in-Ok-Label.is ∙ ap Ok c.in-Ok-Label.field-0-is)))
+abbrev refused : Result Block Refusal → Next Run
+refused r = refuses (fault_of r)
 
-pub returns-in-Err : goal.returns-in-Err
-returns-in-Err c =
+pub returns-in_default : goal.returns-in_default
+returns-in_default c =
     let a = c.args in
     let b = a.block.now in
-    subst (TakesBlock a.run (next_of a.run b)) (sym c.refused-in-Err.ensures) (takes_refuses a.run (next_by_block a.run b (sym c.read_block.ensures.value ∙ c.in-Err.is)))
+    let read = c.read_block in
+    let next : next_of a.run b ≡ refuses (fault_of c.in_default-1.other) = elim c.in_default-1.branch [
+      | in_default-via-in-Ok+in-Label-1 w ↦
+          next_by_block a.run b (sym read.ensures.value ∙ w.t7-1.given.1) ∙ next_other a.run b w.t7-1.given.0.0 w.in-Label-1.keys2 ∙ sym (ap refused w.other-is)
+      | in_default-via-in-Err-1 w ↦
+          next_by_block a.run b (sym read.ensures.value ∙ w.enum_told_at-1.given.1) ∙ sym (ap refused (w.other-is ∙ w.enum_told_at-1.given.1))
+    ] in
+    subst (TakesBlock a.run (next_of a.run b)) (sym c.refused-in_default.ensures) (takes_refuses a.run (next ∙ ap refuses (sym c.fault_of.ensures)))
